@@ -1,0 +1,4 @@
+pub mod LineLaws
+pub mod LineRows
+pub mod TextLaws
+pub mod PartsLaws
