@@ -1,0 +1,2 @@
+mod PrintRows
+pub mod PageSpans

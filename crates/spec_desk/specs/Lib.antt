@@ -1,0 +1,3 @@
+pub mod Paragraphs
+pub mod Sheets
+pub mod Printing

@@ -1,0 +1,9 @@
+pub mod LabelRows
+pub mod LabelOrder
+pub mod LabelsBetween
+pub mod LabelTexts
+pub mod LabelReadings
+pub mod SceneRows
+pub mod SceneSpots
+pub mod SceneLabels
+pub mod SceneRecordLaws

@@ -1,0 +1,11 @@
+pub mod ClusterLaws
+pub mod CutLemmas
+pub mod GreatestLemmas
+pub mod PageLaws
+pub mod PageRows
+pub mod PrintableLaws
+pub mod RowParts
+pub mod TrimLemmas
+pub mod WrapLaws
+pub mod WrapLemmas
+pub mod WrapRows

@@ -1,0 +1,5 @@
+pub mod Clusters
+pub mod Greatest
+pub mod Wrapping
+pub mod Pages
+pub mod Rows
