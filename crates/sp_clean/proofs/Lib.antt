@@ -1,0 +1,4 @@
+pub mod YardWalk
+pub mod NoteWalk
+pub mod Copies
+pub mod FormLaws

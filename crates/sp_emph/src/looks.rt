@@ -1,0 +1,137 @@
+// What is seen of each byte of a line: its style, or nothing where it is removed.
+ghost use Rattle.std.specs.Prelude.{◌≡◌, ◌<◌, ◌≤◌, ℕ, ◌+◌, ◌^◌, length, Some, replicate, IfOk, OnOk};
+ghost use Rattle.std.specs.List.{range_with_len};
+ghost use Rattle.spec_script.specs.Emphasis.{is_escape, looks_of, pairs_of};
+ghost use Rattle.sp_emph.specs.Layering.{AreWithin, Changes, styled_between, hidden_between, styled_inside, hidden_spent, hidden_escape, add_layer, add_emphasis};
+ghost use Rattle.sp_emph.specs.Markup.{markup_of};
+
+use crate::marks::{is_escape, markup_of, size_of, style_of};
+use crate::pairs::pairs_of;
+use spec_script::{Layer, Pair};
+use std::alloc::{AllocError, Global};
+
+/// Adds a layer's style to what is seen between two places.
+fn add_style(looks: &mut [Option<u8>], layer: Layer, from: usize, to: usize)
+    requires order { from ≤ to }
+    requires within { to ≤ length looks.old }
+    ensures { Changes (styled_between layer from to) looks.old looks.new }
+{
+    for place in from..to {
+        looks[place] = looks[place].map(|style| style | style_of(layer));
+    }
+}
+
+/// Hides what stands between two places.
+fn hide(looks: &mut [Option<u8>], from: usize, to: usize)
+    requires order { from ≤ to }
+    requires within { to ≤ length looks.old }
+    ensures { Changes (hidden_between from to) looks.old looks.new }
+{
+    for place in from..to {
+        looks[place] = None;
+    }
+}
+
+/// Adds a layer's style to what is seen inside its pairs. Pairs may overlap, and each place is written once.
+fn add_styles(looks: &mut [Option<u8>], layer: Layer, pairs: &[Pair])
+    requires { AreWithin layer pairs.now (length looks.old) }
+    ensures { Changes (styled_inside layer pairs.now) looks.old looks.new }
+{
+    let size = size_of(layer);
+    let mut done = 0;
+    for pair in pairs {
+        let from = done.max(pair.first as usize + size);
+        let to = pair.second as usize;
+        if to <= from {
+            continue;
+        }
+        add_style(looks, layer, from, to);
+        done = to;
+    }
+}
+
+/// Hides the used markers of a layer.
+fn hide_markers(looks: &mut [Option<u8>], layer: Layer, pairs: &[Pair])
+    requires { AreWithin layer pairs.now (length looks.old) }
+    ensures { Changes (hidden_spent layer pairs.now) looks.old looks.new }
+{
+    let size = size_of(layer);
+    for pair in pairs {
+        hide(looks, pair.first as usize, pair.first as usize + size);
+        hide(looks, pair.second as usize, pair.second as usize + size);
+    }
+}
+
+/// Adds a layer to what is seen of a line: its style inside its pairs, and nothing on their markers.
+fn add_layer(
+    alloc: Global,
+    looks: &mut [Option<u8>],
+    layer: Layer,
+    line: &[u8],
+    markup: &[u32],
+) -> Result<(), AllocError>
+    requires short { length line.now ≤ 4096 }
+    requires looks { length looks.old ≡ length line.now }
+    requires markup { markup.now ≡ markup_of line.now }
+    ensures { OnOk result (Changes (add_layer layer (pairs_of layer line.now)) looks.old looks.new) }
+{
+    let pairs = pairs_of(alloc, layer, line, markup)?;
+    add_styles(looks, layer, &pairs);
+    hide_markers(looks, layer, &pairs);
+    Ok(())
+}
+
+/// Hides each `\` that is removed from a line.
+fn hide_escapes(looks: &mut [Option<u8>], line: &[u8], markup: &[u32])
+    requires looks { length looks.old ≡ length line.now }
+    requires markup { markup.now ≡ markup_of line.now }
+    ensures { Changes (hidden_escape line.now) looks.old looks.new }
+{
+    for place in markup {
+        let place = *place as usize;
+        if !is_escape(line, place) {
+            continue;
+        }
+        looks[place] = None;
+    }
+}
+
+/// Makes of the looks of plain bytes those of a line: each removed `\` is hidden, and all layers are added.
+fn add_emphasis(
+    alloc: Global,
+    looks: &mut [Option<u8>],
+    line: &[u8],
+    markup: &[u32],
+) -> Result<(), AllocError>
+    requires short { length line.now ≤ 4096 }
+    requires looks { length looks.old ≡ length line.now }
+    requires markup { markup.now ≡ markup_of line.now }
+    ensures { OnOk result (Changes (add_emphasis line.now) looks.old looks.new) }
+{
+    hide_escapes(looks, line, markup);
+    add_layer(alloc, looks, Layer::Italic, line, markup)?;
+    add_layer(alloc, looks, Layer::Bold, line, markup)?;
+    add_layer(alloc, looks, Layer::BoldItalic, line, markup)?;
+    add_layer(alloc, looks, Layer::Underline, line, markup)?;
+    Ok(())
+}
+
+/// What is seen of so many bytes that nothing is done to.
+fn plain_looks(alloc: Global, count: usize) -> Result<Vec<Option<u8>>, AllocError>
+    ensures { IfOk result (λ v. v.items ≡ replicate count (Some 0)) }
+{
+    let mut looks = Vec::new(alloc);
+    looks.resize(count, Some(0))?;
+    Ok(looks)
+}
+
+/// What is seen of each byte of a line.
+pub fn looks_of(alloc: Global, line: &[u8]) -> Result<Vec<Option<u8>>, AllocError>
+    requires { length line.now ≤ 4096 }
+    ensures { IfOk result (λ v. v.items ≡ looks_of line.now) }
+{
+    let markup = markup_of(alloc, line)?;
+    let mut looks = plain_looks(alloc, line.len())?;
+    add_emphasis(alloc, &mut looks, line, &markup)?;
+    Ok(looks)
+}

@@ -1,0 +1,16 @@
+//! The outside of the program: where bytes come from and go to, how failures and steps are counted, and objects in
+//! memory that stand for the real ones.
+#![tactic(auto)]
+
+mod memory_sink;
+mod memory_source;
+mod outside;
+mod steps;
+
+pub use memory_sink::MemorySink;
+pub use memory_source::MemorySource;
+pub use outside::{Failed, Sink, Source, write_whole};
+pub use steps::{Counter, Steps};
+
+#[cfg(test)]
+mod tests;

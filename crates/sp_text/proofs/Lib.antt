@@ -1,0 +1,4 @@
+pub mod Cuts
+pub mod LinesAt
+pub mod Readings
+pub mod Texts

@@ -1,0 +1,2 @@
+pub mod KeptWalk
+pub mod WordWalk
