@@ -1,0 +1,17 @@
+//! Labels: how they are written and read, their order, and the labels between two others.
+#![tactic(auto)]
+
+mod fault;
+mod insertion;
+mod label;
+mod reading;
+mod writing;
+
+pub use fault::LockFault;
+pub use insertion::between;
+pub use label::{Label, compare};
+pub use reading::parse;
+pub use writing::write;
+
+#[cfg(test)]
+mod tests;

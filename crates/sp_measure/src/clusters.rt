@@ -1,0 +1,117 @@
+// Clusters of a line: where they stand, and how wide they are.
+ghost use Rattle.std.specs.Prelude.{◌≡◌, ◌+◌, ◌*◌, ◌^◌, ◌<◌, ◌≤◌, ◌++◌, true, length, sum_by, IfOk, OnOk};
+ghost use Rattle.std.specs.List.{list_all};
+ghost use Rattle.unicode_segmentation.specs.Grapheme.{graphemes};
+ghost use Rattle.spec_script.specs.Runs.{RunParts};
+ghost use Rattle.spec_pages.specs.Clusters.{is_printable, is_space, width_of, columns_of, clusters_at, byte_clusters, clusters_of};
+ghost use Rattle.spec_pages.specs.Wrapping.{total_width};
+
+use spec_pages::Cluster;
+use spec_script::Run;
+use std::alloc::{AllocError, Global};
+use unicode_segmentation::UnicodeSegmentation;
+use unicode_width::UnicodeWidthStr;
+
+/// Whether a cluster is one space or one tab alone.
+fn is_space(piece: &str) -> bool
+    ensures { result ≡ is_space piece.now }
+{
+    piece == " " || piece == "\t"
+}
+
+/// The columns of a cluster.
+fn width_of(piece: &str) -> u16
+    requires { length piece.now ≤ 4096 }
+    ensures value { result ≡ width_of piece.now }
+    ensures bound { result ≤ 4 * length piece.now }
+{
+    if piece == "\t" {
+        4
+    } else {
+        piece.width() as u16
+    }
+}
+
+/// Whether a text is printable ASCII alone, of which each byte is a cluster of one column.
+fn is_printable(text: &str) -> bool
+    ensures { result ≡ list_all is_printable text.now }
+{
+    text.as_bytes()
+        .iter()
+        .all(|byte| (0x20..=0x7E).contains(byte))
+}
+
+/// The columns that a text of at most 4,096 bytes takes: the sum of the widths of its clusters, the text as one run
+/// (docs/RULES.md, "Columns").
+pub fn columns(text: &str) -> u64
+    requires { length text.now ≤ 4096 }
+    ensures { result ≡ columns_of text.now }
+{
+    if is_printable(text) {
+        return text.len() as u64;
+    }
+    let mut total = 0;
+    for piece in text.graphemes(true) {
+        total += width_of(piece) as u64;
+    }
+    total
+}
+
+/// Adds a cluster for each of these printable bytes, the first of which stands at the place `from` of its line.
+fn add_bytes(out: &mut Vec<Cluster>, bytes: &[u8], style: u8, from: u16) -> Result<(), AllocError>
+    requires { from + length bytes.now ≤ 4096 }
+    ensures items { OnOk result (out.new.items ≡ out.old.items ++ byte_clusters style from bytes.now) }
+    ensures wide { OnOk result (total_width out.new.items ≡ total_width out.old.items + length bytes.now) }
+{
+    let mut at = from;
+    for byte in bytes {
+        out.push(Cluster {
+            from: at,
+            to: at + 1,
+            width: 1,
+            style,
+            space: *byte == b' ',
+        })?;
+        at += 1;
+    }
+    Ok(())
+}
+
+/// Adds the clusters of a run's text, which begins at the place `from` of its line.
+fn add_clusters(out: &mut Vec<Cluster>, text: &str, style: u8, from: u16) -> Result<(), AllocError>
+    requires { from + length text.now ≤ 4096 }
+    ensures items { OnOk result (out.new.items ≡ out.old.items ++ clusters_at style from (graphemes true text.now)) }
+    ensures wide { OnOk result (total_width out.new.items ≤ total_width out.old.items + 4 * length text.now) }
+{
+    if is_printable(text) {
+        return add_bytes(out, text.as_bytes(), style, from);
+    }
+    let mut at = from;
+    for piece in text.graphemes(true) {
+        let to = at + piece.len() as u16;
+        out.push(Cluster {
+            from: at,
+            to,
+            width: width_of(piece),
+            style,
+            space: is_space(piece),
+        })?;
+        at = to;
+    }
+    Ok(())
+}
+
+/// The clusters of a line, run after run.
+pub fn clusters_of(alloc: Global, text: &str, runs: &[Run]) -> Result<Vec<Cluster>, AllocError>
+    requires small { length text.now ≤ 4096 }
+    requires parts { RunParts text.now runs.now }
+    ensures items { IfOk result (λ v. v.items ≡ clusters_of text.now runs.now) }
+    ensures wide { IfOk result (λ v. total_width v.items < 2 ^ 32) }
+{
+    let mut out = Vec::with_capacity(alloc, text.len())?;
+    for run in runs {
+        let part = &text[run.from as usize..run.to as usize];
+        add_clusters(&mut out, part, run.style, run.from as u16)?;
+    }
+    Ok(out)
+}

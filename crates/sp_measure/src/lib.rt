@@ -1,0 +1,13 @@
+//! The columns of a text, and the rows that a line is wrapped into (docs/RULES.md, "Columns" and "Wrapping").
+#![tactic(auto)]
+
+mod clusters;
+mod cuts;
+mod rows;
+
+pub use clusters::columns;
+pub use rows::{WrapRow, wrap};
+pub use spec_script::Run;
+
+#[cfg(test)]
+mod tests;
