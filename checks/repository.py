@@ -1,0 +1,71 @@
+"""Checks of the repository that no proof makes: the one line of HANDLES, the sizes of files, the sections that comments
+cite, and the names of definitions and calls that the documents cite."""
+
+import pathlib
+import re
+import sys
+
+TOP = pathlib.Path(__file__).resolve().parent.parent
+CRATES = TOP / "crates"
+MOST_LINES = 800
+
+
+def sources(*endings):
+    for path in sorted(CRATES.rglob("*")):
+        if path.suffix in endings and "out" not in path.relative_to(CRATES).parts:
+            yield path
+
+
+def handles():
+    if (TOP / "HANDLES").read_text() != "Handles allowed: none.\n":
+        yield "HANDLES is not its one line"
+
+
+def sizes():
+    for path in sources(".rt"):
+        count = len(path.read_text().splitlines())
+        if count > MOST_LINES:
+            yield f"{path.relative_to(TOP)} has {count} lines"
+
+
+def sections():
+    headings = set(re.findall(r"^## (.+)$", (TOP / "docs/RULES.md").read_text(), re.M))
+    for path in sources(".rt", ".antt"):
+        text = re.sub(r"\n\s*(///|//!|//|--)\s*", " ", path.read_text())
+        for cited in re.findall(r"docs/RULES\.md, ((?:\"[^\"]+\"(?:, | and )?)+)", text):
+            for name in re.findall(r"\"([^\"]+)\"", cited):
+                if name not in headings:
+                    yield f"{path.relative_to(TOP)} cites the section \"{name}\", which docs/RULES.md lacks"
+
+
+def names():
+    written = " ".join(path.read_text() for path in sources(".rt", ".antt"))
+    known = set(re.findall(r"[A-Za-z_][A-Za-z0-9_'-]*", written)) | {path.name for path in CRATES.iterdir()}
+    for document in ("RULES.md", "MAP.md", "PROMISES.md"):
+        text = re.sub(r"```.*?```", "", (TOP / "docs" / document).read_text(), flags=re.S)
+        for cited in re.findall(r"`([a-z][a-z_]+[a-z](?:::[A-Za-z_]+)*)`", text):
+            if not all(part in known for part in cited.split("::")):
+                yield f"docs/{document} cites `{cited}`, which no source has"
+
+
+def edits():
+    for line in (TOP / "crates.txt").read_text().splitlines():
+        name = line.split(":")[0].strip()
+        if not name or name.startswith("#") or name.startswith("spec_") or name == "fountain_cli":
+            continue
+        count = len(list((CRATES / name / "must-fail").glob("*.edit")))
+        if count < 3:
+            yield f"{name} has {count} edits that must fail"
+
+
+def main():
+    checks = [handles, sizes, sections, names, edits]
+    faults = [fault for check in checks for fault in check()]
+    for fault in faults:
+        print(f"checks: {fault}")
+    print(f"checks: {len(checks)} checks, {len(faults)} faults")
+    return 1 if faults else 0
+
+
+if __name__ == "__main__":
+    sys.exit(main())

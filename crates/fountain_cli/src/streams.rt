@@ -1,0 +1,67 @@
+//! The standard streams as a source and as sinks. They tell no content, and count a fault at each error.
+ghost use Rattle.std.specs.Prelude.{◌≡◌};
+
+use sp_kit::{Failed, Sink, Source};
+use std::io::{Read, Write};
+
+/// A stream to read from.
+#[derive(Drop)]
+pub struct Input<R: Read + Drop> {
+    stream: R,
+    faults: u64,
+}
+
+impl<R: Read + Drop> Input<R> {
+    pub fn new(stream: R) -> Self {
+        Input { stream, faults: 0 }
+    }
+}
+
+impl<R: Read + Drop> Source for Input<R> {
+    ghost use Rattle.std.specs.declared.option.Option.TheVariants.{None};
+
+    ghost left = { λ _. None };
+
+    ghost faults = { λ s. s.faults };
+
+    fn read(&mut self, buf: &mut [u8]) -> Result<usize, Failed> {
+        match self.stream.read(buf) {
+            Ok(count) => Ok(count),
+            Err(_) => {
+                self.faults = self.faults.saturating_add(1);
+                Err(Failed)
+            }
+        }
+    }
+}
+
+/// A stream to write to. A write that takes nothing of a piece that isn't empty is a fault.
+#[derive(Drop)]
+pub struct Output<W: Write + Drop> {
+    stream: W,
+    faults: u64,
+}
+
+impl<W: Write + Drop> Output<W> {
+    pub fn new(stream: W) -> Self {
+        Output { stream, faults: 0 }
+    }
+}
+
+impl<W: Write + Drop> Sink for Output<W> {
+    ghost use Rattle.std.specs.declared.option.Option.TheVariants.{None};
+
+    ghost taken = { λ _. None };
+
+    ghost faults = { λ s. s.faults };
+
+    fn write(&mut self, piece: &[u8]) -> Result<usize, Failed> {
+        match self.stream.write(piece) {
+            Ok(count) if count > 0 || piece.is_empty() => Ok(count),
+            _ => {
+                self.faults = self.faults.saturating_add(1);
+                Err(Failed)
+            }
+        }
+    }
+}

@@ -1,0 +1,12 @@
+use Rattle.std.proofs.Common.{arith}
+use Rattle.sp_run.proofs.PartRuns.{run-lies}
+use Rattle.sp_run.proofs.sheets.add_runs.Goals as goal
+
+pub range-part-requires-clause-start_le_end : goal.range-part-requires-clause-start_le_end
+range-part-requires-clause-start_le_end c = (run-lies c.args.text.now 0 c.args.runs.now c.loop-run.run-index _ c.requires (omega arith)).order
+
+pub range-part-requires-clause-start_boundary : goal.range-part-requires-clause-start_boundary
+range-part-requires-clause-start_boundary c = λ _. (run-lies c.args.text.now 0 c.args.runs.now c.loop-run.run-index _ c.requires (omega arith)).start
+
+pub range-part-requires-clause-end_boundary : goal.range-part-requires-clause-end_boundary
+range-part-requires-clause-end_boundary c = (run-lies c.args.text.now 0 c.args.runs.now c.loop-run.run-index _ c.requires (omega arith)).end

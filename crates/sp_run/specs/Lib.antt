@@ -1,0 +1,4 @@
+pub mod Statuses
+pub mod Ending
+pub mod Reading
+pub mod Written
