@@ -7,7 +7,7 @@ use Rattle.std.proofs.KnownBytes.{Consumes-whole}
 use Rattle.std.proofs.lemmas.Bool.{lt-ltb}
 use Rattle.spec_text.specs.Limits.{raw_limit}
 use Rattle.spec_text.specs.Lines.{Reading, text_full, reading_of}
-use Rattle.spec_desk.specs.Printing.{Printing, too_long, no_utf8, long_line, not_yet, printed, printing_of, printing_of_reading}
+use Rattle.spec_desk.specs.Printing.{Printing, too_long, no_utf8, long_line, printed, printing_of, printing_of_reading}
 use Rattle.sp_kit.specs.Causes.{Rose}
 use Rattle.sp_text.specs.declared.fault.TextFault.TheVariants as faults
 use Rattle.sp_run.specs.declared.status.Status.{Status}
@@ -69,4 +69,3 @@ answers-ends old new (statuses.BadText faults.NoMemory) ends reads writes low be
 answers-ends old new statuses.ReadFault ends reads writes low below script is = absurd (not-risen old.read_faults new.read_faults ends.rose reads low)
 answers-ends old new statuses.WriteFault ends reads writes low below script is = absurd (not-risen old.write_faults new.write_faults ends.rose writes below)
 answers-ends old new statuses.NoMemory ends reads writes low below script is = tt
-answers-ends old new (statuses.NotYet place) ends reads writes low below script is = refused-told old new (not_yet place) script ends is

@@ -1,6 +1,6 @@
 pub mod LineTexts
 pub mod PartRuns
 pub mod ShownRows
-pub mod Showing
+pub mod Stops
 pub mod PagesLeft
 pub mod Answering

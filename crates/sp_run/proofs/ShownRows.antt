@@ -1,20 +1,14 @@
 -- The bytes of a row of one cell.
-use Rattle.std.proofs.Common.{◌≡◌, ◌≢◌, ℕ, zero-add, ◌+◌, ◌-◌, ◌<◌, ◌≤◌, ◌==◌, ◌||◌, Bool, true, false, not, cond, List, [], ◌∷◌, ◌++◌, length, map, drop, slice_get, Some, ap, sym, ◌∙◌, refl, arith, length-append}
-use Rattle.std.specs.Prelude.{nat_lt, sum_by, unwrap_or, option_map}
+use Rattle.std.proofs.Common.{◌≡◌, ◌≢◌, ℕ, zero-add, ◌+◌, ◌-◌, ◌<◌, ◌≤◌, ◌==◌, ◌||◌, Bool, true, false, not, cond, List, [], ◌∷◌, ◌++◌, length, map, drop, ap, sym, ◌∙◌, refl, arith, length-append}
+use Rattle.std.specs.Prelude.{nat_lt, sum_by}
 use Rattle.spec_pages.specs.Clusters.{columns_of}
 use Rattle.std.specs.List.{flat_map, list_any}
 use Rattle.std.proofs.lemmas.Bool.{ne_eqb, eq-eqb, ltb-true, ltb-false, eqb-true, lt-ltb}
 use Rattle.std.proofs.lemmas.List.{length-take, length-drop}
-use Rattle.std.proofs.lemmas.Option.{slice_get-map}
-use Rattle.spec_text.specs.Lines.{LineState, line_texts}
 use Rattle.spec_text.specs.Parts.{Parts, Lies}
 use Rattle.spec_script.specs.declared.Run.{Run}
 use Rattle.spec_script.specs.Runs.{span_of}
-use Rattle.spec_desk.specs.Sheets.{Written, slice_of, text_at, spaces, gap, untabbed, row_bytes}
-
--- The text of the line at a place.
-pub text_at-line : (all : List LineState) (i : ℕ) (line : LineState) → slice_get all i ≡ Some line → text_at (line_texts all) i ≡ line.text
-text_at-line all i line found = ap (λ o. unwrap_or o []) (slice_get-map (λ (l : LineState). l.text) all i ∙ ap (option_map (λ (l : LineState). l.text)) found)
+use Rattle.spec_desk.specs.Sheets.{Written, slice_of, spaces, gap, untabbed, row_bytes}
 
 -- Whether runs show anything.
 abbrev pub shows : List Run → Bool

@@ -6,7 +6,7 @@ use Rattle.std.specs.declared.alloc.Global.{Global}
 use Rattle.std.specs.Io.KnownBytes.{Appends, Consumes, Keeps, IsAtEnd}
 use Rattle.spec_text.specs.Limits.{raw_limit}
 use Rattle.spec_text.specs.Lines.{TextState, line_texts}
-use Rattle.spec_desk.specs.Printing.{Printing, too_long, no_utf8, long_line, not_yet, printed, printing_of, sheets_bytes}
+use Rattle.spec_desk.specs.Printing.{Printing, too_long, no_utf8, long_line, printed, printing_of, sheets_bytes}
 use Rattle.sp_kit.specs.Causes.{Rose}
 use Rattle.sp_kit.specs.Outside.{AppendsPrefix}
 use Rattle.sp_text.specs.declared.fault.TextFault.TheVariants as faults
@@ -99,14 +99,12 @@ Ends old new (statuses.BadText faults.NoMemory) = ⊥
 Ends old new statuses.ReadFault = ReadFailed old new
 Ends old new statuses.WriteFault = PartPrinted old new
 Ends old new statuses.NoMemory = OutOfMemory old new
-Ends old new (statuses.NotYet place) = Refused old new (not_yet place)
 
 -- The status refuses a script with this fate, or there is no memory.
 abbrev pub Refuses : Printing → Status → Type 0
 Refuses fate (statuses.BadText (faults.NotUtf8 place)) = fate ≡ no_utf8 place
 Refuses fate (statuses.BadText (faults.LineFull place)) = fate ≡ long_line place
 Refuses fate (statuses.BadText faults.TextFull) = fate ≡ too_long
-Refuses fate (statuses.NotYet place) = fate ≡ not_yet place
 Refuses fate statuses.NoMemory = Unit {0}
 Refuses fate _ = ⊥
 

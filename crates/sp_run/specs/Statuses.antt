@@ -13,7 +13,6 @@ code_of (statuses.BadText fault) = 4
 code_of statuses.ReadFault = 5
 code_of statuses.WriteFault = 6
 code_of statuses.NoMemory = 9
-code_of (statuses.NotYet place) = 12
 
 -- A line of the program's own, with its name before it.
 abbrev pub own_line : List ℕ → List ℕ
@@ -37,7 +36,6 @@ line_of (statuses.BadText fault) = text_fault_line fault
 line_of statuses.ReadFault = own_line (codes "reading failed")
 line_of statuses.WriteFault = own_line (codes "writing failed")
 line_of statuses.NoMemory = own_line (codes "no memory")
-line_of (statuses.NotYet place) = place_line (codes "line ") place (codes " is of a form not built yet")
 
 -- The status that a fault of a text comes to.
 abbrev pub status_of : TextFault → Status

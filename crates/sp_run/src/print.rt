@@ -5,22 +5,17 @@ ghost use Rattle.std.specs.Prelude.{◌+◌};
 ghost use Rattle.sp_run.specs.Ending.{IsReadable, EndsAs, ReadsUpTo, outside};
 
 use crate::pages::write_sheets;
-use crate::rows::first_unknown;
 use crate::script::read_script;
 use crate::status::Status;
 use sp_kit::{Sink, Source};
 use sp_text::Lines;
 use std::alloc::Global;
 
-/// The lines of a script that can be printed.
-fn readable_lines(alloc: Global, script: &[u8]) -> Result<Lines, Status>
+/// The lines of a script.
+fn read_lines(alloc: Global, script: &[u8]) -> Result<Lines, Status>
     ensures { IsReadable (printing_of script.now) result }
 {
-    let lines = Lines::read(alloc, script)?;
-    match first_unknown(&lines) {
-        Some(place) => Err(Status::NotYet(place)),
-        None => Ok(lines),
-    }
+    Ok(Lines::read(alloc, script)?)
 }
 
 /// Reads a script to its end and writes its sheets.
@@ -33,6 +28,6 @@ pub fn print_script<I: Source, O: Sink>(
     ensures budget { ReadsUpTo (I.left input.old) (I.left input.new) (raw_limit + 1) }
 {
     let script = read_script(alloc, input)?;
-    let lines = readable_lines(alloc, &script)?;
+    let lines = read_lines(alloc, &script)?;
     write_sheets(alloc, &lines, output)
 }

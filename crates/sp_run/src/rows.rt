@@ -1,20 +1,21 @@
-//! The rows of a script's paragraphs (docs/RULES.md, "Rows").
-ghost use Rattle.std.specs.Prelude.{◌≡◌, ◌+◌, ◌-◌, ◌*◌, ◌<◌, ◌≤◌, ◌++◌, ◌==◌, ◌&&◌, ◌||◌, [], ◌∷◌, true, length, drop, max, vec_len, ◌^◌, slice_range, All, IfOk, OnOk};
-ghost use Rattle.std.specs.List.{flat_map, list_all, suffix_len};
+//! The rows of a script's blocks (docs/RULES.md, "Rows").
+ghost use Rattle.std.specs.Prelude.{◌≡◌, ℕ, ◌+◌, ◌*◌, ◌^◌, ◌<◌, ◌≤◌, ◌++◌, length, map, vec_len, All, IfOk, OnOk};
+ghost use Rattle.std.specs.List.{flat_map};
+ghost use Rattle.spec_text.specs.Limits.{line_count_limit};
 ghost use Rattle.spec_text.specs.Lines.{line_texts};
-ghost use Rattle.spec_text.specs.Parts.{Lies};
-ghost use Rattle.spec_script.specs.LongestRuns.{run_len};
+ghost use Rattle.spec_script.specs.BlockValues.{BlockOf};
 ghost use Rattle.spec_script.specs.Runs.{RunParts};
-ghost use Rattle.spec_script.specs.Trim.{is_space};
 ghost use Rattle.spec_pages.specs.declared.RowKind.TheVariants.{Action};
 ghost use Rattle.spec_pages.specs.Rows.{shape_at, shaped_from};
-ghost use Rattle.spec_desk.specs.Paragraphs.{Placed, is_held, is_empty, is_action, first_unknown, action_runs, run_cells, line_cells, placed_from, one_paragraph, rows_of};
-ghost use Rattle.spec_desk.specs.Sheets.{CellsShow, RowShows, ShowsLine};
+ghost use Rattle.spec_desk.specs.Elements.{run_cells, line_cells, has_rows, is_page_break, block_rows, placed_at, rows_in, stop_at, stops_from, rows_of, stops_of, LineShows, BlockShows};
+ghost use Rattle.spec_desk.specs.Sheets.{RowShows};
 
+use sp_blocks::{Block, BlockLine, read_stanza};
+use sp_kit::Steps;
 use sp_measure::wrap;
 use sp_text::Lines;
 use spec_pages::{RowKind, Shape};
-use spec_script::Run;
+use spec_script::{Kind, Run};
 use std::alloc::{AllocError, Global};
 use std::marker::Model;
 
@@ -38,7 +39,7 @@ impl Model for Row {
     ghost view = { λ r. record { shape = r.shape; cells = record { column = 15; line = r.line; runs = r.runs.items } ∷ [] } };
 }
 
-/// A row of a paragraph that is being laid out.
+/// A row of a block that is being laid out.
 #[derive(Drop)]
 struct LineRow {
     line: u32,
@@ -54,96 +55,27 @@ impl Model for LineRow {
     ghost view = { λ r. record { column = 15; line = r.line; runs = r.runs.items } ∷ [] };
 }
 
-fn is_blanks(text: &str) -> bool
-    ensures { result ≡ list_all (λ b. b == 32) text.now }
-{
-    text.as_bytes().iter().all(|byte| *byte == b' ')
+/// The rows of a text, and the rows before which its page breaks stand.
+#[derive(Drop)]
+pub struct Layout {
+    pub rows: Vec<Row>,
+    pub stops: Vec<usize>,
 }
 
-fn is_held(text: &str) -> bool
-    ensures { result ≡ is_held text.now }
+/// Whether blocks of the kind have rows in the body.
+fn has_rows(kind: Kind) -> bool
+    ensures { result ≡ has_rows kind }
 {
-    text.len() >= 2 && is_blanks(text)
+    !matches!(
+        kind,
+        Kind::PageBreak | Kind::Section | Kind::Synopsis | Kind::Title
+    )
 }
 
-fn is_spaces(text: &str) -> bool
-    ensures { result ≡ list_all is_space text.now }
+fn is_page_break(kind: Kind) -> bool
+    ensures { result ≡ is_page_break kind }
 {
-    text.as_bytes()
-        .iter()
-        .all(|byte| *byte == b' ' || *byte == b'\t')
-}
-
-fn is_empty(text: &str) -> bool
-    ensures { result ≡ is_empty text.now }
-{
-    is_spaces(text) && !is_held(text)
-}
-
-fn is_action(text: &str) -> bool
-    ensures { result ≡ is_action text.now }
-{
-    !text.is_empty() && text.as_bytes()[0] == b'!'
-}
-
-fn is_known(text: &str) -> bool
-    ensures { result ≡ (is_empty text.now || is_action text.now) }
-{
-    is_empty(text) || is_action(text)
-}
-
-/// The place of the first line that is neither empty nor forced action.
-pub fn first_unknown(lines: &Lines) -> Option<u64>
-    ensures { result ≡ first_unknown (line_texts lines.now.lines) }
-{
-    for i in 0..lines.len() {
-        if !is_known(lines.line(i).text) {
-            return Some(i as u64);
-        }
-    }
-    None
-}
-
-/// The end of what a line of forced action shows: the place after its last byte that is no space, but not before `!`.
-fn action_end(text: &str) -> usize
-    requires action { is_action text.now ≡ true }
-    ensures value { result ≡ max 1 (length text.now - suffix_len is_space text.now) }
-    ensures lies { Lies text.now (1, result) }
-{
-    let bytes = text.as_bytes();
-    let mut end = bytes.len();
-    while end > 1 {
-        if bytes[end - 1] != b' ' && bytes[end - 1] != b'\t' {
-            return end;
-        }
-        end -= 1;
-    }
-    end
-}
-
-/// Whether two neighbours are of one paragraph.
-fn is_one_paragraph(first: &str, second: &str) -> bool
-    ensures { result ≡ (is_action first.now && is_action second.now) }
-{
-    is_action(first) && is_action(second)
-}
-
-/// The place after the last line of the longest run of neighbours that begins at `from`.
-fn paragraph_end(lines: &Lines, from: usize) -> usize
-    requires { from < length lines.now.lines }
-    ensures past { from < result }
-    ensures within { result ≤ length lines.now.lines }
-    ensures run { result ≡ from + run_len one_paragraph (drop from (placed_from 0 (line_texts lines.now.lines))) }
-{
-    let count = lines.len();
-    let mut last = from;
-    while last + 1 < count {
-        if !is_one_paragraph(lines.line(last).text, lines.line(last + 1).text) {
-            return last + 1;
-        }
-        last += 1;
-    }
-    last + 1
+    matches!(kind, Kind::PageBreak)
 }
 
 /// Adds the rows of these parts of a line.
@@ -157,8 +89,7 @@ fn add_runs(
     requires short { length text.now ≤ 4096 }
     requires parts { RunParts text.now runs.now }
     ensures items { OnOk result (rows.new.items ≡ rows.old.items ++ run_cells line text.now runs.now) }
-    ensures shows { OnOk result (All (ShowsLine line text.now) (run_cells line text.now runs.now)) }
-    ensures few { OnOk result (length (run_cells line text.now runs.now) ≤ 4096) }
+    ensures few { OnOk result (length rows.new.items ≤ length rows.old.items + 4096) }
 {
     let wrapped = wrap(alloc, text, runs, ACTION_WIDTH)?;
     for row in wrapped {
@@ -170,59 +101,56 @@ fn add_runs(
     Ok(())
 }
 
-/// Adds the rows of what a line shows.
-fn add_line(rows: &mut Vec<LineRow>, alloc: Global, text: &str, line: u32) -> Result<(), AllocError>
-    requires { length text.now ≤ 4096 }
-    ensures items { OnOk result (rows.new.items ≡ rows.old.items ++ run_cells line text.now (action_runs text.now)) }
-    ensures shows { OnOk result (All (ShowsLine line text.now) (run_cells line text.now (action_runs text.now))) }
-    ensures few { OnOk result (length (run_cells line text.now (action_runs text.now)) ≤ 4096) }
+/// Adds the rows of a line of a block. `first` is the place of its stanza's first line, here and below.
+fn add_line(
+    rows: &mut Vec<LineRow>,
+    alloc: Global,
+    lines: &Lines,
+    first: usize,
+    line: &BlockLine,
+) -> Result<(), AllocError>
+    requires low { length lines.now.lines ≤ line_count_limit }
+    requires shows { LineShows (line_texts lines.now.lines) first line.now }
+    ensures items { OnOk result (rows.new.items ≡ rows.old.items ++ line_cells (line_texts lines.now.lines) first line.now) }
+    ensures few { OnOk result (length rows.new.items ≤ length rows.old.items + 4096) }
 {
-    if !is_action(text) {
-        return add_runs(rows, alloc, text, &[], line);
-    }
-    let to = action_end(text) as u32;
+    let place = first + line.offset as usize;
     add_runs(
         rows,
         alloc,
-        text,
-        &[Run {
-            from: 1,
-            to,
-            style: 0,
-        }],
-        line,
+        lines.line(place).text,
+        &line.runs,
+        place as u32,
     )
 }
 
-/// Adds the rows of the lines from `from` to before `to`.
+/// Adds the rows of a block's lines.
 fn add_lines(
     rows: &mut Vec<LineRow>,
     alloc: Global,
     lines: &Lines,
-    from: usize,
-    to: usize,
+    first: usize,
+    block_lines: &[BlockLine],
 ) -> Result<(), AllocError>
-    requires order { from ≤ to }
-    requires within { to ≤ length lines.now.lines }
-    requires few { length lines.now.lines ≤ 200000 }
-    ensures items { OnOk result (rows.new.items ≡ rows.old.items ++ flat_map line_cells (slice_range (placed_from 0 (line_texts lines.now.lines)) from to)) }
-    ensures shows { All (CellsShow (line_texts lines.now.lines)) rows.old.items → OnOk result (All (CellsShow (line_texts lines.now.lines)) rows.new.items) }
-    ensures few { OnOk result (length rows.new.items ≤ length rows.old.items + 4096 * (to - from)) }
+    requires low { length lines.now.lines ≤ line_count_limit }
+    requires show { All (LineShows (line_texts lines.now.lines) first) block_lines.now }
+    ensures items { OnOk result (rows.new.items ≡ rows.old.items ++ flat_map (line_cells (line_texts lines.now.lines) first) block_lines.now) }
+    ensures few { OnOk result (length rows.new.items ≤ length rows.old.items + 4096 * length block_lines.now) }
 {
-    for place in from..to {
-        add_line(rows, alloc, lines.line(place).text, place as u32)?;
+    for line in block_lines {
+        add_line(rows, alloc, lines, first, line)?;
     }
     Ok(())
 }
 
-/// Adds the rows of a paragraph, each with its lead and with how many rows of it stand before and after.
-fn add_rows(rows: &mut Vec<Row>, paragraph: Vec<LineRow>) -> Result<(), AllocError>
-    requires { vec_len paragraph < 2 ^ 32 }
-    ensures items { OnOk result (rows.new.items ≡ rows.old.items ++ shaped_from Action 1 0 paragraph.items) }
+/// Adds the rows of a block, each with its lead and with how many rows of it stand before and after.
+fn add_rows(rows: &mut Vec<Row>, cells: Vec<LineRow>) -> Result<(), AllocError>
+    requires { vec_len cells < 2 ^ 32 }
+    ensures items { OnOk result (rows.new.items ≡ rows.old.items ++ shaped_from Action 1 0 cells.items) }
 {
-    let mut rest = paragraph.len() as u32;
+    let mut rest = cells.len() as u32;
     let mut index = 0;
-    for row in paragraph {
+    for row in cells {
         rest -= 1;
         rows.push(Row {
             shape: action_shape(index, rest),
@@ -247,39 +175,78 @@ fn action_shape(index: u32, rest: u32) -> Shape
     }
 }
 
-/// Adds the rows of the paragraph from line `from` to before line `to`.
-fn add_paragraph(
+/// Adds the rows of a block.
+fn add_block(
     rows: &mut Vec<Row>,
     alloc: Global,
     lines: &Lines,
-    from: usize,
-    to: usize,
+    first: usize,
+    block: &Block,
 ) -> Result<(), AllocError>
-    requires order { from ≤ to }
-    requires within { to ≤ length lines.now.lines }
-    requires few { length lines.now.lines ≤ 200000 }
-    ensures items { OnOk result (rows.new.items ≡ rows.old.items ++ shaped_from Action 1 0 (flat_map line_cells (slice_range (placed_from 0 (line_texts lines.now.lines)) from to))) }
-    ensures shows { All (RowShows (line_texts lines.now.lines)) rows.old.items → OnOk result (All (RowShows (line_texts lines.now.lines)) rows.new.items) }
+    requires low { length lines.now.lines ≤ line_count_limit }
+    requires shows { BlockShows (line_texts lines.now.lines) (placed_at first block.now) }
+    ensures { OnOk result (rows.new.items ≡ rows.old.items ++ block_rows (line_texts lines.now.lines) (placed_at first block.now)) }
 {
-    let mut paragraph = Vec::new(alloc);
-    add_lines(&mut paragraph, alloc, lines, from, to)?;
-    add_rows(rows, paragraph)
+    if !has_rows(block.kind) {
+        return Ok(());
+    }
+    let mut cells = Vec::new(alloc);
+    add_lines(&mut cells, alloc, lines, first, &block.lines)?;
+    add_rows(rows, cells)
 }
 
-/// The rows of lines that are empty or forced action.
-pub fn rows_of(alloc: Global, lines: &Lines) -> Result<Vec<Row>, AllocError>
-    ensures rows { IfOk result (λ rows. rows.items ≡ rows_of (line_texts lines.now.lines)) }
-    ensures shows { IfOk result (λ rows. All (RowShows (line_texts lines.now.lines)) rows.items) }
+/// Adds the row before which the block is a stop, where `count` rows stand before it.
+fn add_stop(
+    stops: &mut Vec<usize>,
+    count: usize,
+    first: usize,
+    block: &Block,
+) -> Result<(), AllocError>
+    ensures { OnOk result (stops.new.items ≡ stops.old.items ++ stop_at count (placed_at first block.now)) }
+{
+    if is_page_break(block.kind) {
+        stops.push(count)?;
+    }
+    Ok(())
+}
+
+/// Adds the rows of a stanza's blocks, and the rows before which their page breaks stand.
+fn add_blocks(
+    layout: &mut Layout,
+    alloc: Global,
+    lines: &Lines,
+    first: usize,
+    blocks: &[Block],
+) -> Result<(), AllocError>
+    requires low { length lines.now.lines ≤ line_count_limit }
+    requires show { All (λ (block : BlockOf). BlockShows (line_texts lines.now.lines) (placed_at first block)) blocks.now }
+    ensures rows { OnOk result (layout.new.rows.items ≡ layout.old.rows.items ++ rows_in (line_texts lines.now.lines) (map (placed_at first) blocks.now)) }
+    ensures stops { OnOk result (layout.new.stops.items ≡ layout.old.stops.items ++ stops_from (line_texts lines.now.lines) (length layout.old.rows.items) (map (placed_at first) blocks.now)) }
+{
+    for block in blocks {
+        add_stop(&mut layout.stops, layout.rows.len(), first, block)?;
+        add_block(&mut layout.rows, alloc, lines, first, block)?;
+    }
+    Ok(())
+}
+
+/// Lays out a text, stanza by stanza.
+pub fn lay_out<S: Steps>(alloc: Global, lines: &Lines, steps: &mut S) -> Result<Layout, AllocError>
+    ensures rows { IfOk result (λ layout. layout.rows.items ≡ rows_of (line_texts lines.now.lines)) }
+    ensures stops { IfOk result (λ layout. layout.stops.items ≡ stops_of (line_texts lines.now.lines)) }
+    ensures show { IfOk result (λ layout. All (RowShows (line_texts lines.now.lines)) layout.rows.items) }
+    ensures within { IfOk result (λ layout. All (λ (stop : ℕ). stop ≤ length layout.rows.items) layout.stops.items) }
 {
     let count = lines.len();
-    let mut rows = Vec::new(alloc);
-    let mut from = 0;
-    while from < count {
-        let to = paragraph_end(lines, from);
-        if is_action(lines.line(from).text) {
-            add_paragraph(&mut rows, alloc, lines, from, to)?;
-        }
-        from = to;
+    let mut layout = Layout {
+        rows: Vec::new(alloc),
+        stops: Vec::new(alloc),
+    };
+    let mut first = 0;
+    while first < count {
+        let stanza = read_stanza(alloc, lines, first, steps)?;
+        add_blocks(&mut layout, alloc, lines, first, &stanza.blocks)?;
+        first += stanza.lines as usize;
     }
-    Ok(rows)
+    Ok(layout)
 }

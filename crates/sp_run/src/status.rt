@@ -22,8 +22,6 @@ pub enum Status {
     WriteFault,
     /// There is no memory.
     NoMemory,
-    /// This line is the first of a form that isn't built yet. Nothing was written.
-    NotYet(u64),
 }
 
 impl Status {
@@ -41,7 +39,6 @@ impl Status {
             Status::ReadFault => 5,
             Status::WriteFault => 6,
             Status::NoMemory => 9,
-            Status::NotYet(_) => 12,
         }
     }
 }
@@ -97,7 +94,6 @@ pub fn fault_line<O: Sink>(status: &Status, sink: &mut O) -> Result<(), Failed>
         Status::ReadFault => write_whole(sink, b"fountain: reading failed\n"),
         Status::WriteFault => write_whole(sink, b"fountain: writing failed\n"),
         Status::NoMemory => write_whole(sink, b"fountain: no memory\n"),
-        Status::NotYet(place) => place_line(sink, b"line ", *place, b" is of a form not built yet"),
     }
 }
 

@@ -107,6 +107,54 @@ fn action_prints_as_sheets(rt: HostRuntime) -> Result<(), Fail> {
 }
 
 #[test]
+fn blocks_print_as_rows(rt: HostRuntime) -> Result<(), Fail> {
+    let alloc = rt.alloc();
+    let cases: [(&str, &[&[&str]]); 26] = [
+        ("!a\nb\n", &[&["a", "b"]]),
+        ("a\n/* b\nc */ d\n", &[&["a", " d"]]),
+        ("a [[b\nc]] d\n", &[&["a", " d"]]),
+        ("a [[b\n\nc]] d\n", &[&["a [[b", "", "c]] d"]]),
+        ("!a\n===\n!b\n", &[&["a"], &["b"]]),
+        ("===\na\n\n===\n\n====\n\nb\n===\n", &[&["a"], &["b"]]),
+        ("BOB\n\nHi.\n", &[&["BOB", "", "Hi."]]),
+        ("BOB\n  \n", &[&["BOB", ""]]),
+        ("  \n\na\n", &[&["a"]]),
+        ("BOB\n(softly)\nHi.\n", &[&["BOB", "(softly)", "Hi."]]),
+        ("...and then\n", &[&["...and then"]]),
+        (".and then\n", &[&["and then"]]),
+        ("!CUT TO:\n", &[&["CUT TO:"]]),
+        (".CUT TO:\n", &[&["CUT TO:"]]),
+        ("CUT TO: \n", &[&["CUT TO:"]]),
+        ("> CUT TO:\n", &[&["CUT TO:"]]),
+        ("> a <\n", &[&["a"]]),
+        ("~la\n", &[&["la"]]),
+        ("INT. ROOM #1#\n", &[&["INT. ROOM"]]),
+        ("# Act\n\n= It rains.\n\na\n", &[&["a"]]),
+        ("# Act\n", &[]),
+        ("Title: X\nAuthor: Y\n\na\n", &[&["a"]]),
+        ("FADE IN:\n", &[&["FADE IN:"]]),
+        ("**a *b** c*\n", &[&["a b c"]]),
+        ("2 * 3 * 4\n", &[&["2 * 3 * 4"]]),
+        ("\\*a* _b c_\n", &[&["*a* b c"]]),
+    ];
+    for (script, sheets) in cases {
+        assert!(rt; prints(alloc, script, sheets)?, "{script}");
+    }
+    Ok(())
+}
+
+#[test]
+fn scripts_of_many_lines_print(rt: HostRuntime) -> Result<(), Fail> {
+    let alloc = rt.alloc();
+    for line in ["", "===", "/*", "# a"] {
+        let (status, bytes) = printed(alloc, lines(alloc, line, 200_000)?.as_slice())?;
+        assert_eq!(rt; status, Status::Done, "{line}");
+        assert_eq!(rt; bytes.len(), 0, "{line}");
+    }
+    Ok(())
+}
+
+#[test]
 fn pages_end_where_they_may(rt: HostRuntime) -> Result<(), Fail> {
     let alloc = rt.alloc();
     let rows = ["a"; 54];
@@ -132,14 +180,6 @@ fn pages_end_where_they_may(rt: HostRuntime) -> Result<(), Fail> {
 #[test]
 fn a_script_that_is_none_is_refused(rt: HostRuntime) -> Result<(), Fail> {
     let alloc = rt.alloc();
-    let (status, bytes) = printed(alloc, b"!a\nb\n".as_slice())?;
-    assert_eq!(rt; status, Status::NotYet(1));
-    assert_eq!(rt; bytes.len(), 0);
-    assert_eq!(rt;
-        printed(alloc, b"!a\n\n  \n".as_slice())?.0,
-        Status::NotYet(2),
-        "a held line"
-    );
     assert_eq!(rt;
         printed(alloc, b"!a\xff".as_slice())?.0,
         Status::BadText(TextFault::NotUtf8(2))
@@ -237,11 +277,6 @@ fn each_status_has_its_number_and_line(rt: HostRuntime) -> Result<(), Fail> {
         (Status::ReadFault, 5, "fountain: reading failed\n"),
         (Status::WriteFault, 6, "fountain: writing failed\n"),
         (Status::NoMemory, 9, "fountain: no memory\n"),
-        (
-            Status::NotYet(7),
-            12,
-            "fountain: line 7 is of a form not built yet\n",
-        ),
     ];
     for (status, code, line) in cases {
         let mut sink = MemorySink::new(alloc, 100, MOST, Vec::new(alloc))?;

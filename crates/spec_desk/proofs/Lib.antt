@@ -1,2 +1,3 @@
 mod PrintRows
 pub mod PageSpans
+pub mod ElementLaws

@@ -1,11 +1,19 @@
 -- Telling scripts and what is printed of them (docs/RULES.md, "Sheets").
-use Rattle.std.proofs.Common.{◌≡◌, ℕ, Some, List, [], ◌∷◌, ◌++◌, refl}
+use Rattle.std.proofs.Common.{◌≡◌, ℕ, List, [], ◌∷◌, ◌++◌, refl}
 use Rattle.std.specs.Prelude.{codes}
 use Rattle.std.specs.Str.Lossy.{utf8_valid_len}
+use Rattle.std.specs.Str.{chars}
+use Rattle.ucd_derived.specs.Binary.{is_lowercase}
+use Rattle.ucd_derived.specs.LowercaseRanges.{lowercase_ranges}
+use Rattle.ucd_table.specs.Rows.{in_ranges}
+use Rattle.unicode_segmentation.specs.Segments.{segments, cut}
+use Rattle.unicode_segmentation.specs.Grapheme.{is_grapheme_break}
+use Rattle.unicode_width.specs.Width.{str_width, step, past_emoji}
+use Rattle.spec_pages.specs.Wrapping.{rows_of}
 use Rattle.spec_pages.specs.Pages.{page_starts}
 use Rattle.spec_pages.specs.Rows.{Row, shaped_from}
 use Rattle.spec_pages.specs.declared.RowKind.TheVariants.{Action}
-use Rattle.spec_desk.specs.Paragraphs.{first_unknown, action_runs}
+use Rattle.spec_desk.specs.Elements.{stops_of}
 use Rattle.spec_desk.specs.Printing.{printed, printing_of}
 use Rattle.spec_desk.specs.Sheets.{spaces, sheet_bytes, page_body, page_spans, shapes_of}
 
@@ -14,16 +22,10 @@ pub empty_script : printing_of [] ≡ printed []
 unfolding utf8_valid_len
 empty_script = refl
 
--- The first line that is neither empty nor forced action; a held line is one.
-pub unknown_line : first_unknown (codes "!a" ∷ codes " " ∷ codes "b" ∷ []) ≡ Some 2
-unknown_line = refl
-
-pub held_line : first_unknown (codes "!a" ∷ [] ∷ codes "  " ∷ []) ≡ Some 2
-held_line = refl
-
--- What follows `!` is shown, without spaces at its end.
-pub shown_action : action_runs (codes "!Hello. \t") ≡ record { from = 1; to = 7; style = 0 } ∷ []
-shown_action = refl
+-- A page break stops a page; no block of its own kind has a row there.
+pub two_pages : stops_of (codes "!a" ∷ codes "===" ∷ codes "!b" ∷ []) ≡ 1 ∷ []
+unfolding chars is_lowercase in_ranges lowercase_ranges rows_of segments cut is_grapheme_break str_width step past_emoji lib.Utf8.encode
+two_pages = refl
 
 -- One row is one page.
 abbrev one_row : ℕ → ℕ → List Row

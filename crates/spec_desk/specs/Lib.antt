@@ -1,3 +1,3 @@
-pub mod Paragraphs
+pub mod Elements
 pub mod Sheets
 pub mod Printing

@@ -1,8 +1,8 @@
 -- What becomes of a script that is printed (docs/RULES.md, "The program").
-use Rattle.std.specs.Prelude.{ℕ, List, [], Option, Some, None}
+use Rattle.std.specs.Prelude.{ℕ, List}
 use Rattle.std.specs.List.{flat_map}
 use Rattle.spec_text.specs.Lines.{Reading, text_full, not_utf8, line_full, lines, reading_of}
-use Rattle.spec_desk.specs.Paragraphs.{first_unknown, rows_of}
+use Rattle.spec_desk.specs.Elements.{rows_of, stops_of}
 use Rattle.spec_desk.specs.Sheets.{sheets_of, sheet_bytes}
 
 -- A script is refused for a reason, or printed as these bytes.
@@ -10,23 +10,18 @@ pub data Printing : Type 0 where
   too_long : Printing
   no_utf8 : ℕ → Printing
   long_line : ℕ → Printing
-  not_yet : ℕ → Printing
   printed : List ℕ → Printing
 
 -- The bytes of all sheets of these lines, in order.
 abbrev pub sheets_bytes : List (List ℕ) → List ℕ
-sheets_bytes texts = flat_map sheet_bytes (sheets_of texts (rows_of texts) [])
+sheets_bytes texts = flat_map sheet_bytes (sheets_of texts (rows_of texts) (stops_of texts))
 
--- Lines of a form that isn't built yet are refused, with the first.
-abbrev pub printing_of_lines : List (List ℕ) → Option ℕ → Printing
-printing_of_lines texts (Some place) = not_yet place
-printing_of_lines texts None = printed (sheets_bytes texts)
-
+-- What becomes of a script by what reading it came to.
 abbrev pub printing_of_reading : Reading → Printing
 printing_of_reading text_full = too_long
 printing_of_reading (not_utf8 place) = no_utf8 place
 printing_of_reading (line_full place) = long_line place
-printing_of_reading (lines texts) = printing_of_lines texts (first_unknown texts)
+printing_of_reading (lines texts) = printed (sheets_bytes texts)
 
 -- What becomes of a script's bytes.
 abbrev pub printing_of : List ℕ → Printing

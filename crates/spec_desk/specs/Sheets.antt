@@ -1,5 +1,5 @@
 -- Sheets and their bytes (docs/RULES.md, "Sheets").
-use Rattle.std.specs.Prelude.{◌≡◌, ◌<◌, All, ℕ, ◌-◌, ◌+◌, max, ◌==◌, nat_lt, if◌then◌else◌, List, [], ◌∷◌, ◌++◌, length, map, replicate, sum_by, slice_range, slice_get, unwrap_or, decimal, fold}
+use Rattle.std.specs.Prelude.{◌≡◌, ◌<◌, All, ℕ, ◌-◌, ◌+◌, max, ◌==◌, nat_lt, if◌then◌else◌, List, [], ◌∷◌, ◌++◌, length, map, replicate, sum_by, slice_range, slice_index_or, decimal, fold}
 use Rattle.std.specs.List.{flat_map}
 use Rattle.spec_script.specs.declared.Run.{Run}
 use Rattle.spec_script.specs.Runs.{RunParts}
@@ -15,7 +15,7 @@ pub record ShownCell : Type 0 where
 
 -- The line at a place, or nothing.
 abbrev pub text_at : List (List ℕ) → ℕ → List ℕ
-text_at texts place = unwrap_or (slice_get texts place) []
+text_at texts place = slice_index_or texts place []
 
 -- The part of a text that a run shows.
 abbrev pub slice_of : List ℕ → Run → List ℕ

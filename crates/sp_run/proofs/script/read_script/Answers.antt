@@ -40,7 +40,6 @@ stopped left count a b c most script now statuses.Done before same low no_case =
 stopped left count a b c most script now statuses.Usage before same low no_case = absurd no_case
 stopped left count a b c most script now (statuses.BadText fault) before same low no_case = absurd no_case
 stopped left count a b c most script now statuses.WriteFault before same low no_case = absurd no_case
-stopped left count a b c most script now (statuses.NotYet place) before same low no_case = absurd no_case
 
 -- The answer is this error.
 err_of : {T : Type 0} (P : Status → Type 0) (e : Status) (r : Result T Status) → IsErrAnd r (λ s. s ≡ e) → P e → IfErr r P

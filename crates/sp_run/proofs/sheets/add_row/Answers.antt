@@ -7,8 +7,8 @@ use Rattle.spec_script.specs.declared.Run.{Run}
 use Rattle.spec_script.specs.Runs.{RunParts}
 use Rattle.spec_pages.specs.Rows.{Row, Cell}
 use Rattle.spec_desk.specs.Sheets.{ShowsParts, RowShows, shown_cell, row_line, slice_of, text_at, spaces, untabbed}
-use Rattle.sp_run.proofs.LineTexts.{length-texts}
-use Rattle.sp_run.proofs.ShownRows.{text_at-line, shows, length-shown, row_bytes-one, row_bytes-none}
+use Rattle.sp_run.proofs.LineTexts.{length-texts, text_at-line}
+use Rattle.sp_run.proofs.ShownRows.{shows, length-shown, row_bytes-one, row_bytes-none}
 use Rattle.sp_run.proofs.sheets.add_row.Goals as goal
 
 -- The one cell of a row shows parts of its line.
