@@ -1,4 +1,5 @@
-"""Times `print` on scripts of 1, 2, 4, 8 and 16 MiB, beside `fold -s -w 60 FILE | pr -l 57` on the same file in the same run.
+"""Times `print` on scripts of 1, 2, 4, 8 and 16 MiB, beside `fold -s -w 60 FILE | pr -l 57` on the same file in the same run,
+and on scripts of 25,000 to 200,000 lines that a careless reader is slow on.
 
 For each kind of script and each size it prints the time of `print`, MB/s, the peak memory over the size of the input (where
 it is above what the measuring process takes itself), how much longer it took than at half the size, and the ratio to
@@ -19,6 +20,7 @@ import time
 TOP = pathlib.Path(__file__).resolve().parent.parent
 PROGRAM = TOP / "crates/fountain_cli/out/fountain_cli"
 MIB = 1 << 20
+PRINT = '"$PROGRAM" print < "$FILE" > /dev/null'
 # A script has at most 16,777,216 bytes with a line end behind its last line.
 MOST_BYTES = 16_777_215
 
@@ -42,6 +44,35 @@ def prose(rng, words, size, opening):
     return cut("\n".join(lines), size)
 
 
+def scenes(rng, size):
+    """Scenes of a script: headings, action, dialogue, notes, boneyards, sections, emphasis and page breaks."""
+    def text(low, high):
+        length, words = rng.randint(low, high), []
+        while sum(map(len, words)) + len(words) < length:
+            word = rng.choice(WORDS)
+            words.append(rng.choice(("*{}*", "_{}_", "**{}**")).format(word) if rng.random() < 0.01 else word)
+        return " ".join(words)
+
+    blocks = (
+        (2, lambda: f"{rng.choice(('INT.', 'EXT.'))} {rng.choice(WORDS).upper()} - DAY #{rng.randint(1, 999)}#"),
+        (8, lambda: text(120, 700)),
+        (9, lambda: f"{rng.choice(('ANNA', 'BERT (O.S.)'))}\n{text(100, 400)}"),
+        (2, lambda: f"ANNA\n(softly)\n{text(100, 300)}"),
+        (1, lambda: f"{text(60, 200)} [[{text(20, 60)}]] {text(60, 200)}"),
+        (1, lambda: f"/*\n{text(100, 300)}\n{text(100, 300)}\n*/"),
+        (1, lambda: "> CUT TO:"),
+        (1, lambda: f"# {text(5, 30)}\n\n= {text(30, 90)}"),
+        (0.2, lambda: "==="),
+    )
+    weights, makers = zip(*blocks)
+    made, total = [], 0
+    while total < size:
+        block = rng.choices(makers, weights)[0]()
+        made.append(block)
+        total += len(block) + 2
+    return cut("\n\n".join(made), size)
+
+
 def cut(text, size):
     """At most so many bytes of the text, and whole characters."""
     return text.encode()[: min(size, MOST_BYTES)].decode(errors="ignore").encode()
@@ -50,6 +81,21 @@ def cut(text, size):
 KINDS = {
     "ascii": lambda rng, size: prose(rng, WORDS, size, "!"),
     "unicode": lambda rng, size: prose(rng, WORDS + ACCENTED * 3, size, "!"),
+    "script": scenes,
+}
+
+# Scripts of so many lines: one stanza, stanzas of one line, and what a reader may look for to the end of the text.
+LINES = {
+    "stanza": lambda lines: "some words in a line\n" * lines,
+    "stanzas": lambda lines: "some words in a line\n\n" * (lines // 2),
+    "empty": lambda lines: "\n" * lines,
+    "speech": lambda lines: "ANNA\n" + "some words in a line\n" * (lines - 1),
+    "cues": lambda lines: "ANNA\n" * lines,
+    "breaks": lambda lines: "===\n" * lines,
+    "pages": lambda lines: "some words in a line\n===\n" * (lines // 2),
+    "boneyard": lambda lines: "/*\n" + "some words in a line\n" * (lines - 1),
+    "notes": lambda lines: "some [[ words in a line\n" * lines,
+    "title": lambda lines: "Title: some words in a line\n" * lines,
 }
 
 
@@ -76,32 +122,59 @@ def peak_memory(path):
 
 def main():
     parser = argparse.ArgumentParser()
-    parser.add_argument("--kind", choices=sorted(KINDS), action="append")
+    parser.add_argument("--kind", choices=sorted([*KINDS, *LINES]), action="append")
     parser.add_argument("--runs", type=int, default=5)
     parser.add_argument("--most", type=int, default=16)
     options = parser.parse_args()
     subprocess.run([TOP / "run", "print"], stdin=subprocess.DEVNULL, check=True)
-    print(f"{'kind':10} {'MiB':>4} {'print s':>9} {'MB/s':>7} {'memory':>7} {'growth':>7} {'/ fold|pr':>9}")
+    kinds = options.kind or [*KINDS, *LINES]
     with tempfile.TemporaryDirectory() as folder:
-        empty = pathlib.Path(folder) / "empty"
-        empty.write_bytes(b"")
-        floor = peak_memory(empty) * 1.1
-        for kind in options.kind or KINDS:
-            before = None
-            for size in (1, 2, 4, 8, 16):
-                if size > options.most:
-                    break
-                path = pathlib.Path(folder) / f"{kind}{size}"
-                path.write_bytes(KINDS[kind](random.Random(size), size * MIB))
-                seconds = least('"$PROGRAM" print < "$FILE" > /dev/null', path, options.runs)
-                other = least('fold -s -w 60 "$FILE" | pr -l 57 > /dev/null', path, options.runs)
-                count = path.stat().st_size
-                growth = f"{seconds / before:7.2f}" if before else "      -"
-                peak = peak_memory(path)
-                memory = f"{peak / count:7.2f}" if peak > floor else "      -"
-                print(f"{kind:10} {size:4} {seconds:9.4f} {count / 1e6 / seconds:7.1f} {memory} {growth} {seconds / other:9.2f}", flush=True)
-                before = seconds
-                path.unlink()
+        folder = pathlib.Path(folder)
+        if sizes := [kind for kind in kinds if kind in KINDS]:
+            time_sizes(folder, sizes, options)
+        if lines := [kind for kind in kinds if kind in LINES]:
+            time_lines(folder, lines, options)
+
+
+def growth(before, seconds):
+    return f"{seconds / before:7.2f}" if before else "      -"
+
+
+def time_sizes(folder, kinds, options):
+    """Times scripts by their size, and prints a row for each."""
+    empty = folder / "empty"
+    empty.write_bytes(b"")
+    floor = peak_memory(empty) * 1.1
+    print(f"{'kind':10} {'MiB':>4} {'print s':>9} {'MB/s':>7} {'memory':>7} {'growth':>7} {'/ fold|pr':>9}")
+    for kind in kinds:
+        before = None
+        for size in (1, 2, 4, 8, 16):
+            if size > options.most:
+                break
+            path = folder / f"{kind}{size}"
+            path.write_bytes(KINDS[kind](random.Random(size), size * MIB))
+            seconds = least(PRINT, path, options.runs)
+            other = least('fold -s -w 60 "$FILE" | pr -l 57 > /dev/null', path, options.runs)
+            count = path.stat().st_size
+            peak = peak_memory(path)
+            memory = f"{peak / count:7.2f}" if peak > floor else "      -"
+            print(f"{kind:10} {size:4} {seconds:9.4f} {count / 1e6 / seconds:7.1f} {memory} {growth(before, seconds)} {seconds / other:9.2f}", flush=True)
+            before = seconds
+            path.unlink()
+
+
+def time_lines(folder, kinds, options):
+    """Times scripts by their number of lines, and prints a row for each."""
+    print(f"{'kind':10} {'lines':>7} {'print s':>9} {'growth':>7}")
+    for kind in kinds:
+        before = None
+        for lines in (25_000, 50_000, 100_000, 200_000):
+            path = folder / f"{kind}{lines}"
+            path.write_text(LINES[kind](lines))
+            seconds = least(PRINT, path, options.runs)
+            print(f"{kind:10} {lines:7} {seconds:9.4f} {growth(before, seconds)}", flush=True)
+            before = seconds
+            path.unlink()
 
 
 if __name__ == "__main__":

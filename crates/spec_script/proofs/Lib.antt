@@ -23,7 +23,6 @@ pub mod PairLaws
 pub mod JoinLaws
 pub mod LookLaws
 pub mod RunLaws
-pub mod StanzaWalk
 pub mod CutEnds
 pub mod WindowParts
 pub mod NoteEdges
