@@ -58,6 +58,7 @@ pub fn scan_lines<'a>(
     ensures value { IfOk result (λ v. v.items ≡ scanned_each false (stanza_lines (line_texts lines.now.lines) first)) }
     ensures few { IfOk result (λ v. vec_len v ≤ 200000) }
     ensures utf8 { OnOk result (All IsUtf8 (line_texts lines.now.lines)) }
+    ensures low { OnOk result (length lines.now.lines ≤ 200000) }
 {
     let mut scanned = Vec::new(alloc);
     let mut in_yard = false;

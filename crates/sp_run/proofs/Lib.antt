@@ -1,5 +1,4 @@
 pub mod LineTexts
-pub mod PartRuns
 pub mod ShownRows
 pub mod Stops
 pub mod PagesLeft

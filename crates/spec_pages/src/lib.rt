@@ -49,3 +49,11 @@ pub enum Cut {
     /// Before this place, where there is no such space.
     Inside(usize),
 }
+
+/// Where an element's row stands: by itself, or in a half of dual dialogue (docs/RULES.md, "Elements").
+#[derive(Debug, Clone, Copy, PartialEq, Eq, Drop)]
+pub enum Side {
+    Alone,
+    Left,
+    Right,
+}

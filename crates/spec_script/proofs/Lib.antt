@@ -30,3 +30,5 @@ pub mod LeftParts
 pub mod LineCuts
 pub mod BlockParts
 pub mod PlainLaws
+pub mod BlockPlaces
+pub mod RunPlaces

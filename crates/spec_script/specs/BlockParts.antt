@@ -1,5 +1,6 @@
 -- Blocks lie in the lines of their stanza, in order (docs/RULES.md, "Blocks").
 use Rattle.std.specs.Prelude.{ℕ, ◌+◌, ◌<◌, ◌≤◌, List, [], ◌∷◌, length, slice_index_or, All}
+use Rattle.spec_text.specs.Limits.{line_count_limit}
 use Rattle.spec_text.specs.Parts.{Parts}
 use Rattle.spec_script.specs.Runs.{RunParts}
 use Rattle.spec_script.specs.BlockValues.{LineOf, BlockOf, StanzaOf}
@@ -43,3 +44,17 @@ pub record StanzaParts (texts : List (List ℕ)) (first : ℕ) (stanza : StanzaO
   pub within : first + stanza.lines ≤ length texts
   pub blocks : All (BlockParts texts first stanza.lines) stanza.blocks
   pub rise : Rise block_from block_to 0 stanza.lines stanza.blocks
+
+-- A line of a block is a line of the text, and its runs are parts of it.
+pub record LineLies (texts : List (List ℕ)) (first : ℕ) (line : LineOf) : Type 0 where
+  pub place : first + line.offset < length texts
+  pub runs : RunParts (line_at texts first line.offset) line.runs
+
+-- A block of the stanza that begins at a place lies in the text, which keeps the limit of its lines: it has no more lines
+-- than that either, each of them lies in the text, and its written number is parts of its first line.
+pub record BlockLies (texts : List (List ℕ)) (first : ℕ) (block : BlockOf) : Type 0 where
+  pub low : length texts ≤ line_count_limit
+  pub few : length block.lines ≤ line_count_limit
+  pub place : first + block.first < length texts
+  pub number : Parts (line_at texts first block.first) 0 block.number
+  pub lines : All (LineLies texts first) block.lines

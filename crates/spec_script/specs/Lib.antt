@@ -20,3 +20,4 @@ pub mod TitlePages
 pub mod Blocks
 pub mod Stanzas
 pub mod BlockParts
+pub mod Elements

@@ -1,5 +1,5 @@
 use Rattle.std.proofs.Common.{arith}
-use Rattle.sp_run.proofs.PartRuns.{run-lies}
+use Rattle.spec_script.proofs.RunPlaces.{run-lies}
 use Rattle.sp_run.proofs.sheets.add_runs.Goals as goal
 
 pub range-part-requires-clause-start_le_end : goal.range-part-requires-clause-start_le_end

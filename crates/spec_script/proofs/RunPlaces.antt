@@ -1,4 +1,4 @@
--- Runs that are parts of a text.
+-- Runs that are parts of a text lie in it.
 use Rattle.std.proofs.Common.{ℕ, zero, suc, ◌<◌, List, [], ◌∷◌, length, map, get_or, arith}
 use Rattle.spec_text.specs.Parts.{Parts, Lies}
 use Rattle.spec_script.specs.declared.Run.{Run}
