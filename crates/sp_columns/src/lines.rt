@@ -6,7 +6,7 @@ ghost use Rattle.spec_text.specs.Lines.{line_texts};
 ghost use Rattle.spec_script.specs.BlockParts.{BlockLies, LineLies};
 ghost use Rattle.spec_script.specs.Runs.{RunParts};
 ghost use Rattle.spec_pages.specs.Pages.{is_dialogue};
-ghost use Rattle.spec_pages.specs.ElementRows.{block_rows, line_row, line_rows, text_rows};
+ghost use Rattle.spec_pages.specs.Rows.{block_rows, line_row, line_rows, text_rows};
 
 use crate::columns::{column_of, row_kind, width_of};
 use crate::sentences::ends_sentence;

@@ -119,7 +119,7 @@ ReadsUpTo old new most = (bytes : List ℕ) × Consumes old new bytes × (length
 
 -- The lines of a script that is printed, or the status that refuses it.
 abbrev pub IsReadable : Printing → Result TextState Status → Type 0
-IsReadable fate (Ok text) = fate ≡ printed (sheets_bytes (line_texts text.lines))
+IsReadable fate (Ok text) = fate ≡ printed (sheets_bytes text.lines)
 IsReadable fate (Err status) = Refuses fate status
 
 -- What is outside, by the meanings of the source and of the sink.
