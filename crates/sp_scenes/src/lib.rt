@@ -1,0 +1,12 @@
+//! Scene numbers: the labels of headings, and the records that keep them.
+#![tactic(auto)]
+
+mod fault;
+mod heading;
+mod numbering;
+mod places;
+
+pub use fault::SceneFault;
+pub use heading::{HeadingAt, SceneRecord};
+pub use numbering::numbers;
+pub use sp_labels::LockFault;
