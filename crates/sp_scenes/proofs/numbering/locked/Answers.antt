@@ -3,7 +3,7 @@ use Rattle.std.specs.Prelude.{All}
 use Rattle.std.specs.BTreeMap.{get}
 use Rattle.std.proofs.lemmas.Grind.{common_steps}
 use Rattle.spec_labels.specs.Labels.{LabelOf, IsLabel}
-use Rattle.spec_labels.specs.Scenes.{line_place}
+use Rattle.spec_labels.specs.Scenes.{HeadingOf, line_place}
 use Rattle.sp_labels.specs.declared.label.Label.{Label}
 use Rattle.sp_scenes.proofs.NewLabels.{Labelled-none, Labelled-waiting, Labelled-recorded, Labelled-all}
 use Rattle.sp_scenes.proofs.Labels.{locked_labels-IsLabel}
@@ -19,7 +19,7 @@ loop-heading-init c = record {
 pub loop-heading-preserved : goal.loop-heading-preserved
 loop-heading-preserved c =
     let d = c.heading-item.result in
-    let here : c.heading.inside.id ≡ (get_or c.args.headings.now c.loop-heading.heading-index d).id = cc in
+    let here : c.heading.inside.id ≡ (get_or c.args.headings.now c.loop-heading.heading-index d).id = ap (λ (it : HeadingOf). it.id) (c.heading.view_is ∙ c.heading-item.is) in
     let listed : get nat_cmp c.args.places.now c.heading.inside.id ≡ line_place c.args.records.now c.heading.inside.id = c.requires.places c.heading.inside.id in
     elim c.match-get.branch [
       in-Some+in_ok-push_recorded-in-Some w ↦ record {
