@@ -1,9 +1,10 @@
 -- The labels of headings are labels.
-use Rattle.std.proofs.Common.{◌≡◌, ℕ, ◌+◌, ◌<◌, ◌≤◌, List, [], ◌∷◌, length, sym, subst, arith}
+use Rattle.std.proofs.Common.{◌≡◌, ℕ, suc, ◌+◌, ◌<◌, ◌≤◌, List, [], ◌∷◌, length, refl, ap, sym, ◌∙◌, subst, arith}
 use Rattle.std.specs.Prelude.{Option, Some, None, All, IfSome, unwrap_or}
+use Rattle.std.proofs.lemmas.List.{length-map}
 use Rattle.std.proofs.lemmas.List.Elements.{All-nil, All-cons, All-head, All-tail}
 use Rattle.spec_labels.specs.Labels.{LabelOf, IsLabel, plain_label}
-use Rattle.spec_labels.specs.Scenes.{HeadingOf, SceneRecordOf, IsSceneLabel, IsNumbered, AreSceneRecords, first_place, label_at, label_before, labels_since, numbers_after, record_places, locked_labels, unlocked_labels}
+use Rattle.spec_labels.specs.Scenes.{HeadingOf, SceneRecordOf, IsSceneLabel, IsNumbered, AreSceneRecords, first_place, label_at, label_before, labels_since, numbers_after, record_place, record_places, locked_labels, unlocked_labels}
 use Rattle.spec_labels.proofs.LabelsBetween.{IsLabel-plain, between-IsLabel}
 use Rattle.spec_labels.proofs.SceneSpots.{label_of-within}
 use Rattle.spec_labels.proofs.SceneLabels.{Within, record_places-Within}
@@ -44,3 +45,19 @@ labels_since-IsLabel records since (None ∷ later) are within =
 
 pub locked_labels-IsLabel : (records : List SceneRecordOf) (headings : List HeadingOf) → AreSceneRecords records → All IsLabel (locked_labels records headings)
 locked_labels-IsLabel records headings are = labels_since-IsLabel records 0 (record_places records headings) are (record_places-Within records headings)
+
+-- There is a label for each heading.
+length-numbers_after : (before : ℕ) (headings : List HeadingOf) → length (numbers_after before headings) ≡ length headings
+length-numbers_after before [] = refl
+length-numbers_after before (heading ∷ later) = ap suc (length-numbers_after (own_label before heading).number later)
+
+pub length-unlocked_labels : (headings : List HeadingOf) → length (unlocked_labels headings) ≡ length headings
+length-unlocked_labels headings = length-numbers_after 0 headings
+
+length-labels_since : (records : List SceneRecordOf) (since : ℕ) (places : List (Option ℕ)) → length (labels_since records since places) ≡ length places
+length-labels_since records since [] = refl
+length-labels_since records since (Some place ∷ later) = ap suc (length-labels_since records 0 later)
+length-labels_since records since (None ∷ later) = ap suc (length-labels_since records (since + 1) later)
+
+pub length-locked_labels : (records : List SceneRecordOf) (headings : List HeadingOf) → length (locked_labels records headings) ≡ length headings
+length-locked_labels records headings = length-labels_since records 0 (record_places records headings) ∙ length-map headings (record_place records)

@@ -1,1 +1,2 @@
 pub mod NewLabels
+pub mod Locking

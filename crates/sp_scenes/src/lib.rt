@@ -3,10 +3,12 @@
 
 mod fault;
 mod heading;
+mod locking;
 mod numbering;
 mod places;
 
 pub use fault::SceneFault;
 pub use heading::{HeadingAt, SceneRecord};
+pub use locking::lock_scenes;
 pub use numbering::numbers;
 pub use sp_labels::LockFault;

@@ -30,6 +30,7 @@ pub fn numbers(alloc: Global, headings: &[HeadingAt], records: Option<&[SceneRec
 pub(crate) fn unlocked(alloc: Global, headings: &[HeadingAt]) -> Result<Vec<Label>, AllocError>
     requires { AreHeadings headings.now }
     ensures numbers { IfOk result (λ labels. labels.items ≡ unlocked_labels headings.now) }
+    ensures count { IfOk result (λ labels. length labels.items ≡ length headings.now) }
     ensures labels { IfOk result (λ labels. All IsLabel labels.items) }
 {
     let mut labels = Vec::with_capacity(alloc, headings.len())?;
@@ -62,6 +63,7 @@ pub(crate) fn locked(alloc: Global, headings: &[HeadingAt], records: &[SceneReco
     requires records { AreSceneRecords records.now }
     requires places { (line : ℕ) → get nat_cmp places.now line ≡ line_place records.now line }
     ensures numbers { IfOk result (λ labels. labels.items ≡ locked_labels records.now headings.now) }
+    ensures count { IfOk result (λ labels. length labels.items ≡ length headings.now) }
     ensures labels { IfOk result (λ labels. All IsLabel labels.items) }
 {
     let mut labels = Vec::with_capacity(alloc, headings.len())?;

@@ -1,4 +1,4 @@
-use Rattle.std.proofs.Common.{◌≡◌, Vec, Global, nat_cmp, List, [], drop, get_or, ap, sym, ◌∙◌, subst, arith}
+use Rattle.std.proofs.Common.{◌≡◌, Vec, Global, nat_cmp, List, [], length, drop, get_or, ap, sym, ◌∙◌, subst, arith}
 use Rattle.std.specs.Prelude.{All}
 use Rattle.std.specs.BTreeMap.{get}
 use Rattle.std.proofs.lemmas.Grind.{common_steps}
@@ -6,7 +6,7 @@ use Rattle.spec_labels.specs.Labels.{LabelOf, IsLabel}
 use Rattle.spec_labels.specs.Scenes.{HeadingOf, line_place}
 use Rattle.sp_labels.specs.declared.label.Label.{Label}
 use Rattle.sp_scenes.proofs.NewLabels.{Labelled-none, Labelled-waiting, Labelled-recorded, Labelled-all}
-use Rattle.sp_scenes.proofs.Labels.{locked_labels-IsLabel}
+use Rattle.sp_scenes.proofs.Labels.{locked_labels-IsLabel, length-locked_labels}
 use Rattle.sp_scenes.proofs.numbering.locked.Goals as goal
 use Rattle.sp_scenes.proofs.numbering.locked.Goals.{in-Some+in_ok-push_recorded-in-Some, in-None}
 
@@ -45,3 +45,6 @@ returns-clause-numbers c =
 
 pub returns-clause-labels : goal.returns-clause-labels
 returns-clause-labels c = subst (λ (ls : List LabelOf). All IsLabel ls) (sym (returns-clause-numbers c)) (locked_labels-IsLabel c.args.records.now c.args.headings.now c.requires.records)
+
+pub returns-clause-count : goal.returns-clause-count
+returns-clause-count c = ap length (returns-clause-numbers c) ∙ length-locked_labels c.args.records.now c.args.headings.now
