@@ -5,3 +5,6 @@ pub mod Labels
 pub mod Falls
 pub mod RecordsOf
 pub mod LockedRecords
+pub mod Distinct
+pub mod OneOrder
+pub mod ExtendedRecords
