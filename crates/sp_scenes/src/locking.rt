@@ -77,7 +77,11 @@ fn first_fall(labels: &[Label]) -> Option<usize>
 }
 
 /// Records of headings with these labels.
-pub(crate) fn records_of(alloc: Global, headings: &[HeadingAt], labels: Vec<Label>) -> Result<Vec<SceneRecord>, AllocError>
+pub(crate) fn records_of(
+    alloc: Global,
+    headings: &[HeadingAt],
+    labels: Vec<Label>,
+) -> Result<Vec<SceneRecord>, AllocError>
     requires { length labels.items ≡ length headings.now }
     ensures { IfOk result (λ records. records.items ≡ records_of headings.now labels.items) }
 {

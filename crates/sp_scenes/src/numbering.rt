@@ -14,7 +14,11 @@ use std::collections::BTreeMap;
 
 /// The label of each heading, with the scene records where scenes are locked (docs/RULES.md, "Scene numbers").
 /// `AllocError` comes for want of memory alone.
-pub fn numbers(alloc: Global, headings: &[HeadingAt], records: Option<&[SceneRecord]>) -> Result<Vec<Label>, AllocError>
+pub fn numbers(
+    alloc: Global,
+    headings: &[HeadingAt],
+    records: Option<&[SceneRecord]>,
+) -> Result<Vec<Label>, AllocError>
     requires headings { AreHeadings headings.now }
     requires records { ForSome records (λ records. AreSceneRecords records.now) }
     ensures numbers { IfOk result (λ labels. labels.items ≡ scene_labels headings.now (option_copied records.entry)) }
@@ -58,7 +62,12 @@ fn unlocked_label(alloc: Global, heading: &HeadingAt, before: u32) -> Result<Lab
 }
 
 /// The labels with records, of which the places by line are given.
-pub(crate) fn locked(alloc: Global, headings: &[HeadingAt], records: &[SceneRecord], places: &BTreeMap<u64, usize>) -> Result<Vec<Label>, AllocError>
+pub(crate) fn locked(
+    alloc: Global,
+    headings: &[HeadingAt],
+    records: &[SceneRecord],
+    places: &BTreeMap<u64, usize>,
+) -> Result<Vec<Label>, AllocError>
     requires headings { AreHeadings headings.now }
     requires records { AreSceneRecords records.now }
     requires places { (line : ℕ) → get nat_cmp places.now line ≡ line_place records.now line }
@@ -82,7 +91,13 @@ pub(crate) fn locked(alloc: Global, headings: &[HeadingAt], records: &[SceneReco
 }
 
 /// Puts the labels of so many new headings behind the others, and behind these the label of the record at a place.
-fn push_recorded(alloc: Global, labels: &mut Vec<Label>, records: &[SceneRecord], place: usize, count: u32) -> Result<(), AllocError>
+fn push_recorded(
+    alloc: Global,
+    labels: &mut Vec<Label>,
+    records: &[SceneRecord],
+    place: usize,
+    count: u32,
+) -> Result<(), AllocError>
     requires records { AreSceneRecords records.now }
     requires place { place < length records.now }
     requires few { count ≤ 200000 }
@@ -95,7 +110,13 @@ fn push_recorded(alloc: Global, labels: &mut Vec<Label>, records: &[SceneRecord]
 }
 
 /// Puts the labels of so many new headings behind the others, before the record at a place.
-fn push_new(alloc: Global, labels: &mut Vec<Label>, records: &[SceneRecord], place: usize, count: u32) -> Result<(), AllocError>
+fn push_new(
+    alloc: Global,
+    labels: &mut Vec<Label>,
+    records: &[SceneRecord],
+    place: usize,
+    count: u32,
+) -> Result<(), AllocError>
     requires records { AreSceneRecords records.now }
     requires place { place ≤ length records.now }
     requires few { count ≤ 200000 }
@@ -108,7 +129,12 @@ fn push_new(alloc: Global, labels: &mut Vec<Label>, records: &[SceneRecord], pla
 }
 
 /// The `m`-th label before the record at a place, or behind all records at their end.
-fn label_between(alloc: Global, records: &[SceneRecord], place: usize, m: u32) -> Result<Label, AllocError>
+fn label_between(
+    alloc: Global,
+    records: &[SceneRecord],
+    place: usize,
+    m: u32,
+) -> Result<Label, AllocError>
     requires records { AreSceneRecords records.now }
     requires place { place ≤ length records.now }
     requires some { 0 < m }

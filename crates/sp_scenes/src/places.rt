@@ -9,7 +9,10 @@ use std::alloc::{AllocError, Global};
 use std::collections::BTreeMap;
 
 /// The place of each record by the id of its line.
-pub(crate) fn places_of(alloc: Global, records: &[SceneRecord]) -> Result<BTreeMap<u64, usize>, AllocError>
+pub(crate) fn places_of(
+    alloc: Global,
+    records: &[SceneRecord],
+) -> Result<BTreeMap<u64, usize>, AllocError>
     requires { AreSceneRecords records.now }
     ensures { IfOk result (λ places. (line : ℕ) → get nat_cmp places line ≡ line_place records.now line) }
 {

@@ -22,7 +22,7 @@ loop-heading-preserved c =
     let here : c.heading.inside.id ≡ (get_or c.args.headings.now c.loop-heading.heading-index d).id = ap (λ (it : HeadingOf). it.id) (c.heading.view_is ∙ c.heading-item.is) in
     let listed : get nat_cmp c.args.places.now c.heading.inside.id ≡ line_place c.args.records.now c.heading.inside.id = c.requires.places c.heading.inside.id in
     elim c.match-get.branch [
-      in-Some+in_ok-push_recorded-in-Some w ↦ record {
+      | in-Some+in_ok-push_recorded-in-Some w ↦ record {
         labelled =
             Labelled-recorded c.args.records.now c.args.headings.now c.loop-heading.labels.items c.match-get.labels.items c.loop-heading.waiting c.match-get.waiting c.loop-heading.heading-index
             c.heading.inside.id w.in-Some.place.now _ d c.loop-heading-test.true here (sym listed ∙ sym w.in-Some.ensures.value)
