@@ -1,5 +1,5 @@
 -- Elements that a part of theirs tells apart stay so in another order.
-use Rattle.std.proofs.Common.{◌≡◌, ◌≢◌, ℕ, ◌<◌, ◌==◌, Bool, true, List, [], ◌∷◌, ◌++◌, length, map, get_or, nat_cmp, Ordering, Less, Equal, Greater, refl, ap, sym, ◌∙◌, arith}
+use Rattle.std.proofs.Common.{◌≡◌, ◌≢◌, ℕ, ◌==◌, Bool, true, List, [], ◌∷◌, ◌++◌, map, get_or, Ordering, Less, Equal, Greater, refl, ap, sym, ◌∙◌, arith}
 use Rattle.std.specs.Prelude.{All, AllPairs, IsPermutation}
 use Rattle.std.specs.Bool.{Decides}
 use Rattle.std.specs.Ordering.{is_eq, ordering_reverse}
@@ -12,7 +12,6 @@ use Rattle.std.proofs.lemmas.List.Sorted.{IsPermutation-map}
 use Rattle.std.proofs.lemmas.Map.Keys.{IsDistinct-IsPermutation}
 use Rattle.std.proofs.lemmas.Map.Made.{AllPairs-from_IsDistinct, IsDistinct-from_AllPairs}
 use Rattle.spec_labels.specs.Labels.{LabelOf, label_cmp}
-use Rattle.spec_labels.specs.Scenes.{SceneRecordOf}
 use Rattle.spec_labels.proofs.LabelOrder.{label_cmp_total, label_cmp-Equal}
 use Rattle.spec_labels.proofs.SceneLabels.{AllPairs-head, AllPairs-tail}
 

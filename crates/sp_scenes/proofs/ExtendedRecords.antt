@@ -1,19 +1,19 @@
 -- Extended records keep what records keep.
-use Rattle.std.proofs.Common.{◌≡◌, ◌≢◌, ℕ, zero, suc, ◌+◌, ◌<◌, ◌≤◌, ◌==◌, Bool, true, false, not, cond, List, [], ◌∷◌, ◌++◌, length, get_or, ⊎_elim, refl, ap, sym, ◌∙◌, subst, eq-eqb, ltb-false, arith}
-use Rattle.std.specs.Prelude.{Option, Some, None, All, AllPairs, IsPermutation, filter, is_some, map, option_map, slice_get, unwrap_or, nat_lt}
+use Rattle.std.proofs.Common.{◌≡◌, ◌≢◌, ℕ, zero, suc, ◌+◌, ◌<◌, ◌≤◌, ◌==◌, true, false, not, cond, List, [], ◌∷◌, ◌++◌, length, get_or, ⊎_elim, refl, ap, sym, ◌∙◌, subst, eq-eqb, ltb-false, arith}
+use Rattle.std.specs.Prelude.{Option, Some, None, All, AllPairs, IsPermutation, filter, is_some, option_map, slice_get, unwrap_or, nat_lt}
 use Rattle.std.specs.List.{position_or_len}
 use Rattle.std.specs.List.Sorted.{IsSortedBy}
 use Rattle.std.proofs.lemmas.Bool.{cases_Bool}
-use Rattle.std.proofs.lemmas.List.Elements.{All-nil, All-cons, All-head, All-tail, All-weaker, All-filter, All-append, filter_passes}
+use Rattle.std.proofs.lemmas.List.Elements.{All-nil, All-cons, All-head, All-tail, All-filter, All-append, filter_passes}
 use Rattle.std.proofs.lemmas.List.Kept.{AllPairs-filter}
 use Rattle.std.proofs.lemmas.List.Sorted.{All-permutation, IsPermutation-sym, IsPermutation-trans}
 use Rattle.std.proofs.lemmas.Option.{slice_get_within, get_or_from_slice_get}
-use Rattle.std.proofs.lemmas.List.Sums.{prefix_len_passes, prefix_len-le-length}
+use Rattle.std.proofs.lemmas.List.Sums.{prefix_len_passes}
 use Rattle.spec_labels.specs.Labels.{LabelOf, IsLabel, plain_label, Below, between}
 use Rattle.spec_labels.specs.Scenes.{HeadingOf, SceneRecordOf, AreHeadings, AreSceneRecords, first_place, label_at, label_before, label_between, labels_since, line_place, locked_labels, record_place, record_places, records_of, new_records, extended_records}
 use Rattle.spec_labels.proofs.LabelOrder.{Below-transitive}
 use Rattle.spec_labels.proofs.SceneLabels.{Within, record_places-Within}
-use Rattle.spec_labels.proofs.SceneRecordLaws.{Before, Differs, extended_records-permutation, extended_records-rise, all_records-Differ, length-extended_records}
+use Rattle.spec_labels.proofs.SceneRecordLaws.{extended_records-permutation, extended_records-rise, all_records-Differ, length-extended_records}
 use Rattle.spec_labels.proofs.SceneSpots.{label_of-within, label_between-above}
 use Rattle.sp_scenes.specs.Extending.{is_before}
 use Rattle.sp_scenes.specs.Locking.{AreWithin}
@@ -154,6 +154,10 @@ extended_records-within limit records headings are =
           (new-All (λ (it : LabelOf). it.number ≤ top) records headings
           (labels_since-low records 0 (record_places records headings) (limit + length records) top are.low (record_places-Within records headings) (omega (arith, count, new))));
     }
+
+-- So the numbers of few records stay below the greatest one that is recorded.
+pub within-low : (records : List SceneRecordOf) → length records ≤ 100000 → AreWithin 999999999 records → All (λ (it : SceneRecordOf). it.label.number ≤ 2000000000) records
+within-low records few are = λ k d within. let low = are.low k d within in omega (arith, low, few)
 
 -- A line of a record has a place.
 line_place-some : (records : List SceneRecordOf) (line j : ℕ) (d : SceneRecordOf) → j < length records → (get_or records j d).line ≡ line → is_some (line_place records line) ≡ true

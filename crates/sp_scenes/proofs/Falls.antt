@@ -1,6 +1,6 @@
 -- The first label that isn't above the one before it.
-use Rattle.std.proofs.Common.{◌≡◌, ℕ, zero, suc, ◌+◌, ◌<◌, ◌≤◌, Bool, true, false, not, cond, List, [], ◌∷◌, length, get_or, drop, drop-cons, add-one, is_lt, Ordering, Less, Equal, Greater, refl, ap, ap₂, sym, ◌∙◌, arith}
-use Rattle.std.specs.Prelude.{Option, Some, None, All, AllPairs, IfSome, zip, position, option_map, option_and_then, slice_get}
+use Rattle.std.proofs.Common.{◌≡◌, ℕ, suc, ◌+◌, ◌<◌, ◌≤◌, Bool, true, false, not, cond, List, [], ◌∷◌, length, get_or, drop, drop-cons, add-one, is_lt, Ordering, Less, Equal, Greater, refl, ap, ap₂, sym, ◌∙◌, arith}
+use Rattle.std.specs.Prelude.{Option, Some, None, AllPairs, zip, position, option_map, option_and_then, slice_get}
 use Rattle.std.specs.List.{position_from}
 use Rattle.std.proofs.lemmas.Iterator.Adapters.{position_from-zero}
 use Rattle.std.proofs.lemmas.List.{drop_all}
@@ -8,7 +8,7 @@ use Rattle.std.proofs.lemmas.List.Elements.{All-cons, All-weaker}
 use Rattle.std.proofs.lemmas.List.Kept.{AllPairs-cons}
 use Rattle.std.proofs.lemmas.List.Quantifiers.{position-Some}
 use Rattle.std.proofs.lemmas.Option.{slice_get-get_or}
-use Rattle.spec_labels.specs.Labels.{LabelOf, plain_label, label_cmp, Below}
+use Rattle.spec_labels.specs.Labels.{LabelOf, label_cmp, Below}
 use Rattle.spec_labels.specs.Scenes.{HeadingOf, first_fall, unlocked_labels, disordered_place}
 use Rattle.spec_labels.proofs.LabelOrder.{Below-transitive}
 use Rattle.spec_labels.proofs.SceneLabels.{AllPairs-head}

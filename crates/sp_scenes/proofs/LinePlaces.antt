@@ -1,5 +1,5 @@
 -- The place of a line's record among the first records.
-use Rattle.std.proofs.Common.{◌≡◌, ℕ, ◌+◌, ◌-◌, ◌<◌, ◌≤◌, ◌==◌, Bool, true, false, not, List, [], ◌∷◌, ◌++◌, length, cond, get_or, take, nat_lt, eqb-true, eq-eqb, ltb-true, ltb-false, ne_eqb, nat_cmp, Less, Equal, Greater, ⊎_elim, refl, ap, sym, ◌∙◌, subst, length-append, arith}
+use Rattle.std.proofs.Common.{◌≡◌, ℕ, ◌+◌, ◌<◌, ◌==◌, Bool, true, false, not, List, [], ◌∷◌, ◌++◌, length, cond, get_or, take, nat_lt, eqb-true, eq-eqb, ltb-true, ltb-false, ne_eqb, nat_cmp, Less, Equal, Greater, ⊎_elim, refl, ap, sym, ◌∙◌, subst, length-append, arith}
 use Rattle.std.specs.Prelude.{Option, Some, None, position}
 use Rattle.std.specs.List.{position_or_len}
 use Rattle.std.specs.Ordering.{is_eq}

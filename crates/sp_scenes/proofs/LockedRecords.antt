@@ -1,12 +1,11 @@
 -- The records that locking makes keep what records keep.
-use Rattle.std.proofs.Common.{◌≡◌, ◌≢◌, ℕ, zero, suc, ◌+◌, ◌<◌, ◌≤◌, ◌==◌, ◌&&◌, Bool, true, false, cond, List, [], ◌∷◌, length, Less, ne_eqb, eqb-true, nat_cmp, ⊎_elim, refl, ap, ap₂, sym, ◌∙◌, subst, arith}
+use Rattle.std.proofs.Common.{◌≡◌, ℕ, zero, suc, ◌+◌, ◌<◌, ◌≤◌, ◌==◌, ◌&&◌, Bool, true, false, cond, List, [], ◌∷◌, length, Less, nat_cmp, refl, ap, ap₂, sym, ◌∙◌, subst, arith}
 use Rattle.std.specs.Prelude.{Option, Some, None, All, IfSome, OnSome, IsTrue, find, option_map, unwrap_or}
 use Rattle.std.specs.Cmp.{nat_cmp_is}
 use Rattle.std.specs.Cmp.Lexicographic.{slice_cmp}
 use Rattle.std.specs.Ordering.{ordering_then}
 use Rattle.std.specs.Option.{option_map_or}
-use Rattle.std.proofs.lemmas.Bool.{cases_Bool}
-use Rattle.std.proofs.lemmas.List.Elements.{All-nil, All-cons, All-head, All-tail, All-weaker}
+use Rattle.std.proofs.lemmas.List.Elements.{All-nil, All-cons, All-head, All-tail}
 use Rattle.spec_labels.specs.Labels.{LabelOf, IsLabel, plain_label, Below}
 use Rattle.spec_labels.specs.Scenes.{HeadingOf, SceneRecordOf, IsSceneLabel, IsNumbered, AreHeadings, AreSceneRecords, is_unlockable, unlockable_place, disordered_place, numbers_after, unlocked_labels, locked_records}
 use Rattle.sp_scenes.specs.Locking.{AreWithin}

@@ -1,5 +1,5 @@
 -- What locking scenes answers (docs/RULES.md, "Scene numbers").
-use Rattle.std.specs.Prelude.{◌≡◌, ℕ, ◌+◌, ◌<◌, ◌≤◌, List, length, All, Option, Some, None, Result, Ok, Err, Vec}
+use Rattle.std.specs.Prelude.{◌≡◌, ℕ, ◌+◌, ◌<◌, ◌≤◌, List, length, All, Some, None, Result, Ok, Err, Vec}
 use Rattle.std.specs.Global.{Global}
 use Rattle.spec_labels.specs.Scenes.{HeadingOf, SceneRecordOf, scene_record_limit, unlockable_place, disordered_place, locked_records}
 use Rattle.sp_scenes.specs.declared.fault.SceneFault.{SceneFault}

@@ -1,6 +1,5 @@
 use Rattle.std.proofs.Common.{◌≡◌, ◌<◌, length, ap, sym, ◌∙◌, arith}
-use Rattle.std.specs.Prelude.{Some, None}
-use Rattle.std.proofs.lemmas.Grind.{common_steps}
+use Rattle.std.specs.Prelude.{Some}
 use Rattle.spec_labels.specs.Scenes.{HeadingOf, first_fall, unlocked_labels}
 use Rattle.sp_scenes.proofs.Falls.{disordered_place-at, disordered_place-none}
 use Rattle.sp_scenes.proofs.Labels.{length-unlocked_labels}

@@ -1,4 +1,4 @@
-use Rattle.std.proofs.Common.{◌≡◌, true, false, is_lt, sym, arith}
+use Rattle.std.proofs.Common.{◌≡◌, true, false, is_lt, arith}
 use Rattle.std.proofs.lemmas.Grind.{common_steps}
 use Rattle.spec_labels.specs.Labels.{label_cmp}
 use Rattle.sp_scenes.proofs.Falls.{StandAt, Rises-none, Rises-more, Rises-falls, Rises-all}

@@ -1,4 +1,4 @@
-use Rattle.std.proofs.Common.{◌≡◌, List, ap, sym, ◌∙◌, subst, arith}
+use Rattle.std.proofs.Common.{◌≡◌, List, ap, sym, ◌∙◌, subst}
 use Rattle.spec_labels.specs.Scenes.{SceneRecordOf, AreSceneRecords, locked_records, records_of}
 use Rattle.sp_scenes.specs.Locking.{AreWithin}
 use Rattle.sp_scenes.proofs.LockedRecords.{locked_records-kept, locked_records-within}
