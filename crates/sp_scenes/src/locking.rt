@@ -11,10 +11,10 @@ use std::alloc::{AllocError, Global};
 /// Scene records.
 pub(crate) const RECORD_LIMIT: usize = 100_000;
 
-/// The records of all headings with the labels that they have without records. It refuses, in this order: SceneForm
-/// for the first heading whose written number is no label or is label 0; SceneOrder for the first heading whose label
-/// isn't above that of the heading before it; RecordsFull for more than 100,000 headings (docs/RULES.md, "Scene
-/// numbers").
+/// The records of all headings with the labels that they have without records (docs/RULES.md, "Scene numbers"). It
+/// takes headings as `numbers` does. It refuses, in this order: SceneForm with the place of the first heading whose
+/// written number is no label or is label 0; SceneOrder with the place of the first heading whose label isn't above that
+/// of the heading before it; RecordsFull for more than 100,000 headings. NoMemory may come in place of any answer.
 pub fn lock_scenes(alloc: Global, headings: &[HeadingAt]) -> Result<Vec<SceneRecord>, SceneFault>
     requires { AreHeadings headings.now }
     ensures locking { IsLocking headings.now result }

@@ -12,8 +12,10 @@ use sp_labels::{Label, between};
 use std::alloc::{AllocError, Global};
 use std::collections::BTreeMap;
 
-/// The label of each heading, with the scene records where scenes are locked (docs/RULES.md, "Scene numbers").
-/// `AllocError` comes for want of memory alone.
+/// The label of each heading, with the scene records where scenes are locked (docs/RULES.md, "Scene numbers"). It takes
+/// the headings of a text, at most 200,000: their places rise strictly, their ids are distinct, and a number is given
+/// only where one is written. Records have distinct lines, and labels above label 0 which rise strictly and whose
+/// numbers are at most 2,000,000,000. `AllocError` comes for want of memory alone.
 pub fn numbers(
     alloc: Global,
     headings: &[HeadingAt],
