@@ -7,3 +7,4 @@ pub mod SceneRows
 pub mod SceneSpots
 pub mod SceneLabels
 pub mod SceneRecordLaws
+pub mod PageRows
