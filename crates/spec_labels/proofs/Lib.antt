@@ -8,3 +8,4 @@ pub mod SceneSpots
 pub mod SceneLabels
 pub mod SceneRecordLaws
 pub mod PageRows
+pub mod PageRecordLaws
