@@ -9,3 +9,4 @@ pub mod SceneLabels
 pub mod SceneRecordLaws
 pub mod PageRows
 pub mod PageRecordLaws
+pub mod SheetLaws
