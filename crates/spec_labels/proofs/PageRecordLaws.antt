@@ -9,8 +9,10 @@ use Rattle.std.proofs.lemmas.List.Folds.{list_any_at}
 use Rattle.std.proofs.lemmas.List.Kept.{AllPairs-cons, AllPairs-filter}
 use Rattle.std.proofs.lemmas.List.Sorted.{IsPermutation-refl, IsPermutation-sym, IsPermutation-trans, IsPermutation-cons, IsPermutation-middle, IsPermutation-append_left, All-permutation, length_permutation}
 use Rattle.spec_text.specs.Lines.{LineState}
+use Rattle.spec_labels.specs.declared.Moved.{Moved}
+use Rattle.spec_labels.specs.declared.RowKey.{RowKey}
 use Rattle.spec_labels.specs.Labels.{LabelOf, IsLabel, label_cmp, Below}
-use Rattle.spec_labels.specs.PageRecords.{RowKeyOf, PageRecordOf, SheetOf, MovedOf, RisingRecords, end_line, is_present, line_from, is_removed, carried, carried_records, moved_of, moved_from, moved_at, with_anchor, put_back_from, put_back_records, is_recorded, record_of_sheet, is_new, new_page_records, put_in, extended_page_records}
+use Rattle.spec_labels.specs.PageRecords.{PageRecordOf, SheetOf, RisingRecords, end_line, is_present, line_from, is_removed, carried, carried_records, moved_of, moved_from, moved_at, with_anchor, put_back_from, put_back_records, is_recorded, record_of_sheet, is_new, new_page_records, put_in, extended_page_records}
 use Rattle.spec_labels.proofs.LabelOrder.{label_cmp_total, Below-irreflexive, Below-transitive, Below-total}
 use Rattle.spec_labels.proofs.SceneLabels.{AllPairs-head, AllPairs-tail}
 
@@ -85,11 +87,11 @@ all_put_in-rises records (new ∷ news) rising own differs =
     (λ k d within. put_in-All (λ r. Differs r (get_or news k d)) records new (AllPairs-head Differs new news own k d within) (All-tail P new news differs k d within))
 
 -- The extended list has the old records and the new ones, and no others.
-pub extended_page_records-permutation : (records : List PageRecordOf) (sheets : List SheetOf) (keys : List RowKeyOf)
+pub extended_page_records-permutation : (records : List PageRecordOf) (sheets : List SheetOf) (keys : List RowKey)
     → IsPermutation (records ++ new_page_records records sheets keys) (extended_page_records records sheets keys)
 extended_page_records-permutation records sheets keys = all_put_in-permutation records (new_page_records records sheets keys)
 
-pub length-extended_page_records : (records : List PageRecordOf) (sheets : List SheetOf) (keys : List RowKeyOf)
+pub length-extended_page_records : (records : List PageRecordOf) (sheets : List SheetOf) (keys : List RowKey)
     → length (extended_page_records records sheets keys) ≡ length records + length (new_page_records records sheets keys)
 length-extended_page_records records sheets keys =
     length_permutation (records ++ new_page_records records sheets keys) (extended_page_records records sheets keys) (extended_page_records-permutation records sheets keys)
@@ -103,13 +105,13 @@ not_recorded-differs records label none k d within same =
     let no_more : true ≡ false = sym (list_any_at test records k d within here) ∙ none in cc
 
 -- What holds of the sheets that are made records holds of the new records.
-new_records-All : (P : PageRecordOf → Type 0) (records : List PageRecordOf) (sheets : List SheetOf) (keys : List RowKeyOf)
+new_records-All : (P : PageRecordOf → Type 0) (records : List PageRecordOf) (sheets : List SheetOf) (keys : List RowKey)
     → ((sheet : SheetOf) → is_new records sheet ≡ true → P (record_of_sheet keys sheet)) → All P (new_page_records records sheets keys)
 new_records-All P records sheets keys each =
     All-map P (record_of_sheet keys) (filter (is_new records) sheets) (λ k d within. each (get_or (filter (is_new records) sheets) k d) (filter_passes (is_new records) sheets k d within))
 
 -- New records have labels that no old one has.
-pub new_records-differ : (records : List PageRecordOf) (sheets : List SheetOf) (keys : List RowKeyOf) → All (λ new. All (λ it. Differs it new) records) (new_page_records records sheets keys)
+pub new_records-differ : (records : List PageRecordOf) (sheets : List SheetOf) (keys : List RowKey) → All (λ new. All (λ it. Differs it new) records) (new_page_records records sheets keys)
 new_records-differ records sheets keys =
     new_records-All (λ new. All (λ it. Differs it new) records) records sheets keys (λ sheet passes.
     not_recorded-differs records sheet.first (off (is_recorded records sheet.first) (and_parts _ _ passes).1))
@@ -119,7 +121,7 @@ new_records-differ records sheets keys =
     off false h = refl
 
 -- New records rise as the sheets do.
-pub new_records-rise : (records : List PageRecordOf) (sheets : List SheetOf) (keys : List RowKeyOf) → AllPairs (λ (one other : SheetOf). Below one.first other.first) sheets
+pub new_records-rise : (records : List PageRecordOf) (sheets : List SheetOf) (keys : List RowKey) → AllPairs (λ (one other : SheetOf). Below one.first other.first) sheets
     → RisingRecords (new_page_records records sheets keys)
 new_records-rise records sheets keys rising = mapped (filter (is_new records) sheets) (AllPairs-filter (λ (one other : SheetOf). Below one.first other.first) (is_new records) sheets rising)
   where
@@ -136,7 +138,7 @@ rising-Differ records rising = λ i j d less within same.
     Below-irreflexive (get_or records j d).label (subst (λ l. Below l (get_or records j d).label) same (rising i j d less within))
 
 -- After all sheets with rows are records the labels still rise strictly.
-pub extended_page_records-rise : (records : List PageRecordOf) (sheets : List SheetOf) (keys : List RowKeyOf) → RisingRecords records
+pub extended_page_records-rise : (records : List PageRecordOf) (sheets : List SheetOf) (keys : List RowKey) → RisingRecords records
     → AllPairs (λ (one other : SheetOf). Below one.first other.first) sheets → RisingRecords (extended_page_records records sheets keys)
 extended_page_records-rise records sheets keys rising firsts =
     let news = new_page_records records sheets keys in
@@ -190,7 +192,7 @@ put_back-first : (lines : List LineState) (place index : ℕ) (it : PageRecordOf
     → with_anchor (carried lines place it) (moved_at (moved_from lines index (it ∷ records)) index) ≡ it
 put_back-first lines place index it records = by (is_removed lines it)
   where
-    later : List MovedOf
+    later : List Moved
     later = moved_from lines (index + 1) records
 
     by : (b : Bool) → with_anchor (cond b (record { label = it.label; line = line_from lines place; row = 0; changed = it.changed }) it) (moved_at (cond b (moved_of index it ∷ later) later) index) ≡ it
@@ -199,7 +201,7 @@ put_back-first lines place index it records = by (is_removed lines it)
         (eq-eqb index index refl)
     by false = ap (with_anchor it) (moved_from-below lines (index + 1) index records (omega arith))
 
-put_back_from-carried : (lines : List LineState) (place index : ℕ) (records : List PageRecordOf) (moved : List MovedOf)
+put_back_from-carried : (lines : List LineState) (place index : ℕ) (records : List PageRecordOf) (moved : List Moved)
     → ((k : ℕ) → index ≤ k → moved_at moved k ≡ moved_at (moved_from lines index records) k) → put_back_from moved index (carried_records lines place records) ≡ records
 put_back_from-carried lines place index [] moved same = refl
 put_back_from-carried lines place index (it ∷ records) moved same =

@@ -3,8 +3,10 @@ use Rattle.std.proofs.Common.{◌≡◌, ℕ, true, false, List, [], ◌∷◌, 
 use Rattle.std.specs.Prelude.{codes}
 use Rattle.std.specs.Fmt.{digits}
 use Rattle.spec_text.specs.Lines.{LineState}
+use Rattle.spec_labels.specs.declared.Moved.{Moved}
+use Rattle.spec_labels.specs.declared.RowKey.{RowKey}
 use Rattle.spec_labels.specs.Labels.{LabelOf, plain_label, label_text}
-use Rattle.spec_labels.specs.PageRecords.{RowKeyOf, PageRecordOf, SheetOf, MovedOf, end_line, record_starts, sheets_of_records, carried_records, moved_from, put_back_records, extended_page_records}
+use Rattle.spec_labels.specs.PageRecords.{PageRecordOf, SheetOf, end_line, record_starts, sheets_of_records, carried_records, moved_from, put_back_records, extended_page_records}
 
 abbrev label : ℕ → List ℕ → LabelOf
 label number path = record { number = number; path = path }
@@ -13,7 +15,7 @@ label number path = record { number = number; path = path }
 abbrev line : ℕ → LineState
 line id = record { id = id; mark = 0; text = [] }
 
-abbrev key : ℕ → ℕ → RowKeyOf
+abbrev key : ℕ → ℕ → RowKey
 key id row = record { line = id; row = row }
 
 abbrev recorded : LabelOf → ℕ → ℕ → ℕ → PageRecordOf

@@ -3,6 +3,8 @@ use Rattle.std.specs.Prelude.{◌≡◌, ◌≢◌, ℕ, ◌+◌, ◌-◌, ◌^�
 use Rattle.std.specs.List.{list_any, list_all, position_or_len}
 use Rattle.std.specs.Ordering.{is_lt, is_eq}
 use Rattle.spec_text.specs.Lines.{LineState}
+use Rattle.spec_labels.specs.declared.Moved.{Moved}
+use Rattle.spec_labels.specs.declared.RowKey.{RowKey}
 use Rattle.spec_labels.specs.Labels.{LabelOf, IsLabel, label_cmp, Below, between}
 use Rattle.spec_labels.specs.Scenes.{record_number_limit}
 
@@ -17,11 +19,6 @@ page_limit = 16777216
 -- In place of a line's id: the end of the text.
 abbrev pub end_line : ℕ
 end_line = 2 ^ 48
-
--- The key of a row: its line's id, and its number among the rows of that line's element.
-pub record RowKeyOf : Type 0 where
-  pub line : ℕ
-  pub row : ℕ
 
 -- A page record: its label, its anchor, and the round in which it last changed.
 pub record PageRecordOf : Type 0 where
@@ -38,31 +35,31 @@ abbrev pub is_present : List LineState → ℕ → Bool
 is_present lines id = nat_lt (line_at lines id) (length lines)
 
 -- A key is before another: its line stands at an earlier place, or at the same one and its row is lower.
-abbrev pub is_before : List LineState → RowKeyOf → RowKeyOf → Bool
+abbrev pub is_before : List LineState → RowKey → RowKey → Bool
 is_before lines one other =
     nat_lt (line_at lines one.line) (line_at lines other.line)
     || ((line_at lines one.line == line_at lines other.line) && nat_lt one.row other.row)
 
 -- The key at which a record is anchored.
-abbrev pub anchor_of : PageRecordOf → RowKeyOf
+abbrev pub anchor_of : PageRecordOf → RowKey
 anchor_of it = record { line = it.line; row = it.row }
 
 -- The first row whose key isn't before the anchor; the number of rows where there is none, or the anchor is the end.
-abbrev pub record_start : List LineState → List RowKeyOf → PageRecordOf → ℕ
+abbrev pub record_start : List LineState → List RowKey → PageRecordOf → ℕ
 record_start lines rows it =
     if it.line == end_line then length rows
-    else position_or_len (λ (key : RowKeyOf). not (is_before lines key (anchor_of it))) rows
+    else position_or_len (λ (key : RowKey). not (is_before lines key (anchor_of it))) rows
 
 -- Each record's first row. The first record starts at row 0.
-abbrev pub record_starts : List LineState → List RowKeyOf → List PageRecordOf → List ℕ
+abbrev pub record_starts : List LineState → List RowKey → List PageRecordOf → List ℕ
 record_starts lines rows [] = []
 record_starts lines rows (it ∷ records) = 0 ∷ map (record_start lines rows) records
 
 -- What starts ask for: each record's line is in the text or is the end, each row's line is in the text, and the keys of rows rise.
-pub record AreAnchored (lines : List LineState) (rows : List RowKeyOf) (records : List PageRecordOf) : Type 0 where
+pub record AreAnchored (lines : List LineState) (rows : List RowKey) (records : List PageRecordOf) : Type 0 where
   pub anchors : All (λ (it : PageRecordOf). it.line ≢ end_line → line_at lines it.line < length lines) records
-  pub keys : All (λ (key : RowKeyOf). line_at lines key.line < length lines) rows
-  pub rising : AllPairs (λ (one other : RowKeyOf). IsTrue (is_before lines one other)) rows
+  pub keys : All (λ (key : RowKey). line_at lines key.line < length lines) rows
+  pub rising : AllPairs (λ (one other : RowKey). IsTrue (is_before lines one other)) rows
 
 -- The rows of a record: its label and that of the next record, where they begin and end, and the record's round.
 pub record SegmentOf : Type 0 where
@@ -188,41 +185,34 @@ carried lines place it = if is_removed lines it then record { label = it.label; 
 abbrev pub carried_records : List LineState → ℕ → List PageRecordOf → List PageRecordOf
 carried_records lines place records = map (carried lines place) records
 
--- An anchor and a round that a record had, by the record's index.
-pub record MovedOf : Type 0 where
-  pub index : ℕ
-  pub line : ℕ
-  pub row : ℕ
-  pub changed : ℕ
-
 -- What a record has, under its index.
-abbrev pub moved_of : ℕ → PageRecordOf → MovedOf
+abbrev pub moved_of : ℕ → PageRecordOf → Moved
 moved_of index it = record { index = index; line = it.line; row = it.row; changed = it.changed }
 
 -- The old anchors of records of removed lines, where so many records stand before these.
-abbrev pub moved_from : List LineState → ℕ → List PageRecordOf → List MovedOf
+abbrev pub moved_from : List LineState → ℕ → List PageRecordOf → List Moved
 moved_from lines index [] = []
 moved_from lines index (it ∷ records) = if is_removed lines it then moved_of index it ∷ moved_from lines (index + 1) records else moved_from lines (index + 1) records
 
 -- A record with another anchor and round.
-abbrev pub with_anchor : PageRecordOf → Option MovedOf → PageRecordOf
+abbrev pub with_anchor : PageRecordOf → Option Moved → PageRecordOf
 with_anchor it None = it
 with_anchor it (Some moved) = record { label = it.label; line = moved.line; row = moved.row; changed = moved.changed }
 
 -- What is kept for the record of an index.
-abbrev pub moved_at : List MovedOf → ℕ → Option MovedOf
-moved_at moved index = find (λ (it : MovedOf). it.index == index) moved
+abbrev pub moved_at : List Moved → ℕ → Option Moved
+moved_at moved index = find (λ (it : Moved). it.index == index) moved
 
 -- Each record gets the anchor and the round that are kept for it, where so many records stand before these.
-abbrev pub put_back_from : List MovedOf → ℕ → List PageRecordOf → List PageRecordOf
+abbrev pub put_back_from : List Moved → ℕ → List PageRecordOf → List PageRecordOf
 put_back_from moved index [] = []
 put_back_from moved index (it ∷ records) = with_anchor it (moved_at moved index) ∷ put_back_from moved (index + 1) records
 
-abbrev pub put_back_records : List MovedOf → List PageRecordOf → List PageRecordOf
+abbrev pub put_back_records : List Moved → List PageRecordOf → List PageRecordOf
 put_back_records moved records = put_back_from moved 0 records
 
 -- What the records had for which something was kept.
-abbrev pub taken_back : List PageRecordOf → MovedOf → MovedOf
+abbrev pub taken_back : List PageRecordOf → Moved → Moved
 taken_back records moved = unwrap_or (option_map (moved_of moved.index) (slice_get records moved.index)) moved
 
 -- A record has this label.
@@ -230,7 +220,7 @@ abbrev pub is_recorded : List PageRecordOf → LabelOf → Bool
 is_recorded records label = list_any (λ (it : PageRecordOf). is_eq (label_cmp it.label label)) records
 
 -- A sheet with rows as a record: its label, the key of its first row, its round.
-abbrev pub record_of_sheet : List RowKeyOf → SheetOf → PageRecordOf
+abbrev pub record_of_sheet : List RowKey → SheetOf → PageRecordOf
 record_of_sheet keys sheet =
     let key = slice_index_or keys sheet.start (record { line = end_line; row = 0 }) in
     record { label = sheet.first; line = key.line; row = key.row; changed = sheet.round }
@@ -240,7 +230,7 @@ abbrev pub is_new : List PageRecordOf → SheetOf → Bool
 is_new records sheet = not sheet.omitted && not (is_recorded records sheet.first)
 
 -- The records of the sheets that are none yet.
-abbrev pub new_page_records : List PageRecordOf → List SheetOf → List RowKeyOf → List PageRecordOf
+abbrev pub new_page_records : List PageRecordOf → List SheetOf → List RowKey → List PageRecordOf
 new_page_records records sheets keys = map (record_of_sheet keys) (filter (is_new records) sheets)
 
 -- A record goes into the list by its label.
@@ -249,5 +239,5 @@ put_in [] new = new ∷ []
 put_in (it ∷ records) new = if is_lt (label_cmp it.label new.label) then it ∷ put_in records new else new ∷ it ∷ records
 
 -- The list with a record for every sheet with rows.
-abbrev pub extended_page_records : List PageRecordOf → List SheetOf → List RowKeyOf → List PageRecordOf
+abbrev pub extended_page_records : List PageRecordOf → List SheetOf → List RowKey → List PageRecordOf
 extended_page_records records sheets keys = fold put_in records (new_page_records records sheets keys)
