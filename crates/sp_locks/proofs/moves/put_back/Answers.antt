@@ -1,0 +1,36 @@
+use Rattle.std.proofs.Common.{◌≡◌, ◌∙◌, ℕ, ◌<◌, List, length, take, sym, ap, subst, arith}
+use Rattle.std.proofs.Math.ListN.{set}
+use Rattle.std.proofs.lemmas.List.Edits.{map_over_more}
+use Rattle.spec_labels.specs.declared.Moved.{Moved}
+use Rattle.spec_labels.specs.PageRecords.{PageRecordOf, put_back_records, taken_back}
+use Rattle.sp_locks.proofs.Exchanges.{put_back-none, length-put_back, Next, next-of, exchanged-records, exchanged-moved, kept-at}
+use Rattle.sp_locks.proofs.moves.put_back.Goals as goal
+
+pub loop-i-init : goal.loop-i-init
+loop-i-init c = record { back = sym (put_back-none 0 c.args.records.now.items); taken = λ i. c.args.moved.now.items }
+
+pub index_mut-requires : goal.index_mut-requires
+index_mut-requires c =
+    let records = c.args.records.now.items in
+    let moved = c.args.moved.now.items in
+    let within : c.loop-i.i < length moved = omega (arith, c.args.moved.now.ok.0) in
+    let is = kept-at (taken_back records) moved c.loop-i.moved.items c.loop-i.i c.index-it.result.now within c.loop-i.invariant.taken c.index-it.ensures in
+    let next = next-of moved c.loop-i.i records c.index-it.result.now within is c.requires.within c.requires.distinct in
+    omega (arith, next.inside, c.loop-i.records.ok.0, ap length c.loop-i.invariant.back, length-put_back (take c.loop-i.i moved) 0 records)
+
+pub loop-i-preserved : goal.loop-i-preserved
+loop-i-preserved c =
+    let records = c.args.records.now.items in
+    let moved = c.args.moved.now.items in
+    let it = c.index-it.result.now in
+    let one = c.index_mut.result.now in
+    let within : c.loop-i.i < length moved = omega (arith, c.args.moved.now.ok.0) in
+    let is = kept-at (taken_back records) moved c.loop-i.moved.items c.loop-i.i it within c.loop-i.invariant.taken c.index-it.ensures in
+    let next = next-of moved c.loop-i.i records it within is c.requires.within c.requires.distinct in
+    record {
+      back = ap (λ (r : PageRecordOf). set c.loop-i.records.items it.index r) c.exchange.ensures.«record»
+          ∙ exchanged-records moved c.loop-i.i records c.loop-i.records.items it one next c.loop-i.invariant.back c.index_mut.ensures.value;
+      taken = ap (λ (m : Moved). set c.loop-i.moved.items c.loop-i.i m)
+          (c.exchange.ensures.had ∙ exchanged-moved moved c.loop-i.i records c.loop-i.records.items it one next c.loop-i.invariant.back c.index_mut.ensures.value)
+          ∙ map_over_more (taken_back records) moved c.loop-i.moved.items c.loop-i.i it within c.loop-i.invariant.taken c.index-it.ensures;
+    }

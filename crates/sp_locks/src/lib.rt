@@ -1,0 +1,13 @@
+//! Page records: where their segments begin, their sheets, and what edits and rounds make of them.
+#![tactic(auto)]
+
+mod anchors;
+mod moves;
+mod places;
+mod record;
+
+pub use anchors::starts;
+pub use moves::{carry, put_back};
+pub use record::{END, PageRecord, Sheet};
+pub use sp_labels::LockFault;
+pub use spec_labels::{Moved, RowKey};
