@@ -3,10 +3,10 @@ use Rattle.std.proofs.Common.{◌≡◌, ℕ, zero, suc, ◌+◌, ◌-◌, ◌<�
 use Rattle.std.specs.Prelude.{Option, Some, None, All, AllPairs, IfSome, MatchOption, flat_map, slice_index_or, slice_get, unwrap_or, option_map}
 use Rattle.std.specs.List.{list_all}
 use Rattle.std.proofs.lemmas.Bool.{cases_Bool}
-use Rattle.std.proofs.lemmas.List.Elements.{All-nil, All-cons, All-head, All-tail, All-weaker, All-append}
+use Rattle.std.proofs.lemmas.List.Elements.{All-nil, All-cons, All-head, All-tail, All-weaker, All-append, All-map}
 use Rattle.std.proofs.lemmas.List.Kept.{AllPairs-cons}
 use Rattle.spec_labels.specs.Labels.{LabelOf, IsLabel, Below, between}
-use Rattle.spec_labels.specs.PageRecords.{PageRecordOf, RisingRecords, ArePageRecords, SegmentOf, first_label, segments, is_empty, SheetOf, segment_pages, page_label, page_sheet, page_sheets, omitted_sheet, onto_run, runs_of, run_sheets, sheets_of_records, AreSheets}
+use Rattle.spec_labels.specs.PageRecords.{PageRecordOf, RisingRecords, ArePageRecords, SegmentOf, first_label, segments, is_empty, SheetOf, segment_pages, page_label, page_sheet, page_sheets, owner_of, omitted_sheet, onto_run, runs_of, run_sheets, sheets_of_records, AreSheets}
 use Rattle.spec_labels.proofs.LabelOrder.{Below-transitive}
 use Rattle.spec_labels.proofs.LabelsBetween.{between-above, between-below, between-rises, between-IsLabel}
 use Rattle.spec_labels.proofs.SceneLabels.{AllPairs-head, AllPairs-tail}
@@ -67,44 +67,44 @@ Below-AtMost low middle high below upto =
 
 -- A segment has a label, and the next record's label is one above it.
 pub record IsSegment (it : SegmentOf) : Type 0 where
-  pub label : IsLabel it.label
-  pub next : IfSome it.next (λ next. Below it.label next × IsLabel next)
+  pub label : IsLabel it.owner.label
+  pub next : IfSome it.next (λ next. Below it.owner.label next × IsLabel next)
 
 -- A later segment's label is above a segment's own, and is the next record's or above it.
 pub record Leads (one other : SegmentOf) : Type 0 where
-  pub above : Below one.label other.label
-  pub next : MatchOption one.next ⊥ (λ next. AtMost next other.label)
+  pub above : Below one.owner.label other.owner.label
+  pub next : MatchOption one.next ⊥ (λ next. AtMost next other.owner.label)
 
 -- The labels of a segment's pages.
-pub page_label-later : (segment : SegmentOf) (m : ℕ) → 0 < m → page_label segment m ≡ between segment.label segment.next m
-page_label-later segment m some = ap (λ b. cond b segment.label (between segment.label segment.next m)) (ne_eqb m 0 (λ e. omega (arith, e, some)))
+pub page_label-later : (segment : SegmentOf) (m : ℕ) → 0 < m → page_label segment m ≡ between segment.owner.label segment.next m
+page_label-later segment m some = ap (λ b. cond b segment.owner.label (between segment.owner.label segment.next m)) (ne_eqb m 0 (λ e. omega (arith, e, some)))
 
-page_label-cases : (P : LabelOf → Type 0) (segment : SegmentOf) (m : ℕ) → P segment.label → (0 < m → P (between segment.label segment.next m)) → P (page_label segment m)
+page_label-cases : (P : LabelOf → Type 0) (segment : SegmentOf) (m : ℕ) → P segment.owner.label → (0 < m → P (between segment.owner.label segment.next m)) → P (page_label segment m)
 page_label-cases P segment zero first later = first
 page_label-cases P segment (suc m) first later = subst P (sym (page_label-later segment (suc m) (omega arith))) (later (omega arith))
 
-pub page_label-IsLabel : (segment : SegmentOf) (m : ℕ) → IsLabel segment.label → IsLabel (page_label segment m)
-page_label-IsLabel segment m label = page_label-cases IsLabel segment m label (λ some. between-IsLabel segment.label segment.next m some)
+pub page_label-IsLabel : (segment : SegmentOf) (m : ℕ) → IsLabel segment.owner.label → IsLabel (page_label segment m)
+page_label-IsLabel segment m label = page_label-cases IsLabel segment m label (λ some. between-IsLabel segment.owner.label segment.next m some)
 
-page_label-AtMost : (segment : SegmentOf) (m : ℕ) → AtMost segment.label (page_label segment m)
-page_label-AtMost segment m = page_label-cases (AtMost segment.label) segment m (inl refl) (λ some. inr (between-above segment.label segment.next m some))
+page_label-AtMost : (segment : SegmentOf) (m : ℕ) → AtMost segment.owner.label (page_label segment m)
+page_label-AtMost segment m = page_label-cases (AtMost segment.owner.label) segment m (inl refl) (λ some. inr (between-above segment.owner.label segment.next m some))
 
 page_label-rises : (segment : SegmentOf) (m n : ℕ) → m < n → Below (page_label segment m) (page_label segment n)
 page_label-rises segment m n less =
     subst (Below (page_label segment m)) (sym (page_label-later segment n (omega (arith, less))))
-    (page_label-cases (λ l. Below l (between segment.label segment.next n)) segment m
-    (between-above segment.label segment.next n (omega (arith, less)))
-    (λ some. between-rises segment.label segment.next m n less))
+    (page_label-cases (λ l. Below l (between segment.owner.label segment.next n)) segment m
+    (between-above segment.owner.label segment.next n (omega (arith, less)))
+    (λ some. between-rises segment.owner.label segment.next m n less))
 
 -- A page's label is below that of each later segment.
-page_label-below : (segment other : SegmentOf) (m : ℕ) → IsSegment segment → Leads segment other → Below (page_label segment m) other.label
+page_label-below : (segment other : SegmentOf) (m : ℕ) → IsSegment segment → Leads segment other → Below (page_label segment m) other.owner.label
 page_label-below segment other m is leads =
-    page_label-cases (λ l. Below l other.label) segment m leads.above (λ some. by segment.next is.next leads.next)
+    page_label-cases (λ l. Below l other.owner.label) segment m leads.above (λ some. by segment.next is.next leads.next)
   where
-    by : (next : Option LabelOf) → IfSome next (λ n. Below segment.label n × IsLabel n) → MatchOption next ⊥ (λ n. AtMost n other.label)
-        → Below (between segment.label next m) other.label
+    by : (next : Option LabelOf) → IfSome next (λ n. Below segment.owner.label n × IsLabel n) → MatchOption next ⊥ (λ n. AtMost n other.owner.label)
+        → Below (between segment.owner.label next m) other.owner.label
     by None known upto = absurd upto
-    by (Some next) known upto = Below-AtMost (between segment.label (Some next) m) next other.label (between-below segment.label next m known.0 known.1) upto
+    by (Some next) known upto = Below-AtMost (between segment.owner.label (Some next) m) next other.owner.label (between-below segment.owner.label next m known.0 known.1) upto
 
 -- What the sheets of a run keep.
 pub record Keeps (P : LabelOf → Type 0) (sheet : SheetOf) : Type 0 where
@@ -119,7 +119,7 @@ page_sheets-Keeps P segment m (page ∷ later) each =
     (page_sheets-Keeps P segment (m + 1) later (λ k upto. each k (omega (arith, upto))))
 
 -- The last of a run is one of it.
-last-All : (P : SegmentOf → Type 0) (segment : SegmentOf) (others : List SegmentOf) → All P (segment ∷ others) → P (slice_index_or others (length others - 1) segment)
+last-All : (P : PageRecordOf → Type 0) (segment : PageRecordOf) (others : List PageRecordOf) → All P (segment ∷ others) → P (slice_index_or others (length others - 1) segment)
 last-All P segment [] all = All-head P segment [] all
 last-All P segment (other ∷ others) all = All-tail P segment (other ∷ others) all (length (other ∷ others) - 1) segment (omega arith)
 
@@ -131,10 +131,13 @@ run_sheets-Keeps P pages (segment ∷ others) all =
     Q : SegmentOf → Type 0
     Q s = (m : ℕ) → P (page_label s m)
 
-    by : (b : Bool) → All (Keeps P) (cond b (omitted_sheet segment others ∷ []) (page_sheets segment 0 (segment_pages segment pages)))
+    owners : (ss : List SegmentOf) → All Q ss → All (λ (it : PageRecordOf). P it.label) (map owner_of ss)
+    owners ss each = All-map (λ (it : PageRecordOf). P it.label) owner_of ss (λ k d within. each k d within 0)
+
+    by : (b : Bool) → All (Keeps P) (cond b (omitted_sheet segment.start segment.owner (map owner_of others) ∷ []) (page_sheets segment 0 (segment_pages segment pages)))
     by true =
-        All-cons (Keeps P) (omitted_sheet segment others) []
-        (record { first = All-head Q segment others all 0; last = last-All Q segment others all 0 })
+        All-cons (Keeps P) (omitted_sheet segment.start segment.owner (map owner_of others)) []
+        (record { first = All-head Q segment others all 0; last = last-All (λ (it : PageRecordOf). P it.label) segment.owner (map owner_of others) (owners (segment ∷ others) all) })
         (All-nil (Keeps P))
     by false = page_sheets-Keeps P segment 0 (segment_pages segment pages) (λ k upto. All-head Q segment others all k)
 
@@ -165,7 +168,7 @@ run_sheets-rise : (pages : List ℕ) (run : List SegmentOf) → AllPairs Behind 
 run_sheets-rise pages [] = λ i j d less within. absurd (omega (arith, less, within))
 run_sheets-rise pages (segment ∷ others) = by (is_empty segment)
   where
-    by : (b : Bool) → AllPairs Behind (cond b (omitted_sheet segment others ∷ []) (page_sheets segment 0 (segment_pages segment pages)))
+    by : (b : Bool) → AllPairs Behind (cond b (omitted_sheet segment.start segment.owner (map owner_of others) ∷ []) (page_sheets segment 0 (segment_pages segment pages)))
     by true = λ i j d less within. absurd (omega (arith, less, within))
     by false = page_sheets-rise segment 0 (segment_pages segment pages)
 
@@ -186,17 +189,17 @@ runs-rise pages (run ∷ runs) all leads =
     above i e inside m j f there n =
         let one = get_or run i e in
         let other = get_or (in_runs runs) j f in
-        Below-AtMost (page_label one m) other.label (page_label other n)
+        Below-AtMost (page_label one m) other.owner.label (page_label other n)
         (page_label-below one other m (All-front IsSegment run (in_runs runs) all i e inside) (AllPairs-across Leads run (in_runs runs) leads i e inside j f there))
         (page_label-AtMost other n)
 
 -- What holds of the labels of records holds of those of their segments.
-segments-All : (P : LabelOf → Type 0) (rows : ℕ) (records : List PageRecordOf) (starts : List ℕ) → All (λ (it : PageRecordOf). P it.label) records → All (λ (s : SegmentOf). P s.label) (segments rows records starts)
-segments-All P rows [] starts all = All-nil (λ (s : SegmentOf). P s.label)
-segments-All P rows (it ∷ records) [] all = All-nil (λ (s : SegmentOf). P s.label)
+segments-All : (P : LabelOf → Type 0) (rows : ℕ) (records : List PageRecordOf) (starts : List ℕ) → All (λ (it : PageRecordOf). P it.label) records → All (λ (s : SegmentOf). P s.owner.label) (segments rows records starts)
+segments-All P rows [] starts all = All-nil (λ (s : SegmentOf). P s.owner.label)
+segments-All P rows (it ∷ records) [] all = All-nil (λ (s : SegmentOf). P s.owner.label)
 segments-All P rows (it ∷ records) (start ∷ starts) all =
-    All-cons (λ (s : SegmentOf). P s.label)
-    (record { label = it.label; next = first_label records; start = start; end = unwrap_or (slice_get starts 0) rows; round = it.changed }) (segments rows records starts)
+    All-cons (λ (s : SegmentOf). P s.owner.label)
+    (record { owner = it; next = first_label records; start = start; end = slice_index_or starts 0 rows }) (segments rows records starts)
     (All-head (λ (r : PageRecordOf). P r.label) it records all)
     (segments-All P rows records starts (All-tail (λ (r : PageRecordOf). P r.label) it records all))
 
@@ -207,7 +210,7 @@ segments-IsSegment rows (it ∷ records) (start ∷ starts) all rising =
     let P = λ (r : PageRecordOf). IsLabel r.label in
     let R = λ (one other : PageRecordOf). Below one.label other.label in
     All-cons IsSegment
-    (record { label = it.label; next = first_label records; start = start; end = unwrap_or (slice_get starts 0) rows; round = it.changed }) (segments rows records starts)
+    (record { owner = it; next = first_label records; start = start; end = slice_index_or starts 0 rows }) (segments rows records starts)
     (record { label = All-head P it records all; next = next records (All-tail P it records all) (AllPairs-head R it records rising) })
     (segments-IsSegment rows records starts (All-tail P it records all) (AllPairs-tail R it records rising))
   where
@@ -221,14 +224,14 @@ segments-Lead rows [] starts rising = λ i j d less within. absurd (omega (arith
 segments-Lead rows (it ∷ records) [] rising = λ i j d less within. absurd (omega (arith, less, within))
 segments-Lead rows (it ∷ records) (start ∷ starts) rising =
     let R = λ (one other : PageRecordOf). Below one.label other.label in
-    let here : SegmentOf = record { label = it.label; next = first_label records; start = start; end = unwrap_or (slice_get starts 0) rows; round = it.changed } in
+    let here : SegmentOf = record { owner = it; next = first_label records; start = start; end = slice_index_or starts 0 rows } in
     AllPairs-cons Leads here (segments rows records starts)
     (leads records (AllPairs-head R it records rising) (AllPairs-tail R it records rising))
     (segments-Lead rows records starts (AllPairs-tail R it records rising))
   where
     leads : (later : List PageRecordOf) → All (λ (r : PageRecordOf). Below it.label r.label) later → RisingRecords later
-        → All (Leads (record { label = it.label; next = first_label later; start = start; end = unwrap_or (slice_get starts 0) rows; round = it.changed })) (segments rows later starts)
-    leads [] above rises = All-nil (Leads (record { label = it.label; next = None; start = start; end = unwrap_or (slice_get starts 0) rows; round = it.changed }))
+        → All (Leads (record { owner = it; next = first_label later; start = start; end = slice_index_or starts 0 rows })) (segments rows later starts)
+    leads [] above rises = All-nil (Leads (record { owner = it; next = None; start = start; end = slice_index_or starts 0 rows }))
     leads (r ∷ later) above rises = λ k d within.
         record {
           above = segments-All (Below it.label) rows (r ∷ later) starts above k d within;

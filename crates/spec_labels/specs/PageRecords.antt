@@ -61,13 +61,12 @@ pub record AreAnchored (lines : List LineState) (rows : List RowKey) (records : 
   pub keys : All (λ (key : RowKey). line_at lines key.line < length lines) rows
   pub rising : AllPairs (λ (one other : RowKey). IsTrue (is_before lines one other)) rows
 
--- The rows of a record: its label and that of the next record, where they begin and end, and the record's round.
+-- The rows of a record: the record, the label of the next one, and where the rows begin and end.
 pub record SegmentOf : Type 0 where
-  pub label : LabelOf
+  pub owner : PageRecordOf
   pub next : Option LabelOf
   pub start : ℕ
   pub end : ℕ
-  pub round : ℕ
 
 -- The label of the first of some records.
 abbrev pub first_label : List PageRecordOf → Option LabelOf
@@ -78,11 +77,14 @@ abbrev pub segments : ℕ → List PageRecordOf → List ℕ → List SegmentOf
 segments rows [] starts = []
 segments rows (it ∷ records) [] = []
 segments rows (it ∷ records) (start ∷ starts) =
-    record { label = it.label; next = first_label records; start = start; end = unwrap_or (slice_get starts 0) rows; round = it.changed }
-    ∷ segments rows records starts
+    record { owner = it; next = first_label records; start = start; end = slice_index_or starts 0 rows } ∷ segments rows records starts
 
 abbrev pub is_empty : SegmentOf → Bool
 is_empty segment = nat_le segment.end segment.start
+
+-- The record of a segment.
+abbrev pub owner_of : SegmentOf → PageRecordOf
+owner_of segment = segment.owner
 
 -- A sheet: its label, or the first and the last one of the records that it stands for; its rows, its round, and whether it is omitted.
 pub record SheetOf : Type 0 where
@@ -99,26 +101,26 @@ segment_pages segment pages = filter (λ page. nat_le segment.start page && nat_
 
 -- The label of a segment's page: the first has the record's, the m-th behind it the m-th between that and the next record's.
 abbrev pub page_label : SegmentOf → ℕ → LabelOf
-page_label segment m = if m == 0 then segment.label else between segment.label segment.next m
+page_label segment m = if m == 0 then segment.owner.label else between segment.owner.label segment.next m
 
 -- A sheet of a segment's page, which ends where the next page begins, or the segment ends.
 abbrev pub page_sheet : SegmentOf → ℕ → ℕ → List ℕ → SheetOf
 page_sheet segment m page later =
-    record { first = page_label segment m; last = page_label segment m; start = page; end = unwrap_or (slice_get later 0) segment.end; round = segment.round; omitted = false }
+    record { first = page_label segment m; last = page_label segment m; start = page; end = slice_index_or later 0 segment.end; round = segment.owner.changed; omitted = false }
 
 -- The sheets of a segment's pages, where m pages stand before these.
 abbrev pub page_sheets : SegmentOf → ℕ → List ℕ → List SheetOf
 page_sheets segment m [] = []
 page_sheets segment m (page ∷ later) = page_sheet segment m page later ∷ page_sheets segment (m + 1) later
 
--- The greatest round of segments.
-abbrev pub greatest_round : SegmentOf → List SegmentOf → ℕ
-greatest_round segment others = fold (λ round (other : SegmentOf). max round other.round) segment.round others
+-- The greatest round of records.
+abbrev pub greatest_round : PageRecordOf → List PageRecordOf → ℕ
+greatest_round it others = fold (λ round (other : PageRecordOf). max round other.changed) it.changed others
 
--- The sheet of a run of empty segments: from the first label to the last, without rows, with the greatest round.
-abbrev pub omitted_sheet : SegmentOf → List SegmentOf → SheetOf
-omitted_sheet segment others =
-    record { first = segment.label; last = (slice_index_or others (length others - 1) segment).label; start = segment.start; end = segment.start; round = greatest_round segment others; omitted = true }
+-- The sheet of records without rows: from the first label to the last, with the greatest round.
+abbrev pub omitted_sheet : ℕ → PageRecordOf → List PageRecordOf → SheetOf
+omitted_sheet start it others =
+    record { first = it.label; last = (slice_index_or others (length others - 1) it).label; start = start; end = start; round = greatest_round it others; omitted = true }
 
 -- A segment goes onto the run behind it where both are empty, or else stands alone.
 abbrev pub onto_run : SegmentOf → List (List SegmentOf) → List (List SegmentOf)
@@ -133,7 +135,7 @@ runs_of (segment ∷ later) = onto_run segment (runs_of later)
 -- The sheets of a run: one for empty segments, else one for each page.
 abbrev pub run_sheets : List ℕ → List SegmentOf → List SheetOf
 run_sheets pages [] = []
-run_sheets pages (segment ∷ others) = if is_empty segment then omitted_sheet segment others ∷ [] else page_sheets segment 0 (segment_pages segment pages)
+run_sheets pages (segment ∷ others) = if is_empty segment then omitted_sheet segment.start segment.owner (map owner_of others) ∷ [] else page_sheets segment 0 (segment_pages segment pages)
 
 -- The sheets of records with these starts, in a text of so many rows and these pages, in print order.
 abbrev pub sheets_of_records : ℕ → List PageRecordOf → List ℕ → List ℕ → List SheetOf
