@@ -1,3 +1,5 @@
 pub mod PlaceLaws
 pub mod Exchanges
 pub mod Removals
+pub mod SheetRuns
+pub mod SheetWalk

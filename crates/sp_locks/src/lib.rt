@@ -5,9 +5,11 @@ mod anchors;
 mod moves;
 mod places;
 mod record;
+mod segments;
 
 pub use anchors::starts;
 pub use moves::{carry, put_back};
 pub use record::{END, PageRecord, Sheet};
+pub use segments::sheets;
 pub use sp_labels::LockFault;
 pub use spec_labels::{Moved, RowKey};

@@ -6,7 +6,7 @@ use Rattle.std.proofs.lemmas.Bool.{cases_Bool}
 use Rattle.std.proofs.lemmas.List.Elements.{All-nil, All-cons, All-head, All-tail, All-weaker, All-append, All-map}
 use Rattle.std.proofs.lemmas.List.Kept.{AllPairs-cons}
 use Rattle.spec_labels.specs.Labels.{LabelOf, IsLabel, Below, between}
-use Rattle.spec_labels.specs.PageRecords.{PageRecordOf, RisingRecords, ArePageRecords, SegmentOf, first_label, segments, is_empty, SheetOf, segment_pages, page_label, page_sheet, page_sheets, owner_of, omitted_sheet, onto_run, runs_of, run_sheets, sheets_of_records, AreSheets}
+use Rattle.spec_labels.specs.PageRecords.{PageRecordOf, RisingRecords, ArePageRecords, SegmentOf, IsSegment, first_label, segments, is_empty, SheetOf, segment_pages, page_label, page_sheet, page_sheets, owner_of, omitted_sheet, onto_run, runs_of, run_sheets, sheets_of_records, AreSheets}
 use Rattle.spec_labels.proofs.LabelOrder.{Below-transitive}
 use Rattle.spec_labels.proofs.LabelsBetween.{between-above, between-below, between-rises, between-IsLabel}
 use Rattle.spec_labels.proofs.SceneLabels.{AllPairs-head, AllPairs-tail}
@@ -64,11 +64,6 @@ AtMost-Below low middle high upto below =
 Below-AtMost : (low middle high : LabelOf) → Below low middle → AtMost middle high → Below low high
 Below-AtMost low middle high below upto =
     ⊎_elim (λ same. subst (Below low) same below) (λ less. Below-transitive below less) upto
-
--- A segment has a label, and the next record's label is one above it.
-pub record IsSegment (it : SegmentOf) : Type 0 where
-  pub label : IsLabel it.owner.label
-  pub next : IfSome it.next (λ next. Below it.owner.label next × IsLabel next)
 
 -- A later segment's label is above a segment's own, and is the next record's or above it.
 pub record Leads (one other : SegmentOf) : Type 0 where
@@ -194,7 +189,7 @@ runs-rise pages (run ∷ runs) all leads =
         (page_label-AtMost other n)
 
 -- What holds of the labels of records holds of those of their segments.
-segments-All : (P : LabelOf → Type 0) (rows : ℕ) (records : List PageRecordOf) (starts : List ℕ) → All (λ (it : PageRecordOf). P it.label) records → All (λ (s : SegmentOf). P s.owner.label) (segments rows records starts)
+pub segments-All : (P : LabelOf → Type 0) (rows : ℕ) (records : List PageRecordOf) (starts : List ℕ) → All (λ (it : PageRecordOf). P it.label) records → All (λ (s : SegmentOf). P s.owner.label) (segments rows records starts)
 segments-All P rows [] starts all = All-nil (λ (s : SegmentOf). P s.owner.label)
 segments-All P rows (it ∷ records) [] all = All-nil (λ (s : SegmentOf). P s.owner.label)
 segments-All P rows (it ∷ records) (start ∷ starts) all =
@@ -203,7 +198,7 @@ segments-All P rows (it ∷ records) (start ∷ starts) all =
     (All-head (λ (r : PageRecordOf). P r.label) it records all)
     (segments-All P rows records starts (All-tail (λ (r : PageRecordOf). P r.label) it records all))
 
-segments-IsSegment : (rows : ℕ) (records : List PageRecordOf) (starts : List ℕ) → All (λ (it : PageRecordOf). IsLabel it.label) records → RisingRecords records → All IsSegment (segments rows records starts)
+pub segments-IsSegment : (rows : ℕ) (records : List PageRecordOf) (starts : List ℕ) → All (λ (it : PageRecordOf). IsLabel it.label) records → RisingRecords records → All IsSegment (segments rows records starts)
 segments-IsSegment rows [] starts all rising = All-nil IsSegment
 segments-IsSegment rows (it ∷ records) [] all rising = All-nil IsSegment
 segments-IsSegment rows (it ∷ records) (start ∷ starts) all rising =

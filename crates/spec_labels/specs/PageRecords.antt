@@ -1,5 +1,5 @@
 -- Page records: where their segments begin, their sheets, and what becomes of them in edits and rounds (docs/RULES.md, "Page records").
-use Rattle.std.specs.Prelude.{◌≡◌, ◌≢◌, ℕ, ◌+◌, ◌-◌, ◌^◌, ◌<◌, ◌≤◌, max, nat_lt, nat_le, Bool, true, false, IsTrue, ◌&&◌, ◌||◌, not, ◌==◌, if◌then◌else◌, List, [], ◌∷◌, length, map, flat_map, fold, filter, find, slice_get, slice_index_or, All, AllPairs, Option, Some, None, unwrap_or, option_map}
+use Rattle.std.specs.Prelude.{◌≡◌, ◌≢◌, ℕ, ◌+◌, ◌-◌, ◌^◌, ◌<◌, ◌≤◌, max, nat_lt, nat_le, Bool, true, false, IsTrue, ◌&&◌, ◌||◌, not, ◌==◌, if◌then◌else◌, List, [], ◌∷◌, length, map, flat_map, fold, filter, find, slice_get, slice_index_or, All, AllPairs, IfSome, Option, Some, None, unwrap_or, option_map}
 use Rattle.std.specs.List.{list_any, list_all, position_or_len}
 use Rattle.std.specs.Ordering.{is_lt, is_eq}
 use Rattle.spec_text.specs.Lines.{LineState}
@@ -85,6 +85,11 @@ is_empty segment = nat_le segment.end segment.start
 -- The record of a segment.
 abbrev pub owner_of : SegmentOf → PageRecordOf
 owner_of segment = segment.owner
+
+-- A segment has a label, and the next record's label is one above it.
+pub record IsSegment (it : SegmentOf) : Type 0 where
+  pub label : IsLabel it.owner.label
+  pub next : IfSome it.next (λ next. Below it.owner.label next × IsLabel next)
 
 -- A sheet: its label, or the first and the last one of the records that it stands for; its rows, its round, and whether it is omitted.
 pub record SheetOf : Type 0 where
