@@ -3,3 +3,4 @@ pub mod Exchanges
 pub mod Removals
 pub mod SheetRuns
 pub mod SheetWalk
+pub mod ExtensionWalk

@@ -1,1 +1,2 @@
+pub mod Extension
 pub mod PlaceIndex

@@ -2,12 +2,14 @@
 #![tactic(auto)]
 
 mod anchors;
+mod extension;
 mod moves;
 mod places;
 mod record;
 mod segments;
 
 pub use anchors::starts;
+pub use extension::extend;
 pub use moves::{carry, put_back};
 pub use record::{END, PageRecord, Sheet};
 pub use segments::sheets;

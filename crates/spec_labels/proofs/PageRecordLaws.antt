@@ -4,7 +4,7 @@ use Rattle.std.specs.Prelude.{Option, Some, None, All, AllPairs, IsPermutation, 
 use Rattle.std.specs.List.{list_any}
 use Rattle.std.proofs.lemmas.Bool.{cases_Bool, and_parts}
 use Rattle.std.proofs.lemmas.Cmp.{tied_itself}
-use Rattle.std.proofs.lemmas.List.Elements.{All-nil, All-cons, All-head, All-tail, All-weaker, All-map, filter_passes}
+use Rattle.std.proofs.lemmas.List.Elements.{All-nil, All-cons, All-head, All-tail, All-weaker, All-map, All-filter, All-append, filter_passes}
 use Rattle.std.proofs.lemmas.List.Folds.{list_any_at}
 use Rattle.std.proofs.lemmas.List.Kept.{AllPairs-cons, AllPairs-filter}
 use Rattle.std.proofs.lemmas.List.Sorted.{IsPermutation-refl, IsPermutation-sym, IsPermutation-trans, IsPermutation-cons, IsPermutation-middle, IsPermutation-append_left, All-permutation, length_permutation}
@@ -213,3 +213,13 @@ put_back_from-carried lines place index (it ∷ records) moved same =
 pub put_back-carried : (lines : List LineState) (place : ℕ) (records : List PageRecordOf)
     → put_back_records (moved_from lines 0 records) (carried_records lines place records) ≡ records
 put_back-carried lines place records = put_back_from-carried lines place 0 records (moved_from lines 0 records) (λ k upto. refl)
+
+-- The labels of the extended list are labels.
+pub extended_page_records-labels : (records : List PageRecordOf) (sheets : List SheetOf) (keys : List RowKey) → All (λ (it : PageRecordOf). IsLabel it.label) records
+    → All (λ (sheet : SheetOf). IsLabel sheet.first) sheets → All (λ (it : PageRecordOf). IsLabel it.label) (extended_page_records records sheets keys)
+extended_page_records-labels records sheets keys labels firsts =
+    let P = λ (it : PageRecordOf). IsLabel it.label in
+    let news = new_page_records records sheets keys in
+    All-permutation P (records ++ news) (extended_page_records records sheets keys) (extended_page_records-permutation records sheets keys)
+    (All-append P records news labels
+    (All-map P (record_of_sheet keys) (filter (is_new records) sheets) (All-filter (is_new records) (λ (sheet : SheetOf). IsLabel sheet.first) sheets firsts)))
