@@ -1,11 +1,12 @@
 -- Where no record's line was displaced, no record is carried.
-use Rattle.std.proofs.Common.{◌≡◌, ℕ, ◌+◌, ◌==◌, ◌&&◌, ◌||◌, Bool, true, false, not, cond, List, [], ◌∷◌, refl, ap, ap₂, sym, ◌∙◌}
-use Rattle.std.specs.Prelude.{All, IsTrue}
+use Rattle.std.proofs.Common.{◌≡◌, ℕ, ◌+◌, ◌==◌, ◌&&◌, ◌||◌, Bool, true, false, not, cond, List, [], ◌∷◌, refl, ap, ap₂, sym, ◌∙◌, subst}
+use Rattle.std.specs.Prelude.{All, IsTrue, Result, Ok, Err, OnOk, OnErr}
 use Rattle.std.specs.List.{list_any}
 use Rattle.std.proofs.lemmas.List.Elements.{All-head, All-tail}
 use Rattle.spec_text.specs.Lines.{LineState}
 use Rattle.spec_labels.specs.declared.Moved.{Moved}
-use Rattle.spec_labels.specs.PageRecords.{PageRecordOf, end_line, is_present, is_removed, line_from, carried, carried_records, moved_of, moved_from}
+use Rattle.spec_labels.proofs.PageRecordLaws.{carried-ArePageRecords}
+use Rattle.spec_labels.specs.PageRecords.{PageRecordOf, ArePageRecords, end_line, is_present, is_removed, line_from, carried, carried_records, moved_of, moved_from}
 
 -- A line with this id was displaced.
 abbrev pub was_displaced : List LineState → PageRecordOf → Bool
@@ -44,3 +45,9 @@ none-moved lines displaced index (it ∷ records) known none =
     let (here, later) = or-false _ _ none in
     ap (λ b. cond b (moved_of index it ∷ moved_from lines (index + 1) records) (moved_from lines (index + 1) records)) (not-removed lines displaced it (All-head (Known lines displaced) it records known) here)
     ∙ none-moved lines displaced (index + 1) records (All-tail (Known lines displaced) it records known) later
+
+-- Records that were carried, or stayed as they were, keep what records keep.
+pub carried-kept : {T E : Type 0} (lines : List LineState) (place : ℕ) (old new : List PageRecordOf) (result : Result T E) → OnOk result (new ≡ carried_records lines place old)
+    → OnErr result (new ≡ old) → ArePageRecords old → ArePageRecords new
+carried-kept lines place old new (Ok it) ok err are = subst ArePageRecords (sym ok) (carried-ArePageRecords lines place old are)
+carried-kept lines place old new (Err e) ok err are = subst ArePageRecords (sym err) are

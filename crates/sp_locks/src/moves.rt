@@ -4,7 +4,7 @@ ghost use Rattle.std.specs.List.{list_any};
 ghost use Rattle.std.specs.HashSet.{contains};
 ghost use Rattle.spec_text.specs.Lines.{LineState};
 ghost use Rattle.spec_labels.specs.declared.Moved.{Moved};
-ghost use Rattle.spec_labels.specs.PageRecords.{PageRecordOf, end_line, is_present, is_removed, line_from, carried, carried_records, moved_of, moved_from, with_anchor, put_back_records, taken_back};
+ghost use Rattle.spec_labels.specs.PageRecords.{PageRecordOf, ArePageRecords, end_line, is_present, is_removed, line_from, carried, carried_records, moved_of, moved_from, with_anchor, put_back_records, taken_back};
 
 use crate::places::Places;
 use crate::{END, PageRecord};
@@ -20,6 +20,7 @@ pub fn put_back(records: &mut Vec<PageRecord>, moved: &mut Vec<Moved>)
     requires distinct { AllPairs (λ (one other : Moved). one.index ≢ other.index) moved.old.items }
     ensures records { records.new.items ≡ put_back_records moved.old.items records.old.items }
     ensures moved { moved.new.items ≡ map (taken_back records.old.items) moved.old.items }
+    ensures kept { ArePageRecords records.old.items → ArePageRecords records.new.items }
 {
     for i in 0..moved.len() {
         let it = moved[i];
@@ -49,6 +50,22 @@ fn exchange(record: &mut PageRecord, it: Moved) -> Moved
 /// is END, or is among the displaced lines. `AllocError` comes for want of memory alone, and leaves the records as they
 /// were.
 pub fn carry(
+    alloc: Global,
+    records: &mut Vec<PageRecord>,
+    lines: &Lines,
+    displaced: &Displaced,
+) -> Result<Vec<Moved>, AllocError>
+    requires { All (λ (it : PageRecordOf). IsTrue ((it.line == end_line) || is_present lines.now.lines it.line || list_any (λ (line : LineState). line.id == it.line) displaced.now.lines)) records.old.items }
+    ensures records { OnOk result (records.new.items ≡ carried_records lines.now.lines (displaced.now.first + displaced.now.stands) records.old.items) }
+    ensures moved { IfOk result (λ moved. moved.items ≡ moved_from lines.now.lines 0 records.old.items) }
+    ensures err { OnErr result (records.new.items ≡ records.old.items) }
+    ensures kept { ArePageRecords records.old.items → ArePageRecords records.new.items }
+{
+    carry_removed(alloc, records, lines, displaced)
+}
+
+/// Moves the records of removed lines.
+fn carry_removed(
     alloc: Global,
     records: &mut Vec<PageRecord>,
     lines: &Lines,

@@ -1,7 +1,7 @@
 //! The sheets of page records.
 ghost use Rattle.std.specs.Prelude.{◌≡◌, ◌<◌, ◌≤◌, ◌+◌, ℕ, [], ◌∷◌, ◌++◌, All, IfOk, OnOk, length, drop, slice_index, slice_index_or, nat_le};
 ghost use Rattle.spec_labels.specs.Labels.{LabelOf, IsLabel};
-ghost use Rattle.spec_labels.specs.PageRecords.{PageRecordOf, ArePageRecords, AreStarts, ArePages, AreSheets, IsSegment, segments, is_empty, page_label, page_sheet, page_sheets, greatest_round, omitted_sheet, sheets_of_records};
+ghost use Rattle.spec_labels.specs.PageRecords.{PageRecordOf, ArePageRecords, AreStarts, ArePages, AreSheets, LiesWithin, IsSegment, segments, is_empty, page_label, page_sheet, page_sheets, greatest_round, omitted_sheet, sheets_of_records};
 
 use crate::{PageRecord, Sheet};
 use sp_labels::{Label, between};
@@ -52,6 +52,7 @@ pub fn sheets(
     requires pages { ArePages rows starts.now pages.now }
     ensures sheets { IfOk result (λ sheets. sheets.items ≡ sheets_of_records rows records.now starts.now pages.now) }
     ensures labels { IfOk result (λ sheets. AreSheets sheets.items) }
+    ensures rows { IfOk result (λ sheets. All (LiesWithin rows) sheets.items) }
 {
     let mut sheets = Vec::new(alloc);
     let mut index = 0;

@@ -10,3 +10,4 @@ pub mod SceneRecordLaws
 pub mod PageRows
 pub mod PageRecordLaws
 pub mod SheetLaws
+pub mod SheetExtents

@@ -4,6 +4,7 @@ use Rattle.std.specs.Prelude.{Option, Some, None, All, AllPairs, IsPermutation, 
 use Rattle.std.specs.List.{list_any}
 use Rattle.std.proofs.lemmas.Bool.{cases_Bool, and_parts}
 use Rattle.std.proofs.lemmas.Cmp.{tied_itself}
+use Rattle.std.proofs.lemmas.List.{length-map, get_or-map}
 use Rattle.std.proofs.lemmas.List.Elements.{All-nil, All-cons, All-head, All-tail, All-weaker, All-map, All-filter, All-append, filter_passes}
 use Rattle.std.proofs.lemmas.List.Folds.{list_any_at}
 use Rattle.std.proofs.lemmas.List.Kept.{AllPairs-cons, AllPairs-filter}
@@ -12,7 +13,8 @@ use Rattle.spec_text.specs.Lines.{LineState}
 use Rattle.spec_labels.specs.declared.Moved.{Moved}
 use Rattle.spec_labels.specs.declared.RowKey.{RowKey}
 use Rattle.spec_labels.specs.Labels.{LabelOf, IsLabel, label_cmp, Below}
-use Rattle.spec_labels.specs.PageRecords.{PageRecordOf, SheetOf, RisingRecords, end_line, is_present, line_from, is_removed, carried, carried_records, moved_of, moved_from, moved_at, with_anchor, put_back_from, put_back_records, is_recorded, record_of_sheet, is_new, new_page_records, put_in, extended_page_records}
+use Rattle.spec_labels.specs.Scenes.{record_number_limit}
+use Rattle.spec_labels.specs.PageRecords.{ArePageRecords, PageRecordOf, SheetOf, RisingRecords, end_line, is_present, line_from, is_removed, carried, carried_records, moved_of, moved_from, moved_at, with_anchor, put_back_from, put_back_records, is_recorded, record_of_sheet, is_new, new_page_records, put_in, extended_page_records}
 use Rattle.spec_labels.proofs.LabelOrder.{label_cmp_total, Below-irreflexive, Below-transitive, Below-total}
 use Rattle.spec_labels.proofs.SceneLabels.{AllPairs-head, AllPairs-tail}
 
@@ -223,3 +225,42 @@ extended_page_records-labels records sheets keys labels firsts =
     All-permutation P (records ++ news) (extended_page_records records sheets keys) (extended_page_records-permutation records sheets keys)
     (All-append P records news labels
     (All-map P (record_of_sheet keys) (filter (is_new records) sheets) (All-filter (is_new records) (λ (sheet : SheetOf). IsLabel sheet.first) sheets firsts)))
+
+-- What records keep they keep by their labels alone.
+same_labels : (ones others : List PageRecordOf) (k : ℕ) (d : PageRecordOf) → map (λ (it : PageRecordOf). it.label) ones ≡ map (λ (it : PageRecordOf). it.label) others → k < length ones
+    → (k < length others) × ((get_or ones k d).label ≡ (get_or others k d).label)
+same_labels ones others k d same within =
+    let label = λ (it : PageRecordOf). it.label in
+    let count : length ones ≡ length others = sym (length-map ones label) ∙ ap length same ∙ length-map others label in
+    let within' : k < length others = omega (arith, within, count) in
+    (within', sym (get_or-map label ones k d d.label within) ∙ ap (λ (ls : List LabelOf). get_or ls k d.label) same ∙ get_or-map label others k d d.label within')
+
+pub same_labels-ArePageRecords : (ones others : List PageRecordOf) → map (λ (it : PageRecordOf). it.label) ones ≡ map (λ (it : PageRecordOf). it.label) others
+    → ArePageRecords others → ArePageRecords ones
+same_labels-ArePageRecords ones others same are =
+    record {
+      labels = λ k d within. let (there, here) = same_labels ones others k d same within in subst IsLabel (sym here) (are.labels k d there);
+      low = λ k d within. let (there, here) = same_labels ones others k d same within in
+          subst (λ (l : LabelOf). l.number ≤ record_number_limit) (sym here) (are.low k d there);
+      rising = λ i j d less within.
+          let (there, here) = same_labels ones others j d same within in
+          let (there', here') = same_labels ones others i d same (omega (arith, less, within)) in
+          subst (λ l. Below l (get_or ones j d).label) (sym here') (subst (λ l. Below (get_or others i d).label l) (sym here) (are.rising i j d less there));
+    }
+
+pub carried-ArePageRecords : (lines : List LineState) (place : ℕ) (records : List PageRecordOf) → ArePageRecords records → ArePageRecords (carried_records lines place records)
+carried-ArePageRecords lines place records are = same_labels-ArePageRecords (carried_records lines place records) records (carried-labels lines place records) are
+
+-- A record that gets an anchor back keeps its label.
+put_back-labels : (moved : List Moved) (index : ℕ) (records : List PageRecordOf)
+    → map (λ (it : PageRecordOf). it.label) (put_back_from moved index records) ≡ map (λ (it : PageRecordOf). it.label) records
+put_back-labels moved index [] = refl
+put_back-labels moved index (it ∷ records) =
+    ap₂ (λ (l : LabelOf) (ls : List LabelOf). l ∷ ls) (by (moved_at moved index)) (put_back-labels moved (index + 1) records)
+  where
+    by : (o : Option Moved) → (with_anchor it o).label ≡ it.label
+    by None = refl
+    by (Some m) = refl
+
+pub put_back-ArePageRecords : (moved : List Moved) (records : List PageRecordOf) → ArePageRecords records → ArePageRecords (put_back_records moved records)
+put_back-ArePageRecords moved records are = same_labels-ArePageRecords (put_back_records moved records) records (put_back-labels moved 0 records) are

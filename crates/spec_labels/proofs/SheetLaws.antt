@@ -1,14 +1,16 @@
 -- The labels of the sheets of page records are labels, and rise strictly from sheet to sheet.
-use Rattle.std.proofs.Common.{◌≡◌, ℕ, zero, suc, ◌+◌, ◌-◌, ◌<◌, ◌≤◌, ◌⊎◌, ◌&&◌, ◌==◌, Bool, true, false, cond, List, [], ◌∷◌, ◌++◌, length, map, get_or, inl, inr, ⊎_elim, ne_eqb, refl, ap, ap₂, sym, ◌∙◌, subst, arith}
+use Rattle.std.proofs.Common.{◌≡◌, ℕ, zero, suc, ◌+◌, ◌-◌, ◌<◌, ◌≤◌, ◌⊎◌, ◌&&◌, ◌==◌, Bool, true, false, cond, List, [], ◌∷◌, ◌++◌, length, map, get_or, inl, inr, ⊎_elim, ne_eqb, refl, ap, ap₂, sym, ◌∙◌, subst, nat_cmp, Ordering, Less, arith}
 use Rattle.std.specs.Prelude.{Option, Some, None, All, AllPairs, IfSome, MatchOption, flat_map, slice_index_or, slice_get, unwrap_or, option_map}
 use Rattle.std.specs.List.{list_all}
-use Rattle.std.proofs.lemmas.Bool.{cases_Bool}
+use Rattle.std.specs.Cmp.{nat_cmp_is}
+use Rattle.std.specs.Cmp.Lexicographic.{slice_cmp}
+use Rattle.std.specs.Ordering.{ordering_then}
 use Rattle.std.proofs.lemmas.List.Elements.{All-nil, All-cons, All-head, All-tail, All-weaker, All-append, All-map}
 use Rattle.std.proofs.lemmas.List.Kept.{AllPairs-cons}
-use Rattle.spec_labels.specs.Labels.{LabelOf, IsLabel, Below, between}
+use Rattle.spec_labels.specs.Labels.{LabelOf, plain_label, IsLabel, Below, between}
 use Rattle.spec_labels.specs.PageRecords.{PageRecordOf, RisingRecords, ArePageRecords, SegmentOf, IsSegment, first_label, segments, is_empty, SheetOf, segment_pages, page_label, page_sheet, page_sheets, owner_of, omitted_sheet, onto_run, runs_of, run_sheets, sheets_of_records, AreSheets}
 use Rattle.spec_labels.proofs.LabelOrder.{Below-transitive}
-use Rattle.spec_labels.proofs.LabelsBetween.{between-above, between-below, between-rises, between-IsLabel}
+use Rattle.spec_labels.proofs.LabelsBetween.{between-above, between-below, between-rises, between-IsLabel, IsLabel-plain}
 use Rattle.spec_labels.proofs.SceneLabels.{AllPairs-head, AllPairs-tail}
 
 -- Lists of pairs, one behind the other.
@@ -19,11 +21,11 @@ AllPairs-append {X = X} R (x ∷ xs) ys first second across =
     (All-append (R x) xs ys (AllPairs-head R x xs first) (λ k d within. All-head (λ z. R z (get_or ys k d)) x xs (across k d within)))
     (AllPairs-append R xs ys (AllPairs-tail R x xs first) second (λ k d within. All-tail (λ z. R z (get_or ys k d)) x xs (across k d within)))
 
-All-front : {X : Type 0} (P : X → Type 0) (xs ys : List X) → All P (xs ++ ys) → All P xs
+pub All-front : {X : Type 0} (P : X → Type 0) (xs ys : List X) → All P (xs ++ ys) → All P xs
 All-front P [] ys all = All-nil P
 All-front P (x ∷ xs) ys all = All-cons P x xs (All-head P x (xs ++ ys) all) (All-front P xs ys (All-tail P x (xs ++ ys) all))
 
-All-back : {X : Type 0} (P : X → Type 0) (xs ys : List X) → All P (xs ++ ys) → All P ys
+pub All-back : {X : Type 0} (P : X → Type 0) (xs ys : List X) → All P (xs ++ ys) → All P ys
 All-back P [] ys all = all
 All-back P (x ∷ xs) ys all = All-back P xs ys (All-tail P x (xs ++ ys) all)
 
@@ -253,4 +255,26 @@ sheets-AreSheets rows records starts pages labels rising =
       last = λ k d within. (kept k d within).last;
       rising = λ i j d less within. (behind i j d less within).last;
       firsts = λ i j d less within. (behind i j d less within).first;
+    }
+
+-- Sheets of a text without records: the k-th one has the number k + 1 and nothing more.
+pub record AreNumbered (sheets : List SheetOf) : Type 0 where
+  pub first : (k : ℕ) (d : SheetOf) → k < length sheets → (get_or sheets k d).first ≡ plain_label (k + 1)
+  pub last : (k : ℕ) (d : SheetOf) → k < length sheets → (get_or sheets k d).last ≡ plain_label (k + 1)
+
+plain-Below : (a b : ℕ) → a < b → Below (plain_label a) (plain_label b)
+plain-Below a b less = record { less = ap (λ (o : Ordering). ordering_then o (slice_cmp nat_cmp [] [])) (sym (nat_cmp_is a b Less less)) }
+
+-- Their labels rise too.
+pub numbered-AreSheets : (sheets : List SheetOf) → AreNumbered sheets → AreSheets sheets
+numbered-AreSheets sheets are =
+    record {
+      first = λ k d within. subst IsLabel (sym (are.first k d within)) (IsLabel-plain (k + 1));
+      last = λ k d within. subst IsLabel (sym (are.last k d within)) (IsLabel-plain (k + 1));
+      rising = λ i j d less within.
+          subst (λ l. Below l (get_or sheets j d).first) (sym (are.last i d (omega (arith, less, within))))
+          (subst (Below (plain_label (i + 1))) (sym (are.first j d within)) (plain-Below (i + 1) (j + 1) (omega (arith, less))));
+      firsts = λ i j d less within.
+          subst (λ l. Below l (get_or sheets j d).first) (sym (are.first i d (omega (arith, less, within))))
+          (subst (Below (plain_label (i + 1))) (sym (are.first j d within)) (plain-Below (i + 1) (j + 1) (omega (arith, less))));
     }

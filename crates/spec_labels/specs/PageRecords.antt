@@ -13,8 +13,8 @@ abbrev pub page_record_limit : ℕ
 page_record_limit = 100000
 
 -- Pages of a text.
-abbrev pub page_limit : ℕ
-page_limit = 16777216
+abbrev pub page_count_limit : ℕ
+page_count_limit = 16777216
 
 -- In place of a line's id: the end of the text.
 abbrev pub end_line : ℕ
@@ -167,7 +167,7 @@ pub record AreStarts (rows : ℕ) (records : List PageRecordOf) (starts : List �
 pub record ArePages (rows : ℕ) (starts pages : List ℕ) : Type 0 where
   pub rising : AllPairs (λ one other. one < other) pages
   pub within : All (λ page. page < rows) pages
-  pub few : length pages ≤ page_limit
+  pub few : length pages ≤ page_count_limit
   pub at_starts : All (λ start. start < rows → IsTrue (list_any (λ page. page == start) pages)) starts
 
 -- What sheets keep: their labels are labels, no sheet ends before it begins in labels, and each is behind all of the one before.
@@ -176,6 +176,12 @@ pub record AreSheets (sheets : List SheetOf) : Type 0 where
   pub last : All (λ (sheet : SheetOf). IsLabel sheet.last) sheets
   pub rising : AllPairs (λ (one other : SheetOf). Below one.last other.first) sheets
   pub firsts : AllPairs (λ (one other : SheetOf). Below one.first other.first) sheets
+
+-- A sheet lies in the rows of the text, and has some unless it is omitted.
+pub record LiesWithin (rows : ℕ) (sheet : SheetOf) : Type 0 where
+  pub order : sheet.start ≤ sheet.end
+  pub within : sheet.end ≤ rows
+  pub some : sheet.omitted ≡ false → sheet.start < sheet.end
 
 -- A record whose line is neither in the text nor the end.
 abbrev pub is_removed : List LineState → PageRecordOf → Bool

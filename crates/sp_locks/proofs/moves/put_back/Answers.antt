@@ -2,7 +2,8 @@ use Rattle.std.proofs.Common.{◌≡◌, ◌∙◌, ℕ, ◌<◌, List, length, 
 use Rattle.std.proofs.Math.ListN.{set}
 use Rattle.std.proofs.lemmas.List.Edits.{map_over_more}
 use Rattle.spec_labels.specs.declared.Moved.{Moved}
-use Rattle.spec_labels.specs.PageRecords.{PageRecordOf, put_back_records, taken_back}
+use Rattle.spec_labels.specs.PageRecords.{PageRecordOf, ArePageRecords, put_back_records, taken_back}
+use Rattle.spec_labels.proofs.PageRecordLaws.{put_back-ArePageRecords}
 use Rattle.sp_locks.proofs.Exchanges.{put_back-none, length-put_back, Next, next-of, exchanged-records, exchanged-moved, kept-at}
 use Rattle.sp_locks.proofs.moves.put_back.Goals as goal
 
@@ -34,3 +35,8 @@ loop-i-preserved c =
           (c.exchange.ensures.had ∙ exchanged-moved moved c.loop-i.i records c.loop-i.records.items it one next c.loop-i.invariant.back c.index_mut.ensures.value)
           ∙ map_over_more (taken_back records) moved c.loop-i.moved.items c.loop-i.i it within c.loop-i.invariant.taken c.index-it.ensures;
     }
+
+pub returns-clause-kept : goal.returns-clause-kept
+returns-clause-kept c = λ are.
+    let front = take c.loop-i.i c.args.moved.now.items in
+    subst ArePageRecords (sym c.loop-i.invariant.back) (put_back-ArePageRecords front c.args.records.now.items are)

@@ -1,7 +1,8 @@
 use Rattle.std.proofs.Common.{◌≡◌, ◌+◌, ◌≤◌, ◌++◌, List, length, drop, true, ap, sym, ◌∙◌, subst, arith}
 use Rattle.std.specs.Prelude.{All}
 use Rattle.std.proofs.lemmas.List.Elements.{All-head}
-use Rattle.spec_labels.specs.PageRecords.{PageRecordOf, SegmentOf, SheetOf, IsSegment, AreSheets, segments}
+use Rattle.spec_labels.specs.PageRecords.{PageRecordOf, SegmentOf, SheetOf, IsSegment, AreSheets, LiesWithin, segments}
+use Rattle.spec_labels.proofs.SheetExtents.{sheets-Lie}
 use Rattle.spec_labels.proofs.SheetLaws.{sheets-AreSheets}
 use Rattle.sp_locks.proofs.SheetWalk.{Walked, Walked-end, Walked-omitted, Walked-pages, SegmentAt, RunTo, PagesTo, segment-IsSegment, segment-low}
 use Rattle.sp_locks.proofs.segments.sheets.Goals as goal
@@ -41,3 +42,8 @@ pub returns-clause-labels : goal.returns-clause-labels
 returns-clause-labels c =
     subst AreSheets (sym (Walked-end c.args.rows c.args.records.now c.args.starts.now c.args.pages.now c.loop-index.index c.loop-index.page c.loop-index.sheets.items c.loop-index-test.false c.loop-index.invariant))
     (sheets-AreSheets c.args.rows c.args.records.now c.args.starts.now c.args.pages.now c.requires.records.labels c.requires.records.rising)
+
+pub returns-clause-rows : goal.returns-clause-rows
+returns-clause-rows c =
+    subst (All (LiesWithin c.args.rows)) (sym (Walked-end c.args.rows c.args.records.now c.args.starts.now c.args.pages.now c.loop-index.index c.loop-index.page c.loop-index.sheets.items c.loop-index-test.false c.loop-index.invariant))
+    (sheets-Lie c.args.rows c.args.records.now c.args.starts.now c.args.pages.now c.requires.starts c.requires.pages)
