@@ -1,8 +1,8 @@
 -- Records to which anchors are given back one after another.
-use Rattle.std.proofs.Common.{◌≡◌, ◌≢◌, ℕ, zero, suc, ◌+◌, ◌-◌, ◌<◌, ◌≤◌, ◌==◌, Bool, true, false, cond, List, [], ◌∷◌, ◌++◌, length, map, get_or, set, take, drop, ne_eqb, eq-eqb, refl, ap, ap₂, sym, ◌∙◌, subst, arith}
+use Rattle.std.proofs.Common.{◌≡◌, ◌≢◌, ℕ, zero, suc, ◌+◌, ◌-◌, ◌<◌, ◌≤◌, ◌==◌, Bool, true, false, cond, List, [], ◌∷◌, ◌++◌, length, map, get_or, set, take, drop, ne_eqb, eq-eqb, refl, ap, ap₂, sym, ◌∙◌, subst, append-nil, arith}
 use Rattle.std.specs.Prelude.{Option, Some, None, All, AllPairs, slice_get, unwrap_or, option_map}
 use Rattle.std.specs.Option.{option_or}
-use Rattle.std.proofs.lemmas.List.{take_more, length-map, length-take-le, get_or-take, get_or-drop, get_or-append_right}
+use Rattle.std.proofs.lemmas.List.{take_all, drop_all, take_more, length-map, length-take-le, get_or-take, get_or-drop, get_or-append_right}
 use Rattle.std.proofs.lemmas.List.Elements.{All-head, All-tail}
 use Rattle.std.proofs.lemmas.List.Folds.{find-append}
 use Rattle.std.proofs.lemmas.Option.{slice_get-get_or}
@@ -132,3 +132,7 @@ kept-at f moved now i it within is read =
     let here : i + (i - i) ≡ i = omega arith in
     read ∙ ap (λ (ms : List Moved). get_or ms i it) is ∙ get_or-append_right front (drop i moved) i i it count (omega arith)
     ∙ get_or-drop i moved (i - i) it ∙ ap (λ n. get_or moved n it) here
+
+-- After all exchanges.
+pub exchanged-all : (f : Moved → Moved) (moved now : List Moved) (i : ℕ) → length moved ≤ i → now ≡ map f (take i moved) ++ drop i moved → now ≡ map f moved
+exchanged-all f moved now i all is = is ∙ ap₂ (λ (xs ys : List Moved). map f xs ++ ys) (take_all i moved all) (drop_all i moved all) ∙ append-nil (map f moved)

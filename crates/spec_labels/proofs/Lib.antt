@@ -11,3 +11,4 @@ pub mod PageRows
 pub mod PageRecordLaws
 pub mod SheetLaws
 pub mod SheetExtents
+pub mod PutBackLaws
