@@ -1,10 +1,9 @@
 -- An index of lines finds their places, and keys of rows are in order.
-use Rattle.std.proofs.Common.{◌≡◌, ◌≢◌, ℕ, ◌+◌, ◌<◌, ◌≤◌, ◌⊎◌, ◌==◌, ◌&&◌, ◌||◌, Bool, true, false, not, List, [], ◌∷◌, length, get_or, inl, inr, ⊎_elim, ne_eqb, eq-eqb, eqb-true, lt-ltb, ltb-true, ltb-false, refl, ap, ap₂, sym, ◌∙◌, subst, cond, arith}
+use Rattle.std.proofs.Common.{◌≡◌, ◌≢◌, ℕ, ◌+◌, ◌<◌, ◌≤◌, ◌⊎◌, ◌==◌, ◌&&◌, ◌||◌, Bool, true, false, not, List, [], length, get_or, inl, inr, ⊎_elim, ne_eqb, eq-eqb, eqb-true, lt-ltb, ltb-true, ltb-false, refl, ap, ap₂, sym, ◌∙◌, subst, cond, arith}
 use Rattle.std.specs.Prelude.{Option, Some, None, AllPairs, IsTrue, nat_lt, slice_get}
 use Rattle.std.specs.List.{position_or_len}
 use Rattle.std.specs.List.Sorted.{IsPartitionPoint, IsPartitionedBy}
 use Rattle.std.proofs.lemmas.Bool.{cases_Bool, and_parts}
-use Rattle.std.proofs.lemmas.Bool.Decides.{nat_tests}
 use Rattle.std.proofs.lemmas.List.Sums.{position_or_len_is}
 use Rattle.std.proofs.lemmas.Option.{get_or_from_slice_get}
 use Rattle.spec_text.specs.Lines.{LineState}

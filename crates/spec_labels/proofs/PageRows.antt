@@ -3,7 +3,6 @@ use Rattle.std.proofs.Common.{◌≡◌, ℕ, true, false, List, [], ◌∷◌, 
 use Rattle.std.specs.Prelude.{codes}
 use Rattle.std.specs.Fmt.{digits}
 use Rattle.spec_text.specs.Lines.{LineState}
-use Rattle.spec_labels.specs.declared.Moved.{Moved}
 use Rattle.spec_labels.specs.declared.RowKey.{RowKey}
 use Rattle.spec_labels.specs.Labels.{LabelOf, plain_label, label_text}
 use Rattle.spec_labels.specs.PageRecords.{PageRecordOf, SheetOf, end_line, record_starts, sheets_of_records, carried_records, moved_from, put_back_records, extended_page_records}

@@ -1,10 +1,10 @@
 -- The rows of sheets lie in the text, and only omitted sheets have none.
-use Rattle.std.proofs.Common.{◌≡◌, ℕ, zero, suc, ◌+◌, ◌<◌, ◌≤◌, ◌&&◌, Bool, true, false, cond, List, [], ◌∷◌, ◌++◌, length, map, get_or, ltb-true, refl, ap, sym, ◌∙◌, subst, arith}
+use Rattle.std.proofs.Common.{ℕ, ◌+◌, ◌<◌, ◌≤◌, ◌&&◌, Bool, true, false, cond, List, [], ◌∷◌, map, get_or, ltb-true, sym, subst, arith}
 use Rattle.std.specs.Prelude.{All, AllPairs, filter, flat_map, nat_le, nat_lt, slice_index_or}
 use Rattle.std.proofs.lemmas.Bool.{and_parts}
-use Rattle.std.proofs.lemmas.List.Elements.{All-nil, All-cons, All-head, All-tail, All-append, All-weaker, filter_passes}
+use Rattle.std.proofs.lemmas.List.Elements.{All-nil, All-cons, All-head, All-tail, All-append, filter_passes}
 use Rattle.std.proofs.lemmas.List.Kept.{AllPairs-filter}
-use Rattle.spec_labels.specs.PageRecords.{PageRecordOf, SegmentOf, first_label, segments, is_empty, owner_of, SheetOf, LiesWithin, AreStarts, ArePages, segment_pages, page_sheet, page_sheets, omitted_sheet, runs_of, run_sheets, sheets_of_records}
+use Rattle.spec_labels.specs.PageRecords.{PageRecordOf, SegmentOf, first_label, segments, is_empty, owner_of, LiesWithin, AreStarts, ArePages, segment_pages, page_sheet, page_sheets, omitted_sheet, runs_of, run_sheets, sheets_of_records}
 use Rattle.spec_labels.proofs.SceneLabels.{AllPairs-head, AllPairs-tail}
 use Rattle.spec_labels.proofs.SheetLaws.{in_runs, runs_of-all, All-front, All-back}
 

@@ -1,6 +1,6 @@
 -- The labels of the sheets of page records are labels, and rise strictly from sheet to sheet.
-use Rattle.std.proofs.Common.{◌≡◌, ℕ, zero, suc, ◌+◌, ◌-◌, ◌<◌, ◌≤◌, ◌⊎◌, ◌&&◌, ◌==◌, Bool, true, false, cond, List, [], ◌∷◌, ◌++◌, length, map, get_or, inl, inr, ⊎_elim, ne_eqb, refl, ap, ap₂, sym, ◌∙◌, subst, nat_cmp, Ordering, Less, arith}
-use Rattle.std.specs.Prelude.{Option, Some, None, All, AllPairs, IfSome, MatchOption, flat_map, slice_index_or, slice_get, unwrap_or, option_map}
+use Rattle.std.proofs.Common.{◌≡◌, ℕ, zero, suc, ◌+◌, ◌-◌, ◌<◌, ◌≤◌, ◌⊎◌, ◌&&◌, Bool, true, false, cond, List, [], ◌∷◌, ◌++◌, length, map, get_or, inl, inr, ⊎_elim, ne_eqb, refl, ap, sym, ◌∙◌, subst, nat_cmp, Ordering, Less, arith}
+use Rattle.std.specs.Prelude.{Option, Some, None, All, AllPairs, IfSome, MatchOption, flat_map, slice_index_or}
 use Rattle.std.specs.List.{list_all}
 use Rattle.std.specs.Cmp.{nat_cmp_is}
 use Rattle.std.specs.Cmp.Lexicographic.{slice_cmp}
@@ -8,7 +8,7 @@ use Rattle.std.specs.Ordering.{ordering_then}
 use Rattle.std.proofs.lemmas.List.Elements.{All-nil, All-cons, All-head, All-tail, All-weaker, All-append, All-map}
 use Rattle.std.proofs.lemmas.List.Kept.{AllPairs-cons}
 use Rattle.spec_labels.specs.Labels.{LabelOf, plain_label, IsLabel, Below, between}
-use Rattle.spec_labels.specs.PageRecords.{PageRecordOf, RisingRecords, ArePageRecords, SegmentOf, IsSegment, first_label, segments, is_empty, SheetOf, segment_pages, page_label, page_sheet, page_sheets, owner_of, omitted_sheet, onto_run, runs_of, run_sheets, sheets_of_records, AreSheets}
+use Rattle.spec_labels.specs.PageRecords.{PageRecordOf, RisingRecords, SegmentOf, IsSegment, first_label, segments, is_empty, SheetOf, segment_pages, page_label, page_sheet, page_sheets, owner_of, omitted_sheet, onto_run, runs_of, run_sheets, sheets_of_records, AreSheets}
 use Rattle.spec_labels.proofs.LabelOrder.{Below-transitive}
 use Rattle.spec_labels.proofs.LabelsBetween.{between-above, between-below, between-rises, between-IsLabel, IsLabel-plain}
 use Rattle.spec_labels.proofs.SceneLabels.{AllPairs-head, AllPairs-tail}

@@ -1,7 +1,6 @@
-use Rattle.std.proofs.Common.{◌≡◌, ◌+◌, ◌≤◌, ◌++◌, List, length, drop, true, ap, sym, ◌∙◌, subst, arith}
+use Rattle.std.proofs.Common.{◌+◌, ap, sym, subst}
 use Rattle.std.specs.Prelude.{All}
-use Rattle.std.proofs.lemmas.List.Elements.{All-head}
-use Rattle.spec_labels.specs.PageRecords.{PageRecordOf, SegmentOf, SheetOf, IsSegment, AreSheets, LiesWithin, segments}
+use Rattle.spec_labels.specs.PageRecords.{SegmentOf, AreSheets, LiesWithin}
 use Rattle.spec_labels.proofs.SheetExtents.{sheets-Lie}
 use Rattle.spec_labels.proofs.SheetLaws.{sheets-AreSheets}
 use Rattle.sp_locks.proofs.SheetWalk.{Walked, Walked-end, Walked-omitted, Walked-pages, SegmentAt, RunTo, PagesTo, segment-IsSegment, segment-low}
