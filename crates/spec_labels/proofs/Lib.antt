@@ -12,3 +12,4 @@ pub mod PageRecordLaws
 pub mod SheetLaws
 pub mod SheetExtents
 pub mod PutBackLaws
+pub mod RunLaws
