@@ -1,12 +1,10 @@
 // Marks of a cleaned line, and the layers that they make markers for.
-ghost use Rattle.std.specs.Prelude.{◌≡◌, ◌+◌, ◌^◌, ◌<◌, ◌≤◌, length, IfOk};
+ghost use Rattle.std.specs.Prelude.{◌≡◌, ◌+◌, ◌^◌, ◌<◌, ◌≤◌};
 ghost use Rattle.std.specs.List.{list_all, range_with_len};
 ghost use Rattle.spec_script.specs.Trim.{is_space};
 ghost use Rattle.spec_script.specs.Emphasis.{mark_of, size_of, style_of, is_markup, byte_at, byte_before, is_mark, is_escape, is_marker, opens, closes};
-ghost use Rattle.sp_emph.specs.Markup.{markup_of};
 
 use spec_script::Layer;
-use std::alloc::{AllocError, Global};
 
 /// The mark of a layer.
 fn mark_of(layer: Layer) -> u8
@@ -73,18 +71,8 @@ pub fn is_markup(byte: u8) -> bool
     matches!(byte, b'*' | b'_' | b'\\')
 }
 
-/// The places of all marks and `\` of a line, from left to right.
-pub fn markup_of(alloc: Global, line: &[u8]) -> Result<Vec<u32>, AllocError>
-    requires { length line.now ≤ 4096 }
-    ensures { IfOk result (λ v. v.items ≡ markup_of line.now) }
-{
-    (0..line.len() as u32)
-        .filter(|place| is_markup(byte_at(line, *place as usize)))
-        .collect(alloc)
-}
-
 /// Whether a layer's mark stands at a place, and no `\` makes it literal.
-fn is_mark(layer: Layer, line: &[u8], place: usize) -> bool
+pub fn is_mark(layer: Layer, line: &[u8], place: usize) -> bool
     ensures { result ≡ is_mark layer line.now place }
 {
     byte_at(line, place) == mark_of(layer) && byte_before(line, place) != b'\\'
