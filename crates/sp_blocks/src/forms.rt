@@ -3,7 +3,6 @@ ghost use Rattle.std.specs.Prelude.{◌≡◌, ◌==◌, ◌≤◌, length};
 ghost use Rattle.std.specs.List.{list_all, prefix_len};
 ghost use Rattle.spec_script.specs.Letters.{ends};
 ghost use Rattle.spec_script.specs.Forms.{is_page_break, is_synopsis, is_section, is_centred, is_parenthetical, is_forced_cue};
-ghost use Rattle.spec_script.specs.Title.{colon};
 ghost use Rattle.spec_script.specs.Divisions.{goes_on, listed_kind, mark_len, section_depth};
 
 use sp_clean::is_forced_heading;
@@ -21,13 +20,6 @@ pub fn ends_in(bytes: &[u8], byte: u8) -> bool
     ensures { result ≡ ends byte bytes.now }
 {
     !bytes.is_empty() && bytes[bytes.len() - 1] == byte
-}
-
-/// How many bytes stand before the first colon; all, where there is none.
-pub fn colon(bytes: &[u8]) -> usize
-    ensures { result ≡ colon bytes.now }
-{
-    bytes.iter().take_while(|byte| **byte != b':').count()
 }
 
 /// Whether the text is three or more `=` alone.
