@@ -8,7 +8,7 @@ use Rattle.spec_script.specs.declared.Layer.{Layer}
 use Rattle.spec_script.specs.declared.Layer.TheVariants.{Italic, Bold, BoldItalic, Underline}
 use Rattle.spec_script.specs.Emphasis.{byte_at, byte_before, is_mark, is_marker}
 use Rattle.sp_emph.specs.declared.markers.Markers.{Markers}
-use Rattle.sp_emph.specs.Markers.{AreBelow, HasOneMore, is_layer, is_same, place_if, layer_at}
+use Rattle.sp_emph.specs.Markers.{AreBelow, HasOneMore, is_layer, is_same, place_if, begins_run, layer_at}
 
 -- One place more, at the end.
 filter-more : (p : ℕ → Bool) (a n end : ℕ) → a + n ≡ end → filter p (range_with_len a (n + 1)) ≡ filter p (range_with_len a n) ++ place_if (p end) end
@@ -43,8 +43,9 @@ is_bold mark before one two three under = grind arith
 is_both : (mark before one two three under : Bool) → ((mark && (one && (two && true))) && not three && not before) ≡ is_layer BoldItalic (told mark before one two three under)
 is_both mark before one two three under = grind arith
 
-is_underline : (mark before one two three under : Bool) → (mark ≡ true → under ≡ false) → under ≡ is_layer Underline (told mark before one two three under)
-is_underline mark before one two three under apart = grind arith
+is_underline : (mark before one two three other after behind : Bool) → (mark ≡ true → other ≡ false)
+    → ((other && true) && not behind && not after) ≡ is_layer Underline (told mark before one two three ((other && not after) && not behind))
+is_underline mark before one two three other after behind apart = grind arith
 
 module _ (line : List ℕ) (place : ℕ) where
   abbrev star_at : ℕ → Bool
@@ -57,7 +58,7 @@ module _ (line : List ℕ) (place : ℕ) where
   before = nat_lt 0 place && is_mark Italic line (place - 1)
 
   abbrev under : Bool
-  under = is_marker Underline line place
+  under = begins_run Underline line place && not (is_mark Underline line (place + 1))
 
   -- A place has a marker of the layer that the tests tell, and of no other.
   pub marker-layer_at : (layer : Layer) → is_marker layer line place ≡ is_layer layer (layer_at line place)
@@ -68,8 +69,8 @@ module _ (line : List ℕ) (place : ℕ) where
       ap (λ k. (star && (star_at 1 && (is_mark Italic line k && true))) && not (star_at 3) && not before) next
       ∙ is_both star before (star_at 1) (star_at 2) (star_at 3) under
   marker-layer_at Underline =
-      is_underline star before (star_at 1) (star_at 2) (star_at 3) under (λ is.
-      ap (λ b. (b && true) && not (is_mark Underline line (place + 1)) && not (nat_lt 0 place && is_mark Underline line (place - 1))) (one_kind line place is))
+      is_underline star before (star_at 1) (star_at 2) (star_at 3) (is_mark Underline line place) (nat_lt 0 place && is_mark Underline line (place - 1))
+      (is_mark Underline line (place + 1)) (one_kind line place)
 
   pub AreBelow-none : (markers : Markers) → layer_at line place ≡ None → AreBelow line place markers → AreBelow line (place + 1) markers
   AreBelow-none markers none below = record {

@@ -52,4 +52,4 @@ star_layer line place =
 abbrev pub layer_at : List ℕ → ℕ → Option Layer
 layer_at line place =
     if begins_run Italic line place then star_layer line place
-    else (if is_marker Underline line place then Some Underline else None)
+    else (if begins_run Underline line place && not (is_mark Underline line (place + 1)) then Some Underline else None)

@@ -1,7 +1,7 @@
 // What is seen of each byte of a line: its style, or nothing where it is removed.
-ghost use Rattle.std.specs.Prelude.{◌≡◌, ◌<◌, ◌≤◌, ◌^◌, length, map, IfOk, OnOk};
+ghost use Rattle.std.specs.Prelude.{◌≡◌, ◌<◌, ◌≤◌, ◌+◌, ◌^◌, length, map, IfOk, OnOk};
 ghost use Rattle.std.specs.List.{range_with_len};
-ghost use Rattle.spec_script.specs.Emphasis.{looks_of, markers_of, pairs_of};
+ghost use Rattle.spec_script.specs.Emphasis.{looks_of, markers_of, pairs_of, size_of};
 ghost use Rattle.sp_emph.specs.Layering.{AreWithin, Changes, styled_between, hidden_between, styled_inside, hidden_spent, plain_look, add_layer, add_layers};
 
 use crate::markers::markers_of;
@@ -21,14 +21,19 @@ fn add_style(looks: &mut [Option<u8>], layer: Layer, from: usize, to: usize)
     }
 }
 
-/// Hides what stands between two places.
-fn hide(looks: &mut [Option<u8>], from: usize, to: usize)
-    requires order { from ≤ to }
-    requires within { to ≤ length looks.old }
-    ensures { Changes (hidden_between from to) looks.old looks.new }
+/// Hides a marker of a layer.
+fn hide_marker(looks: &mut [Option<u8>], layer: Layer, marker: usize)
+    requires { marker + size_of layer ≤ length looks.old }
+    ensures { Changes (hidden_between marker (marker + size_of layer)) looks.old looks.new }
 {
-    for place in from..to {
-        looks[place] = None;
+    looks[marker] = None;
+    match layer {
+        Layer::Italic | Layer::Underline => {}
+        Layer::Bold => looks[marker + 1] = None,
+        Layer::BoldItalic => {
+            looks[marker + 1] = None;
+            looks[marker + 2] = None;
+        }
     }
 }
 
@@ -55,10 +60,9 @@ fn hide_markers(looks: &mut [Option<u8>], layer: Layer, pairs: &[Pair])
     requires { AreWithin layer pairs.now (length looks.old) }
     ensures { Changes (hidden_spent layer pairs.now) looks.old looks.new }
 {
-    let size = size_of(layer);
     for pair in pairs {
-        hide(looks, pair.first as usize, pair.first as usize + size);
-        hide(looks, pair.second as usize, pair.second as usize + size);
+        hide_marker(looks, layer, pair.first as usize);
+        hide_marker(looks, layer, pair.second as usize);
     }
 }
 

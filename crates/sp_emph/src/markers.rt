@@ -3,7 +3,7 @@ ghost use Rattle.std.specs.Prelude.{◌≡◌, ◌+◌, ◌^◌, ◌<◌, ◌≤
 ghost use Rattle.spec_script.specs.declared.Layer.TheVariants.{Italic};
 ghost use Rattle.sp_emph.specs.Markers.{AreBelow, HasOneMore, begins_run, layer_at, star_layer};
 
-use crate::marks::{is_mark, is_marker};
+use crate::marks::is_mark;
 use spec_script::Layer;
 use std::alloc::{AllocError, Global};
 
@@ -37,7 +37,9 @@ fn layer_at(line: &[u8], place: usize) -> Option<Layer>
 {
     if begins_run(Layer::Italic, line, place) {
         star_layer(line, place)
-    } else if is_marker(Layer::Underline, line, place) {
+    } else if begins_run(Layer::Underline, line, place)
+        && !is_mark(Layer::Underline, line, place + 1)
+    {
         Some(Layer::Underline)
     } else {
         None

@@ -1,8 +1,7 @@
 // Marks of a cleaned line, and the layers that they make markers for.
 ghost use Rattle.std.specs.Prelude.{◌≡◌, ◌+◌, ◌^◌, ◌<◌, ◌≤◌};
-ghost use Rattle.std.specs.List.{list_all, range_with_len};
 ghost use Rattle.spec_script.specs.Trim.{is_space};
-ghost use Rattle.spec_script.specs.Emphasis.{mark_of, size_of, style_of, is_markup, byte_at, byte_before, is_mark, is_escape, is_marker, opens, closes};
+ghost use Rattle.spec_script.specs.Emphasis.{mark_of, size_of, style_of, is_markup, byte_at, byte_before, is_mark, is_escape, opens, closes};
 
 use spec_script::Layer;
 
@@ -84,25 +83,6 @@ pub fn is_escape(line: &[u8], place: usize) -> bool
     ensures { result ≡ is_escape line.now place }
 {
     byte_at(line, place) == b'\\' && matches!(byte_at(line, place + 1), b'*' | b'_')
-}
-
-/// Whether so many marks of a layer stand from a place on.
-fn are_marks(layer: Layer, line: &[u8], place: usize, count: usize) -> bool
-    requires { place + count < 2 ^ 63 }
-    ensures { result ≡ list_all (is_mark layer line.now) (range_with_len place count) }
-{
-    (place..place + count).all(|at| is_mark(layer, line, at))
-}
-
-/// Whether a marker of a layer begins at a place.
-pub fn is_marker(layer: Layer, line: &[u8], place: usize) -> bool
-    requires { place < 2 ^ 62 }
-    ensures { result ≡ is_marker layer line.now place }
-{
-    let end = place + size_of(layer);
-    are_marks(layer, line, place, size_of(layer))
-        && !is_mark(layer, line, end)
-        && !(place > 0 && is_mark(layer, line, place - 1))
 }
 
 /// Whether a marker of a layer stands directly before a character that is no space.
