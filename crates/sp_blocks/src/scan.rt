@@ -9,10 +9,11 @@ ghost use Rattle.sp_blocks.specs.Scanned.{clean, clean_each, goes_through, noted
 ghost use Rattle.spec_script.specs.Left.{left_from};
 
 use crate::left::LeftLine;
-use crate::spans::{clip_spans, line_runs, outside};
+use crate::spans::{clip_spans, outside};
 use sp_clean::parts::part_of;
 use sp_clean::spaces::all_spaces;
 use sp_clean::{LineScan, NoteScan, Sort, note_scan, scan};
+use sp_emph::runs;
 use sp_text::Lines;
 use spec_text::Span;
 use std::alloc::{AllocError, Global};
@@ -136,7 +137,7 @@ fn left_line<'a>(
         Sort::Plain => false,
         Sort::Empty | Sort::Absent => return Ok(None),
     };
-    let runs = line_runs(alloc, scanned.line, &spans)?;
+    let runs = runs(alloc, scanned.line, &spans)?;
     Ok(Some(LeftLine {
         place,
         held,

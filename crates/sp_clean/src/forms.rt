@@ -1,3 +1,4 @@
+//! The forms of a line that stand by themselves (docs/RULES.md, "Letter tests").
 ghost use Rattle.std.specs.Prelude.{◌≡◌, ◌==◌, ◌≤◌, ◌||◌, length, slice_index_or};
 ghost use Rattle.spec_text.specs.Parts.{Parts};
 ghost use Rattle.spec_script.specs.Trim.{trim};

@@ -72,7 +72,13 @@ pub fn begins(text: &str, byte: u8) -> bool
 pub fn ends(text: &str, byte: u8) -> bool
     ensures { result ≡ ends byte text.now }
 {
-    let bytes = text.as_bytes();
+    ends_in(text.as_bytes(), byte)
+}
+
+/// Whether the last of these bytes is the given one.
+pub fn ends_in(bytes: &[u8], byte: u8) -> bool
+    ensures { result ≡ ends byte bytes.now }
+{
     !bytes.is_empty() && bytes[bytes.len() - 1] == byte
 }
 
