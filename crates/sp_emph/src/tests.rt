@@ -19,7 +19,7 @@ fn told(alloc: Global, found: &[Run]) -> Result<Vec<(u32, u32, u8)>, AllocError>
 #[test]
 fn marks_become_styles(rt: HostRuntime) -> Result<(), Fail> {
     let alloc = rt.alloc();
-    let cases: [Case; 16] = [
+    let cases: [Case; 12] = [
         (
             "**a *b** c*",
             &[(0, 11)],
@@ -38,12 +38,24 @@ fn marks_become_styles(rt: HostRuntime) -> Result<(), Fail> {
         ("* a*", &[(0, 4)], &[(0, 4, 0)]),
         ("*a\\*b*", &[(0, 6)], &[(1, 2, 1), (3, 5, 1)]),
         ("****", &[(0, 4)], &[(0, 4, 0)]),
+        ("é *ü*", &[(0, 7)], &[(0, 3, 0), (4, 6, 1)]),
+        ("plain", &[(0, 5)], &[(0, 5, 0)]),
+    ];
+    for (text, kept, expected) in cases {
+        let found = runs(alloc, text, kept)?;
+        assert_eq!(rt; told(alloc, &found)?.as_slice(), expected, "{text}");
+    }
+    Ok(())
+}
+
+#[test]
+fn no_layer_sees_the_marks_of_another(rt: HostRuntime) -> Result<(), Fail> {
+    let alloc = rt.alloc();
+    let cases: [Case; 4] = [
         ("****a****", &[(0, 9)], &[(0, 9, 0)]),
         ("__a__", &[(0, 5)], &[(0, 5, 0)]),
         ("*a**b*", &[(0, 6)], &[(1, 5, 1)]),
         ("*_a_*", &[(0, 5)], &[(2, 3, 5)]),
-        ("é *ü*", &[(0, 7)], &[(0, 3, 0), (4, 6, 1)]),
-        ("plain", &[(0, 5)], &[(0, 5, 0)]),
     ];
     for (text, kept, expected) in cases {
         let found = runs(alloc, text, kept)?;
