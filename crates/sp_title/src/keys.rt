@@ -6,7 +6,7 @@ ghost use Rattle.spec_script.specs.Title.{begins_with_key, centred_keys, other_k
 use sp_clean::letters::begins_with_word;
 
 /// Whether the text begins with a key whose values are centred, and a colon.
-pub fn opens_centred(text: &[u8]) -> bool
+pub fn begins_with_centred_key(text: &[u8]) -> bool
     ensures { result ≡ list_any (begins_with_key text.now) centred_keys }
 {
     begins_with_word(text, b"Title:")
@@ -17,7 +17,7 @@ pub fn opens_centred(text: &[u8]) -> bool
 }
 
 /// Whether the text begins with one of the other keys, and a colon.
-pub fn opens_other(text: &[u8]) -> bool
+pub fn begins_with_other_key(text: &[u8]) -> bool
     ensures { result ≡ list_any (begins_with_key text.now) other_keys }
 {
     begins_with_word(text, b"Draft date:")

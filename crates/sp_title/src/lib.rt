@@ -16,7 +16,7 @@ ghost use Rattle.spec_script.specs.Trim.{is_space};
 ghost use Rattle.spec_script.specs.Title.{place_or_end, title_line_of, title_opens};
 
 pub use crate::keys::{has_key, value_from};
-use crate::keys::{is_centred_key, opens_centred, opens_other};
+use crate::keys::{begins_with_centred_key, begins_with_other_key, is_centred_key};
 use sp_clean::parts::{LINE_LIMIT, joined_text, place_of};
 use sp_clean::spaces::{all_spaces, spaces_before};
 pub use spec_script::TitleLine;
@@ -31,7 +31,7 @@ pub fn title_opens(text: &str, kept: &[Span]) -> bool
 {
     let mut buffer = [0; LINE_LIMIT];
     let joined = joined_text(text, kept, &mut buffer).as_bytes();
-    opens_centred(joined) || opens_other(joined)
+    begins_with_centred_key(joined) || begins_with_other_key(joined)
 }
 
 /// What the line is on a title page: `Opens` with a new key, whose values are `centred` or not, `Value` with a further
