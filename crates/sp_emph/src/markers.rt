@@ -1,6 +1,5 @@
 // The markers of all layers.
 ghost use Rattle.std.specs.Prelude.{◌≡◌, ◌+◌, ◌^◌, ◌<◌, ◌≤◌, List, ℕ, length, IfOk, OnOk};
-ghost use Rattle.spec_script.specs.declared.Layer.TheVariants.{Italic};
 ghost use Rattle.sp_emph.specs.Markers.{AreBelow, HasOneMore, begins_run, layer_at, star_layer};
 
 use crate::marks::is_mark;
