@@ -3,7 +3,7 @@ use Rattle.std.specs.Char.{eq_ignore_ascii_case}
 use Rattle.std.specs.List.{starts_with}
 use Rattle.std.proofs.lemmas.Bool.Decides.{same_from_decides}
 use Rattle.sp_clean.proofs.FormLaws.{same_case, same_lowercase}
-use Rattle.sp_clean.proofs.forms.begins_with_word.Goals as goal
+use Rattle.sp_clean.proofs.letters.begins_with_word.Goals as goal
 
 pub returns-then-text-word : goal.returns-then-text-word
 returns-then-text-word c =

@@ -1,6 +1,6 @@
 use Rattle.std.proofs.Common.{◌≤◌, length}
 use Rattle.sp_emph.proofs.PairWalk.{IsUnderWay}
-use Rattle.sp_emph.proofs.pairs.pair_up.Given as goal
+use Rattle.sp_emph.proofs.pairs.pairs_of.Given as goal
 
 abbrev pub invariant-loop-index : goal.invariant-loop-index
 invariant-loop-index l = record {
