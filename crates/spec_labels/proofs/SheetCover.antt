@@ -1,12 +1,12 @@
 -- Each row is on one sheet: the rows of the sheets follow one another from the first to the last.
-use Rattle.std.proofs.Common.{◌≡◌, ℕ, zero, suc, ◌+◌, ◌<◌, ◌≤◌, ◌&&◌, ◌==◌, ◌||◌, Bool, true, false, cond, List, [], ◌∷◌, ◌++◌, length, map, get_or, ⊎_elim, eqb-true, le-leb, leb-true, lt-ltb, ltb-true, ltb-false, refl, ap, ap₂, sym, ◌∙◌, subst, arith}
-use Rattle.std.specs.Prelude.{All, AllPairs, IsTrue, filter, flat_map, nat_le, nat_lt, slice_index_or}
+use Rattle.std.proofs.Common.{◌≡◌, ℕ, ◌+◌, ◌<◌, ◌≤◌, ◌&&◌, ◌==◌, ◌||◌, Bool, true, false, cond, List, [], ◌∷◌, ◌++◌, length, map, ⊎_elim, eqb-true, le-leb, leb-true, lt-ltb, ltb-true, ltb-false, refl, ap, ap₂, sym, ◌∙◌, subst, arith}
+use Rattle.std.specs.Prelude.{All, AllPairs, filter, flat_map, nat_le, nat_lt, slice_index_or}
 use Rattle.std.specs.List.{list_all, list_any}
 use Rattle.std.proofs.lemmas.Bool.{cases_Bool, and_parts}
 use Rattle.std.proofs.lemmas.List.{get_or_default}
 use Rattle.std.proofs.lemmas.List.Elements.{All-nil, All-cons, All-head, All-tail}
 use Rattle.std.proofs.lemmas.List.Folds.{Any-from_list_any}
-use Rattle.spec_labels.specs.PageRecords.{PageRecordOf, SegmentOf, first_label, segments, is_empty, owner_of, SheetOf, Covers, AreStarts, ArePages, segment_pages, page_sheet, page_sheets, omitted_sheet, runs_of, run_sheets, sheets_of_records}
+use Rattle.spec_labels.specs.PageRecords.{PageRecordOf, SegmentOf, first_label, segments, is_empty, owner_of, SheetOf, Covers, AreStarts, ArePages, segment_pages, page_sheets, omitted_sheet, runs_of, run_sheets, sheets_of_records}
 use Rattle.spec_labels.proofs.RunLaws.{IsRun, runs_of-IsRun}
 use Rattle.spec_labels.proofs.SceneLabels.{AllPairs-head, AllPairs-tail}
 use Rattle.spec_labels.proofs.SheetLaws.{in_runs, runs_of-all, All-front, All-back}
@@ -125,9 +125,11 @@ segments-Follow : (rows : ℕ) (records : List PageRecordOf) (starts : List ℕ)
 segments-Follow rows [] [] same order within = refl
 segments-Follow rows [] (start ∷ starts) same order within = absurd (omega (arith, same))
 segments-Follow rows (it ∷ records) [] same order within = absurd (omega (arith, same))
-segments-Follow rows (it ∷ records) (start ∷ starts) same order within =
-    (refl, next starts (AllPairs-head (λ one other. one ≤ other) start starts order),
-    segments-Follow rows records starts (omega (arith, same)) (AllPairs-tail (λ one other. one ≤ other) start starts order) (All-tail (λ s. s ≤ rows) start starts within))
+segments-Follow rows (it ∷ records) (start ∷ starts) same order within = (
+  refl,
+  next starts (AllPairs-head (λ one other. one ≤ other) start starts order),
+  segments-Follow rows records starts (omega (arith, same)) (AllPairs-tail (λ one other. one ≤ other) start starts order) (All-tail (λ s. s ≤ rows) start starts within),
+)
   where
     next : (ss : List ℕ) → All (λ s. start ≤ s) ss → start ≤ slice_index_or ss 0 rows
     next [] each = All-head (λ s. s ≤ rows) start starts within
