@@ -13,3 +13,4 @@ pub mod SheetLaws
 pub mod SheetExtents
 pub mod PutBackLaws
 pub mod RunLaws
+pub mod SheetCover

@@ -61,6 +61,11 @@ pub record AreAnchored (lines : List LineState) (rows : List RowKey) (records : 
   pub keys : All (λ (key : RowKey). line_at lines key.line < length lines) rows
   pub rising : AllPairs (λ (one other : RowKey). IsTrue (is_before lines one other)) rows
 
+-- A record whose anchor isn't before that of an earlier one. The end is behind all lines.
+pub record InOrder (lines : List LineState) (one other : PageRecordOf) : Type 0 where
+  pub inside : other.line ≢ end_line → one.line ≢ end_line
+  pub never : other.line ≢ end_line → is_before lines (anchor_of other) (anchor_of one) ≡ false
+
 -- The rows of a record: the record, the label of the next one, and where the rows begin and end.
 pub record SegmentOf : Type 0 where
   pub owner : PageRecordOf
@@ -182,6 +187,11 @@ pub record LiesWithin (rows : ℕ) (sheet : SheetOf) : Type 0 where
   pub order : sheet.start ≤ sheet.end
   pub within : sheet.end ≤ rows
   pub some : sheet.omitted ≡ false → sheet.start < sheet.end
+
+-- The rows of sheets follow one another, from one row to another.
+abbrev pub Covers : ℕ → List SheetOf → ℕ → Type 0
+Covers at [] end = at ≡ end
+Covers at (sheet ∷ later) end = (sheet.start ≡ at) × Covers sheet.end later end
 
 -- A record whose line is neither in the text nor the end.
 abbrev pub is_removed : List LineState → PageRecordOf → Bool
