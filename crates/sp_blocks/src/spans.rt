@@ -1,11 +1,9 @@
 //! Parts and runs of a line.
 ghost use Rattle.std.specs.Prelude.{◌≡◌, ◌≤◌, ◌++◌, length, drop, IfOk, OnOk};
-ghost use Rattle.spec_text.specs.Parts.{Parts};
 ghost use Rattle.spec_script.specs.Spans.{part};
-ghost use Rattle.spec_script.specs.Visible.{clip_runs, clip_spans, line_runs, plain_runs, run_part};
+ghost use Rattle.spec_script.specs.Visible.{clip_runs, clip_spans, plain_runs, run_part};
 ghost use Rattle.sp_blocks.specs.Scanned.{between, later, outside};
 
-use sp_emph::runs;
 use spec_script::Run;
 use spec_text::Span;
 use std::alloc::{AllocError, Global};
@@ -84,15 +82,6 @@ pub fn plain_runs(alloc: Global, spans: &[Span]) -> Result<Vec<Run>, AllocError>
         })?;
     }
     Ok(runs)
-}
-
-/// The runs of these parts of a line: what is visible of them, with its styles.
-pub fn line_runs(alloc: Global, line: &str, spans: &[Span]) -> Result<Vec<Run>, AllocError>
-    requires short { length line.now ≤ 4096 }
-    requires parts { Parts line.now 0 spans.now }
-    ensures { IfOk result (λ v. v.items ≡ line_runs line.now spans.now) }
-{
-    runs(alloc, line, spans)
 }
 
 /// Adds a run of the style from one place to another, if it has a byte.

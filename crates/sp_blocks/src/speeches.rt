@@ -4,11 +4,11 @@ ghost use Rattle.spec_script.specs.Left.{trimmed};
 ghost use Rattle.spec_script.specs.Speeches.{cue_skip, has_caret, cue_line, spoken};
 ghost use Rattle.sp_blocks.specs.Groups.{TellsSpeech, IsSpeech, IsLastPlace};
 
-use crate::forms::{ends_in, is_forced_cue, is_parenthetical};
+use crate::forms::{is_forced_cue, is_parenthetical};
 use crate::left::{LeftLine, last_place};
 use crate::{Block, BlockLine};
 use sp_clean::is_cue;
-use sp_clean::letters::begins;
+use sp_clean::letters::{begins, ends_in};
 use spec_script::{Cut, Kind, Part};
 use std::alloc::{AllocError, Global};
 

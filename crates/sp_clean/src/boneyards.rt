@@ -1,3 +1,4 @@
+//! Boneyards, and the sorts of lines (docs/RULES.md, "Boneyards" and "Sorts of lines").
 ghost use Rattle.std.specs.Prelude.{◌≡◌, ◌==◌, ◌<◌, ◌≤◌, ◌&&◌, ◌||◌, length, nat_le, IfOk};
 ghost use Rattle.std.specs.List.{list_all};
 ghost use Rattle.spec_text.specs.Parts.{Parts};

@@ -1,12 +1,11 @@
+//! The forms of a line that stand by themselves (docs/RULES.md, "Letter tests").
 ghost use Rattle.std.specs.Prelude.{◌≡◌, ◌==◌, ◌≤◌, ◌||◌, length, slice_index_or};
-ghost use Rattle.std.specs.Char.{eq_ignore_ascii_case};
-ghost use Rattle.std.specs.List.{starts_with};
 ghost use Rattle.spec_text.specs.Parts.{Parts};
 ghost use Rattle.spec_script.specs.Trim.{trim};
 ghost use Rattle.spec_script.specs.Spans.{text_in};
 ghost use Rattle.spec_script.specs.Forms.{opens_with, is_natural_heading, is_forced_heading, is_natural_transition, is_natural_cue, without_caret, cue_name};
 
-use crate::letters::{begins_alphanumeric, begins_with_one, ends, is_uppercase};
+use crate::letters::{begins_alphanumeric, begins_with_one, begins_with_word, ends, is_uppercase};
 use crate::parts::{LINE_LIMIT, joined_text};
 use crate::spaces::trim;
 use spec_text::Span;
@@ -59,12 +58,6 @@ fn opens_with(text: &[u8], word: &[u8]) -> bool
     ensures { result ≡ opens_with text.now word.now }
 {
     begins_with_word(text, word) && ends_word(text, word.len())
-}
-
-fn begins_with_word(text: &[u8], word: &[u8]) -> bool
-    ensures { result ≡ starts_with eq_ignore_ascii_case text.now word.now }
-{
-    text.len() >= word.len() && word.eq_ignore_ascii_case(&text[..word.len()])
 }
 
 /// Whether `.` or U+0020 stands at a place.

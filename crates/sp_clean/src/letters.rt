@@ -1,5 +1,7 @@
-//! Tests of letters, and of a text's first and last byte (docs/RULES.md, "Letter tests").
+//! Tests of letters, and of what a text begins and ends with (docs/RULES.md, "Letter tests").
 ghost use Rattle.std.specs.Prelude.{◌≡◌};
+ghost use Rattle.std.specs.Char.{eq_ignore_ascii_case};
+ghost use Rattle.std.specs.List.{starts_with};
 ghost use Rattle.spec_script.specs.Letters.{has_no_lowercase, has_alphabetic, is_uppercase, is_alphanumeric, begins_alphanumeric, begins, ends, begins_with_one};
 ghost use Rattle.unicode_segmentation.specs.Segments.{is_number};
 
@@ -70,6 +72,19 @@ pub fn begins(text: &str, byte: u8) -> bool
 pub fn ends(text: &str, byte: u8) -> bool
     ensures { result ≡ ends byte text.now }
 {
-    let bytes = text.as_bytes();
+    ends_in(text.as_bytes(), byte)
+}
+
+/// Whether the last of these bytes is the given one.
+pub fn ends_in(bytes: &[u8], byte: u8) -> bool
+    ensures { result ≡ ends byte bytes.now }
+{
     !bytes.is_empty() && bytes[bytes.len() - 1] == byte
+}
+
+/// Whether a text begins with the word, ASCII letter case ignored.
+pub fn begins_with_word(text: &[u8], word: &[u8]) -> bool
+    ensures { result ≡ starts_with eq_ignore_ascii_case text.now word.now }
+{
+    text.len() >= word.len() && word.eq_ignore_ascii_case(&text[..word.len()])
 }

@@ -1,3 +1,4 @@
+//! Notes (docs/RULES.md, "Notes").
 ghost use Rattle.std.specs.Prelude.{◌≡◌, ◌+◌, ◌<◌, ◌≤◌, ◌++◌, not, map, length, IfOk, OnOk, if◌then◌else◌};
 ghost use Rattle.std.specs.List.{All, sum_by};
 ghost use Rattle.spec_text.specs.Parts.{Parts};

@@ -1,5 +1,5 @@
 //! Spaces, which are U+0020 and tabs (docs/RULES.md, "Letter tests").
-ghost use Rattle.std.specs.Prelude.{◌≡◌, ◌+◌, length};
+ghost use Rattle.std.specs.Prelude.{◌≡◌, ◌≤◌, ◌+◌, length};
 ghost use Rattle.std.specs.List.{list_all, prefix_len, suffix_len};
 ghost use Rattle.spec_script.specs.Trim.{is_space, trim};
 
@@ -29,7 +29,8 @@ pub fn trim(text: &str) -> &str
 
 /// How many spaces stand at the beginning.
 pub fn spaces_before(bytes: &[u8]) -> usize
-    ensures { result ≡ prefix_len is_space bytes.now }
+    ensures value { result ≡ prefix_len is_space bytes.now }
+    ensures within { result ≤ length bytes.now }
 {
     for (count, byte) in bytes.iter().enumerate() {
         if !is_space(*byte) {

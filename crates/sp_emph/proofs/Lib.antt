@@ -1,3 +1,3 @@
 pub mod PairWalk
 pub mod LookLaws
-pub mod MarkupLaws
+pub mod MarkerLaws

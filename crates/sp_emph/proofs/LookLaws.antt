@@ -1,12 +1,12 @@
 -- What is seen of a line, layer by layer, is what is seen of it.
-use Rattle.std.proofs.Common.{◌≡◌, ℕ, ◌<◌, Bool, true, false, ◌||◌, cond, List, length, replicate, get_or, Option, Some, None, option_map, refl, ap, ◌∙◌, arith}
+use Rattle.std.proofs.Common.{◌≡◌, ℕ, ◌<◌, Bool, true, false, ◌||◌, cond, List, length, map, get_or, Option, Some, None, option_map, refl, ap, ◌∙◌, arith}
 use Rattle.std.specs.Prelude.{bit_or}
-use Rattle.std.proofs.lemmas.List.{length-replicate, get_or-replicate}
-use Rattle.std.proofs.lemmas.List.FromFn.{fill_by_all}
+use Rattle.std.specs.List.{range_with_len}
+use Rattle.std.proofs.lemmas.List.FromFn.{fill_by_all, length-map-range_with_len, get_or-map-range_with_len}
 use Rattle.spec_script.specs.declared.Layer.{Layer}
 use Rattle.spec_script.specs.declared.Layer.TheVariants.{Italic, Bold, BoldItalic, Underline}
 use Rattle.spec_script.specs.Emphasis.{style_of, is_inside, is_spent, is_escape, is_removed, with_layer, style_at, pairs_of, looks_of}
-use Rattle.sp_emph.specs.Layering.{Changes, add_layer, add_emphasis}
+use Rattle.sp_emph.specs.Layering.{Changes, plain_look, add_layer, add_layers}
 
 -- A look that is gone stays gone, and any other is gone on a used marker and has the layer's style inside a pair.
 one_layer : (gone spent inside : Bool) (style more : ℕ)
@@ -26,7 +26,7 @@ module _ (line : List ℕ) where
   layer_more layer place gone style =
       one_layer gone (is_spent layer (pairs_of layer line) place) (is_inside layer (pairs_of layer line) place) style (style_of layer)
 
-  all_layers : (place : ℕ) → add_emphasis line place (Some 0) ≡ cond (is_removed line place) None (Some (style_at line place))
+  all_layers : (place : ℕ) → add_layers line place (plain_look line place) ≡ cond (is_removed line place) None (Some (style_at line place))
   all_layers place =
       let over = λ (layer : Layer) (look : Option ℕ). add_layer layer (pairs_of layer line) place look in
       ap (λ l. over Underline (over BoldItalic (over Bold l))) (layer_more Italic place (is_escape line place) 0)
@@ -34,12 +34,13 @@ module _ (line : List ℕ) where
       ∙ ap (λ l. over Underline l) (layer_more BoldItalic place _ _)
       ∙ layer_more Underline place _ _
 
-  pub looks-add_emphasis : (old new : List (Option ℕ)) → old ≡ replicate (length line) (Some 0) → Changes (add_emphasis line) old new → new ≡ looks_of line
-  looks-add_emphasis old new e changes =
-      let len : length old ≡ length line = ap length e ∙ length-replicate (length line) (Some 0) in
+  pub looks-add_layers : (old new : List (Option ℕ)) → old ≡ map (plain_look line) (range_with_len 0 (length line)) → Changes (add_layers line) old new → new ≡ looks_of line
+  looks-add_layers old new e changes =
+      let len : length old ≡ length line = ap length e ∙ length-map-range_with_len (plain_look line) 0 (length line) in
       fill_by_all (λ place. cond (is_removed line place) None (Some (style_at line place))) new (length line) None (changes.len ∙ len)
       (λ place low.
       let inside : place < length old = omega arith in
       changes.looks place inside
-      ∙ ap (add_emphasis line place) (ap (λ l. get_or l place None) e ∙ get_or-replicate (length line) place (Some 0) None low)
+      ∙ ap (add_layers line place)
+      (ap (λ l. get_or l place None) e ∙ get_or-map-range_with_len (plain_look line) 0 (length line) place place None low (omega arith))
       ∙ all_layers place)

@@ -1,5 +1,5 @@
 -- What is seen of a line's bytes, layer by layer.
-use Rattle.std.specs.Prelude.{◌≡◌, ℕ, ◌+◌, ◌<◌, ◌≤◌, bit_or, Bool, ◌&&◌, nat_le, nat_lt, List, All, AllPairs, length, slice_index_or, Option, None, option_map, if◌then◌else◌}
+use Rattle.std.specs.Prelude.{◌≡◌, ℕ, ◌+◌, ◌<◌, ◌≤◌, bit_or, Bool, ◌&&◌, nat_le, nat_lt, List, All, AllPairs, length, slice_index_or, Option, Some, None, option_map, if◌then◌else◌}
 use Rattle.spec_script.specs.declared.Layer.{Layer}
 use Rattle.spec_script.specs.declared.Layer.TheVariants.{Italic, Bold, BoldItalic, Underline}
 use Rattle.spec_script.specs.declared.Pair.{Pair}
@@ -44,13 +44,13 @@ hidden_spent layer pairs place look = if is_spent layer pairs place then None el
 abbrev pub add_layer : Layer → List Pair → ℕ → Option ℕ → Option ℕ
 add_layer layer pairs place look = hidden_spent layer pairs place (styled_inside layer pairs place look)
 
--- Nothing is seen of a `\` that is removed.
-abbrev pub hidden_escape : List ℕ → ℕ → Option ℕ → Option ℕ
-hidden_escape line place look = if is_escape line place then None else look
+-- What is seen of a byte without any layer: nothing, where it is a `\` that is removed.
+abbrev pub plain_look : List ℕ → ℕ → Option ℕ
+plain_look line place = if is_escape line place then None else Some 0
 
--- All that emphasis makes of what is seen of a line's byte.
-abbrev pub add_emphasis : List ℕ → ℕ → Option ℕ → Option ℕ
-add_emphasis line place look =
+-- All layers.
+abbrev pub add_layers : List ℕ → ℕ → Option ℕ → Option ℕ
+add_layers line place look =
     add_layer Underline (pairs_of Underline line) place
     (add_layer BoldItalic (pairs_of BoldItalic line) place
-    (add_layer Bold (pairs_of Bold line) place (add_layer Italic (pairs_of Italic line) place (hidden_escape line place look))))
+    (add_layer Bold (pairs_of Bold line) place (add_layer Italic (pairs_of Italic line) place look)))

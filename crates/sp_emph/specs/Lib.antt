@@ -1,3 +1,3 @@
 pub mod Layering
 pub mod Joining
-pub mod Markup
+pub mod Markers

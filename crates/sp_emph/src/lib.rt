@@ -6,6 +6,7 @@
 
 mod joins;
 mod looks;
+mod markers;
 mod marks;
 mod pairs;
 mod visible;

@@ -1,11 +1,11 @@
 // What is seen of each byte of a line: its style, or nothing where it is removed.
-ghost use Rattle.std.specs.Prelude.{◌≡◌, ◌<◌, ◌≤◌, ℕ, ◌+◌, ◌^◌, length, Some, replicate, IfOk, OnOk};
+ghost use Rattle.std.specs.Prelude.{◌≡◌, ◌<◌, ◌≤◌, ◌+◌, ◌^◌, length, map, IfOk, OnOk};
 ghost use Rattle.std.specs.List.{range_with_len};
-ghost use Rattle.spec_script.specs.Emphasis.{is_escape, looks_of, pairs_of};
-ghost use Rattle.sp_emph.specs.Layering.{AreWithin, Changes, styled_between, hidden_between, styled_inside, hidden_spent, hidden_escape, add_layer, add_emphasis};
-ghost use Rattle.sp_emph.specs.Markup.{markup_of};
+ghost use Rattle.spec_script.specs.Emphasis.{looks_of, markers_of, pairs_of, size_of};
+ghost use Rattle.sp_emph.specs.Layering.{AreWithin, Changes, styled_between, hidden_between, styled_inside, hidden_spent, plain_look, add_layer, add_layers};
 
-use crate::marks::{is_escape, markup_of, size_of, style_of};
+use crate::markers::markers_of;
+use crate::marks::{is_escape, size_of, style_of};
 use crate::pairs::pairs_of;
 use spec_script::{Layer, Pair};
 use std::alloc::{AllocError, Global};
@@ -21,14 +21,19 @@ fn add_style(looks: &mut [Option<u8>], layer: Layer, from: usize, to: usize)
     }
 }
 
-/// Hides what stands between two places.
-fn hide(looks: &mut [Option<u8>], from: usize, to: usize)
-    requires order { from ≤ to }
-    requires within { to ≤ length looks.old }
-    ensures { Changes (hidden_between from to) looks.old looks.new }
+/// Hides a marker of a layer.
+fn hide_marker(looks: &mut [Option<u8>], layer: Layer, marker: usize)
+    requires { marker + size_of layer ≤ length looks.old }
+    ensures { Changes (hidden_between marker (marker + size_of layer)) looks.old looks.new }
 {
-    for place in from..to {
-        looks[place] = None;
+    looks[marker] = None;
+    match layer {
+        Layer::Italic | Layer::Underline => {}
+        Layer::Bold => looks[marker + 1] = None,
+        Layer::BoldItalic => {
+            looks[marker + 1] = None;
+            looks[marker + 2] = None;
+        }
     }
 }
 
@@ -55,10 +60,9 @@ fn hide_markers(looks: &mut [Option<u8>], layer: Layer, pairs: &[Pair])
     requires { AreWithin layer pairs.now (length looks.old) }
     ensures { Changes (hidden_spent layer pairs.now) looks.old looks.new }
 {
-    let size = size_of(layer);
     for pair in pairs {
-        hide(looks, pair.first as usize, pair.first as usize + size);
-        hide(looks, pair.second as usize, pair.second as usize + size);
+        hide_marker(looks, layer, pair.first as usize);
+        hide_marker(looks, layer, pair.second as usize);
     }
 }
 
@@ -68,61 +72,52 @@ fn add_layer(
     looks: &mut [Option<u8>],
     layer: Layer,
     line: &[u8],
-    markup: &[u32],
+    markers: &[u32],
 ) -> Result<(), AllocError>
     requires short { length line.now ≤ 4096 }
     requires looks { length looks.old ≡ length line.now }
-    requires markup { markup.now ≡ markup_of line.now }
+    requires all { markers.now ≡ markers_of layer line.now }
     ensures { OnOk result (Changes (add_layer layer (pairs_of layer line.now)) looks.old looks.new) }
 {
-    let pairs = pairs_of(alloc, layer, line, markup)?;
+    let pairs = pairs_of(alloc, layer, line, markers)?;
     add_styles(looks, layer, &pairs);
     hide_markers(looks, layer, &pairs);
     Ok(())
 }
 
-/// Hides each `\` that is removed from a line.
-fn hide_escapes(looks: &mut [Option<u8>], line: &[u8], markup: &[u32])
-    requires looks { length looks.old ≡ length line.now }
-    requires markup { markup.now ≡ markup_of line.now }
-    ensures { Changes (hidden_escape line.now) looks.old looks.new }
-{
-    for place in markup {
-        let place = *place as usize;
-        if !is_escape(line, place) {
-            continue;
-        }
-        looks[place] = None;
-    }
-}
-
-/// Makes of the looks of plain bytes those of a line: each removed `\` is hidden, and all layers are added.
-fn add_emphasis(
-    alloc: Global,
-    looks: &mut [Option<u8>],
-    line: &[u8],
-    markup: &[u32],
-) -> Result<(), AllocError>
+/// Adds all layers to what is seen of a line.
+fn add_layers(alloc: Global, looks: &mut [Option<u8>], line: &[u8]) -> Result<(), AllocError>
     requires short { length line.now ≤ 4096 }
     requires looks { length looks.old ≡ length line.now }
-    requires markup { markup.now ≡ markup_of line.now }
-    ensures { OnOk result (Changes (add_emphasis line.now) looks.old looks.new) }
+    ensures { OnOk result (Changes (add_layers line.now) looks.old looks.new) }
 {
-    hide_escapes(looks, line, markup);
-    add_layer(alloc, looks, Layer::Italic, line, markup)?;
-    add_layer(alloc, looks, Layer::Bold, line, markup)?;
-    add_layer(alloc, looks, Layer::BoldItalic, line, markup)?;
-    add_layer(alloc, looks, Layer::Underline, line, markup)?;
+    let markers = markers_of(alloc, line)?;
+    add_layer(alloc, looks, Layer::Italic, line, &markers.italic)?;
+    add_layer(alloc, looks, Layer::Bold, line, &markers.bold)?;
+    add_layer(alloc, looks, Layer::BoldItalic, line, &markers.bold_italic)?;
+    add_layer(alloc, looks, Layer::Underline, line, &markers.underline)?;
     Ok(())
 }
 
-/// What is seen of so many bytes that nothing is done to.
-fn plain_looks(alloc: Global, count: usize) -> Result<Vec<Option<u8>>, AllocError>
-    ensures { IfOk result (λ v. v.items ≡ replicate count (Some 0)) }
+/// What is seen of a byte without any layer: nothing, where it is a `\` that is removed.
+fn plain_look(line: &[u8], place: usize) -> Option<u8>
+    requires { place < 2 ^ 63 }
+    ensures { result ≡ plain_look line.now place }
 {
-    let mut looks = Vec::new(alloc);
-    looks.resize(count, Some(0))?;
-    Ok(looks)
+    if is_escape(line, place) {
+        None
+    } else {
+        Some(0)
+    }
+}
+
+fn plain_looks(alloc: Global, line: &[u8]) -> Result<Vec<Option<u8>>, AllocError>
+    requires { length line.now ≤ 4096 }
+    ensures { IfOk result (λ v. v.items ≡ map (plain_look line.now) (range_with_len 0 (length line.now))) }
+{
+    (0..line.len())
+        .map(|place| plain_look(line, place))
+        .collect(alloc)
 }
 
 /// What is seen of each byte of a line.
@@ -130,8 +125,7 @@ pub fn looks_of(alloc: Global, line: &[u8]) -> Result<Vec<Option<u8>>, AllocErro
     requires { length line.now ≤ 4096 }
     ensures { IfOk result (λ v. v.items ≡ looks_of line.now) }
 {
-    let markup = markup_of(alloc, line)?;
-    let mut looks = plain_looks(alloc, line.len())?;
-    add_emphasis(alloc, &mut looks, line, &markup)?;
+    let mut looks = plain_looks(alloc, line)?;
+    add_layers(alloc, &mut looks, line)?;
     Ok(looks)
 }

@@ -1,12 +1,9 @@
 // Marks of a cleaned line, and the layers that they make markers for.
-ghost use Rattle.std.specs.Prelude.{◌≡◌, ◌+◌, ◌^◌, ◌<◌, ◌≤◌, length, IfOk};
-ghost use Rattle.std.specs.List.{list_all, range_with_len};
+ghost use Rattle.std.specs.Prelude.{◌≡◌, ◌+◌, ◌^◌, ◌<◌, ◌≤◌};
 ghost use Rattle.spec_script.specs.Trim.{is_space};
-ghost use Rattle.spec_script.specs.Emphasis.{mark_of, size_of, style_of, is_markup, byte_at, byte_before, is_mark, is_escape, is_marker, opens, closes};
-ghost use Rattle.sp_emph.specs.Markup.{markup_of};
+ghost use Rattle.spec_script.specs.Emphasis.{mark_of, size_of, style_of, is_markup, byte_at, byte_before, is_mark, is_escape, opens, closes};
 
 use spec_script::Layer;
-use std::alloc::{AllocError, Global};
 
 /// The mark of a layer.
 fn mark_of(layer: Layer) -> u8
@@ -73,18 +70,8 @@ pub fn is_markup(byte: u8) -> bool
     matches!(byte, b'*' | b'_' | b'\\')
 }
 
-/// The places of all marks and `\` of a line, from left to right.
-pub fn markup_of(alloc: Global, line: &[u8]) -> Result<Vec<u32>, AllocError>
-    requires { length line.now ≤ 4096 }
-    ensures { IfOk result (λ v. v.items ≡ markup_of line.now) }
-{
-    (0..line.len() as u32)
-        .filter(|place| is_markup(byte_at(line, *place as usize)))
-        .collect(alloc)
-}
-
 /// Whether a layer's mark stands at a place, and no `\` makes it literal.
-fn is_mark(layer: Layer, line: &[u8], place: usize) -> bool
+pub fn is_mark(layer: Layer, line: &[u8], place: usize) -> bool
     ensures { result ≡ is_mark layer line.now place }
 {
     byte_at(line, place) == mark_of(layer) && byte_before(line, place) != b'\\'
@@ -96,25 +83,6 @@ pub fn is_escape(line: &[u8], place: usize) -> bool
     ensures { result ≡ is_escape line.now place }
 {
     byte_at(line, place) == b'\\' && matches!(byte_at(line, place + 1), b'*' | b'_')
-}
-
-/// Whether so many marks of a layer stand from a place on.
-fn are_marks(layer: Layer, line: &[u8], place: usize, count: usize) -> bool
-    requires { place + count < 2 ^ 63 }
-    ensures { result ≡ list_all (is_mark layer line.now) (range_with_len place count) }
-{
-    (place..place + count).all(|at| is_mark(layer, line, at))
-}
-
-/// Whether a marker of a layer begins at a place.
-pub fn is_marker(layer: Layer, line: &[u8], place: usize) -> bool
-    requires { place < 2 ^ 62 }
-    ensures { result ≡ is_marker layer line.now place }
-{
-    let end = place + size_of(layer);
-    are_marks(layer, line, place, size_of(layer))
-        && !is_mark(layer, line, end)
-        && !(place > 0 && is_mark(layer, line, place - 1))
 }
 
 /// Whether a marker of a layer stands directly before a character that is no space.

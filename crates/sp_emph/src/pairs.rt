@@ -1,28 +1,11 @@
 // The pairs of a layer's markers.
-ghost use Rattle.std.specs.Prelude.{◌≡◌, ◌+◌, ◌^◌, ◌<◌, ◌≤◌, nat_lt, ◌&&◌, ℕ, false, true, max, length, filter, slice_index, IfOk};
-ghost use Rattle.spec_script.specs.Emphasis.{closes, is_marker, markers_of, pairs_of};
+ghost use Rattle.std.specs.Prelude.{◌≡◌, ◌+◌, ◌^◌, ◌<◌, ◌≤◌, nat_lt, ◌&&◌, ℕ, false, true, length, slice_index, IfOk};
+ghost use Rattle.spec_script.specs.Emphasis.{closes, markers_of, pairs_of};
 ghost use Rattle.sp_emph.specs.Layering.{AreWithin};
-ghost use Rattle.sp_emph.specs.Markup.{markup_of};
 
-use crate::marks::{closes, is_marker, opens};
+use crate::marks::{closes, opens};
 use spec_script::{Layer, Pair};
 use std::alloc::{AllocError, Global};
-
-/// Those places at which a marker of a layer begins.
-fn markers_among(
-    alloc: Global,
-    layer: Layer,
-    line: &[u8],
-    places: &[u32],
-) -> Result<Vec<u32>, AllocError>
-    ensures { IfOk result (λ v. v.items ≡ filter (is_marker layer line.now) places.now) }
-{
-    places
-        .iter()
-        .copied()
-        .filter(|place| is_marker(layer, line, *place as usize))
-        .collect(alloc)
-}
 
 /// The index of the first marker, from an index on, that closes, or the number of markers.
 fn next_close(line: &[u8], markers: &[u32], from: usize) -> usize
@@ -43,27 +26,12 @@ fn next_close(line: &[u8], markers: &[u32], from: usize) -> usize
 fn is_used(line: &[u8], marker: usize, index: usize, used: usize) -> bool
     ensures { result ≡ (closes line.now marker && nat_lt index used) }
 {
-    closes(line, marker) && index < used
+    index < used && closes(line, marker)
 }
 
 /// The pairs of a layer, in order of their first markers. Of the markers from one on, those that an earlier pair used
 /// are always the ones that close before the index `used`, so each is looked at twice at most.
 pub fn pairs_of(
-    alloc: Global,
-    layer: Layer,
-    line: &[u8],
-    markup: &[u32],
-) -> Result<Vec<Pair>, AllocError>
-    requires short { length line.now ≤ 4096 }
-    requires all { markup.now ≡ markup_of line.now }
-    ensures value { IfOk result (λ v. v.items ≡ pairs_of layer line.now) }
-    ensures within { IfOk result (λ v. AreWithin layer v.items (length line.now)) }
-{
-    let markers = markers_among(alloc, layer, line, markup)?;
-    pair_up(alloc, layer, line, &markers)
-}
-
-fn pair_up(
     alloc: Global,
     layer: Layer,
     line: &[u8],

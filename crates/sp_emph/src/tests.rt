@@ -49,6 +49,22 @@ fn marks_become_styles(rt: HostRuntime) -> Result<(), Fail> {
 }
 
 #[test]
+fn no_layer_sees_the_marks_of_another(rt: HostRuntime) -> Result<(), Fail> {
+    let alloc = rt.alloc();
+    let cases: [Case; 4] = [
+        ("****a****", &[(0, 9)], &[(0, 9, 0)]),
+        ("__a__", &[(0, 5)], &[(0, 5, 0)]),
+        ("*a**b*", &[(0, 6)], &[(1, 5, 1)]),
+        ("*_a_*", &[(0, 5)], &[(2, 3, 5)]),
+    ];
+    for (text, kept, expected) in cases {
+        let found = runs(alloc, text, kept)?;
+        assert_eq!(rt; told(alloc, &found)?.as_slice(), expected, "{text}");
+    }
+    Ok(())
+}
+
+#[test]
 fn kept_parts_join_where_they_touch(rt: HostRuntime) -> Result<(), Fail> {
     let alloc = rt.alloc();
     let cases: [Case; 3] = [

@@ -1,3 +1,4 @@
+pub mod Displacement
 pub mod Gap
 pub mod Plain
 pub mod Reading

@@ -2,10 +2,12 @@
 #![tactic(auto)]
 
 mod cut;
+mod displaced;
 mod fault;
 mod line;
 mod lines;
 
+pub use displaced::Displaced;
 pub use fault::TextFault;
 pub use line::{Line, LineView};
 pub use lines::Lines;

@@ -1,94 +1,78 @@
-//! The keys of a title page, and what a line's kept text begins with.
-ghost use Rattle.std.specs.Prelude.{◌≡◌, ◌≤◌, ◌+◌, ◌++◌, ◌∷◌, [], length, take, IfSome, ◌<◌};
-ghost use Rattle.std.specs.Char.{eq_ignore_ascii_case};
-ghost use Rattle.std.specs.List.{list_any, starts_with};
-ghost use Rattle.spec_text.specs.Parts.{Parts};
-ghost use Rattle.spec_script.specs.Spans.{text_in};
-ghost use Rattle.spec_script.specs.Title.{begins_with_key, centred_keys, other_keys, is_indented, same_word};
-ghost use Rattle.sp_title.specs.Keys.{EndsKey};
+//! The keys of a title page, by the kept text of a line.
+ghost use Rattle.std.specs.Prelude.{◌≡◌, ◌≤◌, length};
+ghost use Rattle.std.specs.List.{list_any};
+ghost use Rattle.spec_script.specs.Title.{begins_with_key, centred_keys, other_keys, colon, has_key, is_centred_key, is_indented, same_word, value_from};
 
-use crate::kept::{byte_at, colon};
-use spec_text::Span;
+use sp_clean::letters::begins_with_word;
 
-/// Whether the kept text begins with the word, ASCII letter case ignored.
-fn begins_with(line: &[u8], kept: &[Span], word: &[u8]) -> bool
-    requires { Parts line.now 0 kept.now }
-    ensures { result ≡ starts_with eq_ignore_ascii_case (text_in line.now kept.now) word.now }
+/// Whether the text begins with a key whose values are centred, and a colon.
+pub fn begins_with_centred_key(text: &[u8]) -> bool
+    ensures { result ≡ list_any (begins_with_key text.now) centred_keys }
 {
-    for (at, byte) in word.iter().enumerate() {
-        let Some(found) = byte_at(line, kept, at) else {
-            return false;
-        };
-        if !byte.eq_ignore_ascii_case(&found) {
-            return false;
-        }
-    }
-    true
+    begins_with_word(text, b"Title:")
+        || begins_with_word(text, b"Credit:")
+        || begins_with_word(text, b"Author:")
+        || begins_with_word(text, b"Authors:")
+        || begins_with_word(text, b"Source:")
 }
 
-/// Whether the kept text begins with a key whose values are centred, and a colon.
-pub fn opens_centred(line: &[u8], kept: &[Span]) -> bool
-    requires { Parts line.now 0 kept.now }
-    ensures { result ≡ list_any (begins_with_key (text_in line.now kept.now)) centred_keys }
+/// Whether the text begins with one of the other keys, and a colon.
+pub fn begins_with_other_key(text: &[u8]) -> bool
+    ensures { result ≡ list_any (begins_with_key text.now) other_keys }
 {
-    begins_with(line, kept, b"Title:")
-        || begins_with(line, kept, b"Credit:")
-        || begins_with(line, kept, b"Author:")
-        || begins_with(line, kept, b"Authors:")
-        || begins_with(line, kept, b"Source:")
+    begins_with_word(text, b"Draft date:")
+        || begins_with_word(text, b"Contact:")
+        || begins_with_word(text, b"Notes:")
+        || begins_with_word(text, b"Copyright:")
 }
 
-/// Whether the kept text begins with one of the other keys, and a colon.
-pub fn opens_other(line: &[u8], kept: &[Span]) -> bool
-    requires { Parts line.now 0 kept.now }
-    ensures { result ≡ list_any (begins_with_key (text_in line.now kept.now)) other_keys }
+/// How many bytes stand before the first colon; all, where there is none.
+fn colon(text: &[u8]) -> usize
+    ensures value { result ≡ colon text.now }
+    ensures within { result ≤ length text.now }
 {
-    begins_with(line, kept, b"Draft date:")
-        || begins_with(line, kept, b"Contact:")
-        || begins_with(line, kept, b"Notes:")
-        || begins_with(line, kept, b"Copyright:")
+    text.iter().take_while(|byte| **byte != b':').count()
 }
 
-/// Whether the kept text begins with a tab or three U+0020.
-fn is_indented(line: &[u8], kept: &[Span]) -> bool
-    requires { Parts line.now 0 kept.now }
-    ensures { result ≡ is_indented (text_in line.now kept.now) }
+/// Whether the text begins with a tab or three U+0020.
+fn is_indented(text: &[u8]) -> bool
+    ensures { result ≡ is_indented text.now }
 {
-    byte_at(line, kept, 0) == Some(b'\t') || begins_with(line, kept, b"   ")
+    (!text.is_empty() && text[0] == b'\t') || text.starts_with(b"   ")
 }
 
-/// The place in the kept text of the colon behind the line's key, if it has one.
-pub fn key_end(line: &[u8], kept: &[Span]) -> Option<usize>
-    requires short { length line.now ≤ 4096 }
-    requires parts { Parts line.now 0 kept.now }
-    ensures place { EndsKey (text_in line.now kept.now) result }
-    ensures low { IfSome result (λ at. at < 4096) }
+/// Whether a line with this kept text has a key, on a title page. (docs/RULES.md, "Title page")
+pub fn has_key(text: &[u8]) -> bool
+    ensures { result ≡ has_key text.now }
 {
-    let colon = colon(line, kept)?;
-    if colon == 0 || is_indented(line, kept) {
-        return None;
-    }
-    Some(colon)
+    let colon = colon(text);
+    !is_indented(text) && 0 < colon && colon < text.len()
 }
 
-/// Whether the key before the colon is the word, ASCII letter case ignored.
-fn is_key(line: &[u8], kept: &[Span], colon: usize, word: &[u8]) -> bool
-    requires parts { Parts line.now 0 kept.now }
-    requires within { colon ≤ length (text_in line.now kept.now) }
-    ensures { result ≡ same_word (take colon (text_in line.now kept.now)) word.now }
+/// Where the value of a line with this kept text begins in that text: behind its key's colon, or at 0 where it has no
+/// key. (docs/RULES.md, "Title page")
+pub fn value_from(text: &[u8]) -> usize
+    ensures value { result ≡ value_from text.now }
+    ensures within { result ≤ length text.now }
 {
-    colon == word.len() && begins_with(line, kept, word)
+    if has_key(text) { colon(text) + 1 } else { 0 }
 }
 
-/// Whether the values of the key before the colon are centred.
-pub fn is_centred_key(line: &[u8], kept: &[Span], colon: usize) -> bool
-    requires parts { Parts line.now 0 kept.now }
-    requires within { colon ≤ length (text_in line.now kept.now) }
-    ensures { result ≡ list_any (same_word (take colon (text_in line.now kept.now))) centred_keys }
+/// Whether the key is the word, ASCII letter case ignored.
+fn is_key(key: &[u8], word: &[u8]) -> bool
+    ensures { result ≡ same_word key.now word.now }
 {
-    is_key(line, kept, colon, b"Title")
-        || is_key(line, kept, colon, b"Credit")
-        || is_key(line, kept, colon, b"Author")
-        || is_key(line, kept, colon, b"Authors")
-        || is_key(line, kept, colon, b"Source")
+    key.len() == word.len() && begins_with_word(key, word)
+}
+
+/// Whether the values of the key that stands before the first colon are centred.
+pub fn is_centred_key(text: &[u8]) -> bool
+    ensures { result ≡ is_centred_key text.now }
+{
+    let key = &text[..colon(text)];
+    is_key(key, b"Title")
+        || is_key(key, b"Credit")
+        || is_key(key, b"Author")
+        || is_key(key, b"Authors")
+        || is_key(key, b"Source")
 }

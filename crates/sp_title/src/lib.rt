@@ -1,21 +1,24 @@
-//! Lines of a title page (docs/RULES.md, "Title page"). Both calls read a line by its kept parts, and take no memory.
+//! Lines of a title page (docs/RULES.md, "Title page"). No call takes memory.
 //!
 //! All places are places of bytes in the line, from 0. A line has at most 4,096 bytes. The kept parts lie in the line,
 //! begin and end between characters, and stand in order; the kept text is what they have, one after the other.
 #![tactic(auto)]
 
-mod kept;
 mod keys;
 #[cfg(test)]
 mod tests;
 
-ghost use Rattle.std.specs.Prelude.{◌≡◌, ◌≤◌, length};
+ghost use Rattle.std.specs.Prelude.{◌≡◌, ◌≤◌, ◌+◌, drop, not, length};
+ghost use Rattle.std.specs.List.{position_or_len};
 ghost use Rattle.spec_text.specs.Parts.{Parts};
 ghost use Rattle.spec_script.specs.Spans.{text_in};
-ghost use Rattle.spec_script.specs.Title.{title_opens, title_line_of};
+ghost use Rattle.spec_script.specs.Trim.{is_space};
+ghost use Rattle.spec_script.specs.Title.{place_or_end, title_line_of, title_opens};
 
-use crate::kept::{has_only_spaces, unspaced_place};
-use crate::keys::{is_centred_key, key_end, opens_centred, opens_other};
+pub use crate::keys::{has_key, value_from};
+use crate::keys::{begins_with_centred_key, begins_with_other_key, is_centred_key};
+use sp_clean::parts::{LINE_LIMIT, joined_text, place_of};
+use sp_clean::spaces::{all_spaces, spaces_before};
 pub use spec_script::TitleLine;
 pub use spec_text::Span;
 
@@ -26,8 +29,9 @@ pub fn title_opens(text: &str, kept: &[Span]) -> bool
     requires parts { Parts text.now 0 kept.now }
     ensures { result ≡ title_opens (text_in text.now kept.now) }
 {
-    let line = text.as_bytes();
-    opens_centred(line, kept) || opens_other(line, kept)
+    let mut buffer = [0; LINE_LIMIT];
+    let joined = joined_text(text, kept, &mut buffer).as_bytes();
+    begins_with_centred_key(joined) || begins_with_other_key(joined)
 }
 
 /// What the line is on a title page: `Opens` with a new key, whose values are `centred` or not, `Value` with a further
@@ -40,17 +44,34 @@ pub fn title_line(text: &str, kept: &[Span]) -> TitleLine
     requires parts { Parts text.now 0 kept.now }
     ensures { result ≡ title_line_of text.now kept.now }
 {
-    let line = text.as_bytes();
-    if has_only_spaces(line, kept) {
+    let mut buffer = [0; LINE_LIMIT];
+    let joined = joined_text(text, kept, &mut buffer).as_bytes();
+    if all_spaces(joined) {
         return TitleLine::Nothing;
     }
-    match key_end(line, kept) {
-        Some(colon) => TitleLine::Opens {
-            from: unspaced_place(line, kept, colon + 1),
-            centred: is_centred_key(line, kept, colon),
-        },
-        None => TitleLine::Value {
-            from: unspaced_place(line, kept, 0),
-        },
+    let from = place_or_end(text, kept, unspaced(joined, value_from(joined)));
+    if has_key(joined) {
+        TitleLine::Opens {
+            from,
+            centred: is_centred_key(joined),
+        }
+    } else {
+        TitleLine::Value { from }
     }
+}
+
+/// The first byte from a byte on that is no space, or the length.
+fn unspaced(text: &[u8], from: usize) -> usize
+    requires { from ≤ length text.now }
+    ensures { result ≡ from + position_or_len (λ b. not (is_space b)) (drop from text.now) }
+{
+    from + spaces_before(&text[from..])
+}
+
+/// The place in the line of a byte of its kept text, or the line's end where that has no such byte.
+fn place_or_end(text: &str, kept: &[Span], byte: usize) -> u32
+    requires { length text.now ≤ 4096 }
+    ensures { result ≡ place_or_end text.now kept.now byte }
+{
+    place_of(kept, byte).unwrap_or(text.len() as u32)
 }

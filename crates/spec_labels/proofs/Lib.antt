@@ -7,3 +7,10 @@ pub mod SceneRows
 pub mod SceneSpots
 pub mod SceneLabels
 pub mod SceneRecordLaws
+pub mod PageRows
+pub mod PageRecordLaws
+pub mod SheetLaws
+pub mod SheetExtents
+pub mod PutBackLaws
+pub mod RunLaws
+pub mod SheetCover

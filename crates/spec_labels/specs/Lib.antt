@@ -1,3 +1,4 @@
 pub mod Labels
 pub mod LabelReading
 pub mod Scenes
+pub mod PageRecords

@@ -8,7 +8,7 @@ use Rattle.sp_clean.proofs.spaces.trim.Goals.{After-max-to}
 
 start : (c : After-max-to) → IsCharBoundary c.args.text.now c.spaces_before-from.result
 start c =
-    subst (IsCharBoundary c.args.text.now) (sym (c.spaces_before-from.ensures ∙ ap (prefix_len is_space) c.as_bytes-bytes.ensures.value))
+    subst (IsCharBoundary c.args.text.now) (sym (c.spaces_before-from.ensures.value ∙ ap (prefix_len is_space) c.as_bytes-bytes.ensures.value))
     (boundary-prefix c.args.text.now c.utf8.text)
 
 pub range-requires-clause-start_boundary : goal.range-requires-clause-start_boundary

@@ -1,0 +1,3 @@
+pub mod NewLabels
+pub mod Locking
+pub mod Extending

@@ -1,2 +1,0 @@
-pub mod KeptWalk
-pub mod WordWalk
