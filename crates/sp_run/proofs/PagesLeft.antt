@@ -4,7 +4,7 @@ use Rattle.std.specs.declared.option.Option.{Option}
 use Rattle.std.specs.Io.KnownBytes.{Appends}
 use Rattle.std.specs.List.{flat_map}
 use Rattle.std.proofs.KnownBytes.{Appends-nil, Appends-trans}
-use Rattle.std.proofs.lemmas.List.{append-nil, length-map}
+use Rattle.std.proofs.lemmas.List.{append-nil}
 use Rattle.sp_kit.specs.Outside.{AppendsPrefix}
 use Rattle.sp_kit.proofs.Writing.{AppendsPrefix-front, AppendsPrefix-then, AppendsPrefix-all}
 use Rattle.spec_pages.specs.declared.Shape.{Shape}

@@ -5,7 +5,7 @@ use Rattle.std.specs.declared.string.String.{String}
 use Rattle.std.specs.declared.alloc.Global.{Global}
 use Rattle.std.specs.Io.KnownBytes.{Appends, Consumes, Keeps, IsAtEnd}
 use Rattle.spec_text.specs.Limits.{raw_limit}
-use Rattle.spec_text.specs.Lines.{TextState, line_texts}
+use Rattle.spec_text.specs.Lines.{TextState}
 use Rattle.spec_desk.specs.Printing.{Printing, too_long, no_utf8, long_line, printed, printing_of, sheets_bytes}
 use Rattle.sp_kit.specs.Causes.{Rose}
 use Rattle.sp_kit.specs.Outside.{AppendsPrefix}

@@ -1,11 +1,10 @@
-use Rattle.std.proofs.Common.{◌≡◌, ℕ, ◌+◌, ◌<◌, ◌≤◌, List, [], ◌++◌, length, map, append_assoc, ap, sym, ◌∙◌, subst, arith}
+use Rattle.std.proofs.Common.{◌≡◌, ◌+◌, List, ◌++◌, map, append_assoc, ap, sym, ◌∙◌, subst, arith}
 use Rattle.std.specs.Prelude.{All}
 use Rattle.std.specs.Str.{IsUtf8}
 use Rattle.std.proofs.lemmas.List.{append-nil}
 use Rattle.std.proofs.lemmas.List.Elements.{All-map}
-use Rattle.spec_text.specs.Limits.{line_count_limit}
 use Rattle.spec_text.specs.Lines.{LineState, TextState, IsText, line_texts}
-use Rattle.spec_script.specs.BlockValues.{BlockOf, StanzaOf}
+use Rattle.spec_script.specs.BlockValues.{StanzaOf}
 use Rattle.spec_script.specs.Stanzas.{PlacedBlock, IsFresh, blocks_from, blocks_of, stanzas_from}
 use Rattle.spec_script.specs.Elements.{placed_at, PlacedLies, PlacesRise}
 use Rattle.spec_script.proofs.BlockPlaces.{FromPlace, blocks_of-lie}

@@ -1,7 +1,5 @@
 use Rattle.std.proofs.Common.{◌≡◌, ℕ, ◌+◌, List, [], ◌++◌, length, ap, sym, ◌∙◌, subst, arith}
-use Rattle.std.specs.Prelude.{Ok, Err, IsErrAnd, nat_lt, find, unwrap_or}
-use Rattle.std.specs.declared.option.Option.{Option}
-use Rattle.std.specs.declared.result.Result.{Result}
+use Rattle.std.specs.Prelude.{nat_lt, find, unwrap_or}
 use Rattle.std.specs.Io.KnownBytes.{Appends}
 use Rattle.spec_text.specs.Lines.{line_texts}
 use Rattle.spec_pages.specs.declared.Shape.{Shape}
@@ -9,8 +7,6 @@ use Rattle.spec_pages.specs.Pages.{next_page, page_end}
 use Rattle.spec_desk.specs.Sheets.{page_sheet, sheet_bytes}
 use Rattle.sp_kit.specs.Causes.{Rose}
 use Rattle.sp_kit.specs.Outside.{AppendsPrefix}
-use Rattle.sp_run.specs.Written.{IsWritten}
-use Rattle.sp_run.specs.declared.status.Status.{Status}
 use Rattle.sp_run.specs.declared.status.Status.TheVariants as statuses
 use Rattle.sp_run.proofs.WrittenParts.{as_error}
 use Rattle.sp_run.proofs.PagesLeft.{left-next, left-prefix, left-part, left-last}

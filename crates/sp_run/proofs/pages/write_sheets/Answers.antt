@@ -7,7 +7,7 @@ use Rattle.spec_pages.specs.Rows.{Row}
 use Rattle.spec_desk.specs.Layout.{Layout, layout_of}
 use Rattle.spec_desk.specs.Sheets.{body_shape, title_shape, sheets_in, sheet_bytes}
 use Rattle.spec_desk.specs.Printing.{sheets_bytes}
-use Rattle.sp_run.specs.Written.{WroteAll, IsWritten}
+use Rattle.sp_run.specs.Written.{IsWritten}
 use Rattle.sp_run.proofs.WrittenParts.{written-both, written-first, as_error}
 use Rattle.sp_run.proofs.pages.write_sheets.Goals as goal
 

@@ -1,15 +1,14 @@
-use Rattle.std.proofs.Common.{◌≡◌, ℕ, ◌+◌, true, false, List, [], ◌++◌, map, append_assoc, ap, ap₂, sym, ◌∙◌, subst}
-use Rattle.std.specs.Prelude.{Ok, Err, OnOk, sum_by}
+use Rattle.std.proofs.Common.{◌≡◌, ℕ, true, false, List, ◌++◌, map, append_assoc, ap, ap₂, sym, ◌∙◌, subst}
+use Rattle.std.specs.Prelude.{Ok, Err, OnOk}
 use Rattle.std.specs.declared.result.Result.{Result}
 use Rattle.std.specs.List.{flat_map}
 use Rattle.std.proofs.lemmas.List.{append-nil}
 use Rattle.spec_text.specs.Lines.{line_texts}
 use Rattle.spec_script.specs.declared.Run.{Run}
 use Rattle.spec_script.specs.Runs.{RunParts}
-use Rattle.spec_pages.specs.Clusters.{columns_of}
 use Rattle.spec_pages.specs.Rows.{Cell}
 use Rattle.spec_desk.specs.Layout.{cell_at}
-use Rattle.spec_desk.specs.Sheets.{ShowsParts, shown_cell, cell_bytes, columns_behind, spaces, gap, untabbed, slice_of}
+use Rattle.spec_desk.specs.Sheets.{ShowsParts, shown_cell, cell_bytes, spaces, untabbed, slice_of}
 use Rattle.sp_run.proofs.LineTexts.{text_at-line}
 use Rattle.sp_run.proofs.ShownRows.{shows, no-cell, some-cell}
 use Rattle.sp_run.proofs.sheets.add_cell.Goals as goal

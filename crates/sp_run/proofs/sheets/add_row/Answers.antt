@@ -1,7 +1,7 @@
 use Rattle.std.proofs.Common.{ap, sym, ◌∙◌, subst}
 use Rattle.std.specs.Prelude.{All}
 use Rattle.spec_text.specs.Lines.{line_texts}
-use Rattle.spec_pages.specs.Rows.{Row, Cell}
+use Rattle.spec_pages.specs.Rows.{Cell}
 use Rattle.spec_desk.specs.Layout.{cell_at}
 use Rattle.spec_desk.specs.Sheets.{ShowsParts, RowShows}
 use Rattle.sp_run.specs.declared.layout.PlacedRow.TheInside.{Inside}
