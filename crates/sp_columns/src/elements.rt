@@ -53,7 +53,7 @@ fn numbered_cells(alloc: Global, block: &Block, cells: Vec<Cell>) -> Result<Vec<
         return Ok(cells);
     }
     let mut cells = cells;
-    let mut numbered = Vec::new(alloc);
+    let mut numbered = Vec::with_capacity(alloc, 3)?;
     numbered.push(number_cell(alloc, block, NUMBER_BEFORE)?)?;
     numbered.append(&mut cells)?;
     numbered.push(number_cell(alloc, block, NUMBER_BEHIND)?)?;

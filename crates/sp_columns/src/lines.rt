@@ -43,7 +43,7 @@ fn line_row(
     let place = shift + line.offset;
     let row_kind = row_kind(kind, line.part);
     let sentence_end = is_dialogue(row_kind) && ends_sentence(text, &row.runs);
-    let mut cells = Vec::new(alloc);
+    let mut cells = Vec::with_capacity(alloc, 1)?;
     cells.push(Cell {
         column: column_of(side, kind, line.part, row.width),
         line: place,
