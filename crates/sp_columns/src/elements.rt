@@ -3,7 +3,7 @@ ghost use Rattle.std.specs.Prelude.{◌≡◌, ◌+◌, ◌*◌, ◌^◌, ◌<�
 ghost use Rattle.spec_text.specs.Limits.{line_count_limit};
 ghost use Rattle.spec_text.specs.Lines.{line_texts};
 ghost use Rattle.spec_script.specs.BlockParts.{BlockLies};
-ghost use Rattle.spec_pages.specs.ElementRows.{dual_rows, half_row, joined_row, joined_rows, lead_at, number_cell, number_runs, numbered_cells, shaped_row, shaped_rows, single_rows, with_number};
+ghost use Rattle.spec_pages.specs.Rows.{dual_rows, half_row, joined_row, joined_rows, lead_at, number_cell, number_runs, numbered_cells, shaped_row, shaped_rows, single_rows, with_number};
 
 use crate::columns::{first_lead, has_rows};
 use crate::lines::block_rows;
@@ -53,7 +53,7 @@ fn numbered_cells(alloc: Global, block: &Block, cells: Vec<Cell>) -> Result<Vec<
         return Ok(cells);
     }
     let mut cells = cells;
-    let mut numbered = Vec::new(alloc);
+    let mut numbered = Vec::with_capacity(alloc, 3)?;
     numbered.push(number_cell(alloc, block, NUMBER_BEFORE)?)?;
     numbered.append(&mut cells)?;
     numbered.push(number_cell(alloc, block, NUMBER_BEHIND)?)?;
@@ -204,8 +204,8 @@ fn joined_rows(
 }
 
 /// The rows of two speeches as dual dialogue (docs/RULES.md, "Elements"): the block of the stanza that begins at the line
-/// `first` on the left, from which the rows and cells count their lines, and `second` of a later stanza, which begins at
-/// `second_first`, on the right. Both lie in the lines, as those that `read_stanza` gives there do. The error is want of
+/// `first` on the left, from which the rows and cells count their lines, and `second` of the one that begins at
+/// `second_first`, no earlier line, on the right. Both lie in the lines, as those that `read_stanza` gives there do. The error is want of
 /// memory alone.
 pub fn dual_rows(
     alloc: Global,
@@ -217,7 +217,7 @@ pub fn dual_rows(
 ) -> Result<Vec<Row>, AllocError>
     requires left { BlockLies (line_texts lines.now.lines) first block.now }
     requires right { BlockLies (line_texts lines.now.lines) second_first second.now }
-    requires order { first < second_first }
+    requires order { first ≤ second_first }
     ensures { IfOk result (λ rows. rows.items ≡ dual_rows lines.now.lines first block.now second_first second.now) }
 {
     let shift = (second_first - first) as u32;

@@ -6,7 +6,7 @@ ghost use Rattle.spec_text.specs.Lines.{line_texts};
 ghost use Rattle.spec_script.specs.BlockParts.{BlockLies, LineLies};
 ghost use Rattle.spec_script.specs.Runs.{RunParts};
 ghost use Rattle.spec_pages.specs.Pages.{is_dialogue};
-ghost use Rattle.spec_pages.specs.ElementRows.{block_rows, line_row, line_rows, text_rows};
+ghost use Rattle.spec_pages.specs.Rows.{block_rows, line_row, line_rows, text_rows};
 
 use crate::columns::{column_of, row_kind, width_of};
 use crate::sentences::ends_sentence;
@@ -43,7 +43,7 @@ fn line_row(
     let place = shift + line.offset;
     let row_kind = row_kind(kind, line.part);
     let sentence_end = is_dialogue(row_kind) && ends_sentence(text, &row.runs);
-    let mut cells = Vec::new(alloc);
+    let mut cells = Vec::with_capacity(alloc, 1)?;
     cells.push(Cell {
         column: column_of(side, kind, line.part, row.width),
         line: place,

@@ -32,9 +32,9 @@ pub struct Row {
 }
 
 impl Model for Row {
-    ghost use Rattle.spec_pages.specs.ElementRows.{ElementRow};
+    ghost use Rattle.spec_pages.specs.Rows.{Row as RowValue};
 
-    ghost Value = { ElementRow };
+    ghost Value = { RowValue };
 
     ghost view = { λ r. record { line = r.line; row = r.row; mark = r.mark; shape = r.shape; cells = r.cells.items } };
 }
@@ -52,7 +52,7 @@ pub struct LineRow {
 }
 
 impl Model for LineRow {
-    ghost use Rattle.spec_pages.specs.ElementRows.{LineRow as LineRowValue};
+    ghost use Rattle.spec_pages.specs.Rows.{LineRow as LineRowValue};
 
     ghost Value = { LineRowValue };
 

@@ -42,10 +42,11 @@ fn is_printable(text: &str) -> bool
 }
 
 /// The columns that a text of at most 4,096 bytes takes: the sum of the widths of its clusters, the text as one run
-/// (docs/RULES.md, "Columns").
+/// (docs/RULES.md, "Columns"). It is at most four columns a byte.
 pub fn columns(text: &str) -> u64
     requires { length text.now ≤ 4096 }
-    ensures { result ≡ columns_of text.now }
+    ensures value { result ≡ columns_of text.now }
+    ensures bound { result ≤ 4 * length text.now }
 {
     if is_printable(text) {
         return text.len() as u64;

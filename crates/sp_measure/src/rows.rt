@@ -43,10 +43,10 @@ fn goes_on(run: &Run, cluster: &Cluster) -> bool
 fn row_runs(alloc: Global, clusters: &[Cluster]) -> Result<Vec<Run>, AllocError>
     ensures { IfOk result (λ v. v.items ≡ runs_of clusters.now) }
 {
-    let mut runs = Vec::new(alloc);
     let [first, rest @ ..] = clusters else {
-        return Ok(runs);
+        return Ok(Vec::new(alloc));
     };
+    let mut runs = Vec::with_capacity(alloc, 1)?;
     let mut run = run_of(first);
     for cluster in rest {
         if goes_on(&run, cluster) {

@@ -3,3 +3,4 @@ pub mod ShownRows
 pub mod Stops
 pub mod PagesLeft
 pub mod Answering
+pub mod WrittenParts

@@ -1,14 +1,19 @@
--- The bytes of a row of one cell.
-use Rattle.std.proofs.Common.{◌≡◌, ◌≢◌, ℕ, zero-add, ◌+◌, ◌-◌, ◌<◌, ◌≤◌, ◌==◌, ◌||◌, Bool, true, false, not, cond, List, [], ◌∷◌, ◌++◌, length, map, drop, ap, sym, ◌∙◌, refl, arith, length-append}
-use Rattle.std.specs.Prelude.{nat_lt, sum_by}
-use Rattle.spec_pages.specs.Clusters.{columns_of}
+-- The bytes of cells.
+use Rattle.std.proofs.Common.{◌≡◌, ◌≢◌, ℕ, zero-add, ◌+◌, ◌-◌, ◌<◌, ◌≤◌, ◌==◌, ◌||◌, Bool, true, false, not, cond, List, [], ◌∷◌, ◌++◌, length, map, drop, slice_get, Some, ap, sym, ◌∙◌, refl, arith, length-append}
+use Rattle.std.specs.Prelude.{All, nat_lt, sum_by}
 use Rattle.std.specs.List.{flat_map, list_any}
-use Rattle.std.proofs.lemmas.Bool.{ne_eqb, eq-eqb, ltb-true, ltb-false, eqb-true, lt-ltb}
+use Rattle.std.proofs.lemmas.Bool.{ne_eqb, eq-eqb, ltb-true, ltb-false, eqb-true}
 use Rattle.std.proofs.lemmas.List.{length-take, length-drop}
+use Rattle.std.proofs.lemmas.List.Elements.{All-nil, All-cons, All-head, All-tail}
+use Rattle.spec_text.specs.Lines.{LineState, line_texts}
 use Rattle.spec_text.specs.Parts.{Parts, Lies}
 use Rattle.spec_script.specs.declared.Run.{Run}
-use Rattle.spec_script.specs.Runs.{span_of}
-use Rattle.spec_desk.specs.Sheets.{Written, slice_of, spaces, gap, untabbed, row_bytes}
+use Rattle.spec_script.specs.Runs.{span_of, RunParts}
+use Rattle.spec_pages.specs.Clusters.{columns_of}
+use Rattle.spec_pages.specs.Rows.{Cell}
+use Rattle.spec_desk.specs.Layout.{cell_at}
+use Rattle.spec_desk.specs.Sheets.{slice_of, text_at, spaces, gap, untabbed, shown_cell, is_blank, cell_bytes, columns_behind}
+use Rattle.sp_run.proofs.LineTexts.{text_at-line}
 
 -- Whether runs show anything.
 abbrev pub shows : List Run → Bool
@@ -47,21 +52,33 @@ length-shown text at (run ∷ runs) parts =
     ap (λ n. n == 0) whole
     ∙ length-more (run.to - run.from) (length (shown text runs)) (nat_lt run.from run.to) (shows runs) (length-test run.from run.to (nat_lt run.from run.to) refl) (length-shown text run.to runs parts.2)
 
--- A row of one cell that shows something.
-pub row_bytes-one : (column : ℕ) (slices : List (List ℕ)) → 0 < column → (length (flat_map (λ (s : List ℕ). s) slices) == 0) ≡ false
-    → row_bytes (record { column = column; slices = slices } ∷ []) ≡ spaces column ++ flat_map untabbed slices
-row_bytes-one column slices above some =
-    let nothing : Written = record { bytes = []; columns = 0 } in
-    let whole : Written = record { bytes = spaces (gap column 0) ++ flat_map untabbed slices; columns = 0 + gap column 0 + sum_by columns_of slices } in
-    let wide : gap column 0 ≡ column - 0 = ap (λ t. cond t (column - 0) 1) (lt-ltb 0 column above) in
-    let same : column - 0 ≡ column = omega arith in
-    let taken : row_bytes (record { column = column; slices = slices } ∷ []) ≡ whole.bytes = ap (λ t. (cond t nothing whole).bytes) some in
-    taken ∙ ap (λ n. spaces n ++ flat_map untabbed slices) (wide ∙ same)
+-- A cell that shows nothing.
+pub no-cell : (texts : List (List ℕ)) (written : ℕ) (cell : Cell) → RunParts (text_at texts cell.line) cell.runs → shows cell.runs ≡ false
+    → (cell_bytes written (shown_cell texts cell) ≡ []) × (columns_behind written (shown_cell texts cell) ≡ written)
+no-cell texts written cell parts none =
+    let shown = shown_cell texts cell in
+    let blank : is_blank shown ≡ true = length-shown (text_at texts cell.line) 0 cell.runs parts ∙ ap not none in (
+      ap (λ t. cond t [] (spaces (gap cell.column written) ++ flat_map untabbed shown.slices)) blank,
+      ap (λ t. cond t written (written + gap cell.column written + sum_by columns_of shown.slices)) blank,
+    )
 
--- A row of one cell that shows nothing.
-pub row_bytes-none : (column : ℕ) (slices : List (List ℕ)) → (length (flat_map (λ (s : List ℕ). s) slices) == 0) ≡ true
-    → row_bytes (record { column = column; slices = slices } ∷ []) ≡ []
-row_bytes-none column slices none =
-    let nothing : Written = record { bytes = []; columns = 0 } in
-    let whole : Written = record { bytes = spaces (gap column 0) ++ flat_map untabbed slices; columns = 0 + gap column 0 + sum_by columns_of slices } in
-    ap (λ t. (cond t nothing whole).bytes) none
+-- A cell that shows something of a line.
+pub some-cell : (all : List LineState) (line : LineState) (place column written : ℕ) (runs : List Run) → slice_get all place ≡ Some line → RunParts line.text runs → shows runs ≡ true
+    → (cell_bytes written (shown_cell (line_texts all) (record { column = column; line = place; runs = runs })) ≡ spaces (gap column written) ++ flat_map untabbed (map (slice_of line.text) runs))
+    × (columns_behind written (shown_cell (line_texts all) (record { column = column; line = place; runs = runs })) ≡ written + gap column written + sum_by columns_of (map (slice_of line.text) runs))
+some-cell all line place column written runs found parts some =
+    let text = text_at-line all place line found in
+    let slices = map (slice_of line.text) runs in
+    let blank : is_blank (record { column = column; slices = slices }) ≡ false = length-shown line.text 0 runs parts ∙ ap not some in (
+      ap (λ (t : List ℕ). cell_bytes written (record { column = column; slices = map (slice_of t) runs })) text
+          ∙ ap (λ t. cond t [] (spaces (gap column written) ++ flat_map untabbed slices)) blank,
+      ap (λ (t : List ℕ). columns_behind written (record { column = column; slices = map (slice_of t) runs })) text
+          ∙ ap (λ t. cond t written (written + gap column written + sum_by columns_of slices)) blank,
+    )
+
+-- What holds of the cells in their places holds of each cell, put in its place.
+pub placed-cells : (P : Cell → Type 0) (first : ℕ) (cells : List Cell) → All P (map (cell_at first) cells) → All (λ (cell : Cell). P (cell_at first cell)) cells
+placed-cells P first [] all = All-nil (λ (cell : Cell). P (cell_at first cell))
+placed-cells P first (cell ∷ cells) all =
+    All-cons (λ (cell : Cell). P (cell_at first cell)) cell cells (All-head P (cell_at first cell) (map (cell_at first) cells) all)
+    (placed-cells P first cells (All-tail P (cell_at first cell) (map (cell_at first) cells) all))

@@ -5,7 +5,7 @@ use Rattle.std.specs.declared.string.String.{String}
 use Rattle.std.specs.declared.alloc.Global.{Global}
 use Rattle.std.specs.Io.KnownBytes.{Appends, Consumes, Keeps, IsAtEnd}
 use Rattle.spec_text.specs.Limits.{raw_limit}
-use Rattle.spec_text.specs.Lines.{TextState, line_texts}
+use Rattle.spec_text.specs.Lines.{TextState}
 use Rattle.spec_desk.specs.Printing.{Printing, too_long, no_utf8, long_line, printed, printing_of, sheets_bytes}
 use Rattle.sp_kit.specs.Causes.{Rose}
 use Rattle.sp_kit.specs.Outside.{AppendsPrefix}
@@ -119,7 +119,7 @@ ReadsUpTo old new most = (bytes : List ℕ) × Consumes old new bytes × (length
 
 -- The lines of a script that is printed, or the status that refuses it.
 abbrev pub IsReadable : Printing → Result TextState Status → Type 0
-IsReadable fate (Ok text) = fate ≡ printed (sheets_bytes (line_texts text.lines))
+IsReadable fate (Ok text) = fate ≡ printed (sheets_bytes text.lines)
 IsReadable fate (Err status) = Refuses fate status
 
 -- What is outside, by the meanings of the source and of the sink.

@@ -2,3 +2,4 @@ pub mod Statuses
 pub mod Ending
 pub mod Reading
 pub mod Written
+pub mod LaidOut

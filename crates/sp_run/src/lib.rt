@@ -1,10 +1,11 @@
 //! The one call that does all that the program does, and the lines of its faults.
 #![tactic(auto)]
 
+mod blocks;
+mod layout;
 mod pages;
 mod print;
 mod program;
-mod rows;
 mod script;
 mod sheets;
 mod status;

@@ -29,5 +29,6 @@ pub fn print_script<I: Source, O: Sink>(
 {
     let script = read_script(alloc, input)?;
     let lines = read_lines(alloc, &script)?;
+    drop(script);
     write_sheets(alloc, &lines, output)
 }

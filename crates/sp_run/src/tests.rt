@@ -21,34 +21,59 @@ fn one_word(alloc: Global, word: &str) -> Result<Vec<String>, AllocError> {
     Ok(words)
 }
 
-/// So many spaces, and a text.
-fn indented(alloc: Global, spaces: usize, text: &str) -> Result<Vec<u8>, AllocError> {
-    let mut bytes = vec![in alloc; b' '; spaces]?;
-    bytes.extend_from_slice(text.as_bytes())?;
+/// A row as it is printed: `[n]` stands for n spaces.
+fn spaced(alloc: Global, row: &str) -> Result<Vec<u8>, AllocError> {
+    let text = row.as_bytes();
+    let mut bytes = Vec::new(alloc);
+    let mut count: Option<usize> = None;
+    for (place, byte) in text.iter().enumerate() {
+        match count {
+            Some(spaces) if *byte == b']' => {
+                bytes.extend_from_slice(vec![in alloc; b' '; spaces.min(100)]?.as_slice())?;
+                count = None;
+            }
+            Some(spaces) => {
+                let digit = byte.saturating_sub(b'0') as usize;
+                count = Some(spaces.saturating_mul(10).saturating_add(digit));
+            }
+            None => {
+                let next = text.get(place.saturating_add(1));
+                if *byte == b'[' && next.is_some_and(|next| next.is_ascii_digit()) {
+                    count = Some(0);
+                } else {
+                    bytes.push(*byte)?;
+                }
+            }
+        }
+    }
     Ok(bytes)
 }
 
-/// The bytes of a sheet with this label and these body rows.
+/// The bytes of a sheet with this label and these rows; a title sheet has none.
 fn sheet(alloc: Global, label: &str, rows: &[&str]) -> Result<Vec<u8>, AllocError> {
-    let mut bytes = indented(alloc, 74usize.saturating_sub(label.len()), label)?;
-    bytes.extend_from_slice(b".\n\n")?;
+    let mut bytes = Vec::new(alloc);
+    if !label.is_empty() {
+        let header = vec![in alloc; b' '; 74usize.saturating_sub(label.len())]?;
+        bytes.extend_from_slice(header.as_slice())?;
+        bytes.extend_from_slice(label.as_bytes())?;
+        bytes.push(b'.')?;
+    }
+    bytes.extend_from_slice(b"\n\n")?;
     for row in rows {
-        if !row.is_empty() {
-            bytes.extend_from_slice(indented(alloc, 15, row)?.as_slice())?;
-        }
+        bytes.extend_from_slice(spaced(alloc, row)?.as_slice())?;
         bytes.push(b'\n')?;
     }
     bytes.push(b'\x0c')?;
     Ok(bytes)
 }
 
-fn prints(alloc: Global, script: &str, sheets: &[&[&str]]) -> Result<bool, AllocError> {
+/// A sheet's label and rows.
+type SheetRows<'a> = (&'a str, &'a [&'a str]);
+
+fn prints(alloc: Global, script: &str, sheets: &[SheetRows]) -> Result<bool, AllocError> {
     let mut expected = Vec::new(alloc);
-    let mut number = 0u64;
-    for rows in sheets {
-        number = number.saturating_add(1);
-        let label = format!(in alloc; "{number}")?;
-        expected.extend_from_slice(sheet(alloc, label.as_str(), rows)?.as_slice())?;
+    for (label, rows) in sheets {
+        expected.extend_from_slice(sheet(alloc, label, rows)?.as_slice())?;
     }
     let (status, bytes) = printed(alloc, script.as_bytes())?;
     Ok(status == Status::Done && bytes.as_slice() == expected.as_slice())
@@ -67,79 +92,144 @@ fn lines(alloc: Global, line: &str, count: usize) -> Result<Vec<u8>, AllocError>
 #[test]
 fn action_prints_as_sheets(rt: HostRuntime) -> Result<(), Fail> {
     let alloc = rt.alloc();
+    let cases: [(&str, &[SheetRows]); 7] = [
+        ("", &[]),
+        ("\n \n", &[]),
+        ("!Hello.", &[("1", &["[15]Hello."])]),
+        (
+            "!a\n!b  \n\n!c\n",
+            &[("1", &["[15]a", "[15]b", "", "[15]c"])],
+        ),
+        ("!\n!b\n", &[("1", &["", "[15]b"])]),
+        ("!\tx\n", &[("1", &["[19]x"])]),
+        ("!a\u{feff}\u{7}b\r!c\r\n", &[("1", &["[15]ab", "[15]c"])]),
+    ];
+    for (script, sheets) in cases {
+        assert!(rt; prints(alloc, script, sheets)?, "{script}");
+    }
+    Ok(())
+}
+
+#[test]
+fn long_lines_are_wrapped(rt: HostRuntime) -> Result<(), Fail> {
+    let alloc = rt.alloc();
     let a60 = "aaaaaaaaaaaaaaaaaaaaaaaaaaaaaaaaaaaaaaaaaaaaaaaaaaaaaaaaaaaa";
     let wide30 = "字字字字字字字字字字字字字字字字字字字字字字字字字字字字字字";
-    assert!(rt; prints(alloc, "", &[])?, "an empty script prints nothing");
-    assert!(rt; prints(alloc, "\n \n", &[])?, "empty lines print nothing");
-    assert!(rt; prints(alloc, "!Hello.", &[&["Hello."]])?, "one line");
-    assert!(rt;
-        prints(alloc, "!a\n!b  \n\n!c\n", &[&["a", "b", "", "c"]])?,
-        "two paragraphs"
-    );
-    assert!(rt;
-        prints(alloc, "!\n!b\n", &[&["", "b"]])?,
-        "an empty text has one empty row"
-    );
-    assert!(rt;
-        prints(alloc, "!\tx\n", &[&["    x"]])?,
-        "a tab is four columns"
-    );
-    assert!(rt;
-        prints(alloc, "!a\u{feff}\u{7}b\r!c\r\n", &[&["ab", "c"]])?,
-        "dropped characters and ends"
-    );
+    let full = format!(in alloc; "[15]{a60}")?;
+    let wide = format!(in alloc; "[15]{wide30}")?;
     let script = format!(in alloc; "!{a60} b\n")?;
     assert!(rt;
-        prints(alloc, script.as_str(), &[&[a60, "b"]])?,
+        prints(alloc, script.as_str(), &[("1", &[full.as_str(), "[15]b"])])?,
         "a word that doesn't fit goes to the next row"
     );
     let script = format!(in alloc; "!{a60}a\n")?;
     assert!(rt;
-        prints(alloc, script.as_str(), &[&[a60, "a"]])?,
+        prints(alloc, script.as_str(), &[("1", &[full.as_str(), "[15]a"])])?,
         "a word wider than a row is cut"
     );
     let script = format!(in alloc; "!{wide30}字\n")?;
     assert!(rt;
-        prints(alloc, script.as_str(), &[&[wide30, "字"]])?,
+        prints(alloc, script.as_str(), &[("1", &[wide.as_str(), "[15]字"])])?,
         "wide characters are two columns"
     );
     Ok(())
 }
 
 #[test]
-fn blocks_print_as_rows(rt: HostRuntime) -> Result<(), Fail> {
+fn blocks_print_in_their_columns(rt: HostRuntime) -> Result<(), Fail> {
     let alloc = rt.alloc();
-    let cases: [(&str, &[&[&str]]); 26] = [
-        ("!a\nb\n", &[&["a", "b"]]),
-        ("a\n/* b\nc */ d\n", &[&["a", " d"]]),
-        ("a [[b\nc]] d\n", &[&["a", " d"]]),
-        ("a [[b\n\nc]] d\n", &[&["a [[b", "", "c]] d"]]),
-        ("!a\n===\n!b\n", &[&["a"], &["b"]]),
-        ("===\na\n\n===\n\n====\n\nb\n===\n", &[&["a"], &["b"]]),
-        ("BOB\n\nHi.\n", &[&["BOB", "", "Hi."]]),
-        ("BOB\n  \n", &[&["BOB", ""]]),
-        ("  \n\na\n", &[&["a"]]),
-        ("BOB\n(softly)\nHi.\n", &[&["BOB", "(softly)", "Hi."]]),
-        ("...and then\n", &[&["...and then"]]),
-        (".and then\n", &[&["and then"]]),
-        ("!CUT TO:\n", &[&["CUT TO:"]]),
-        (".CUT TO:\n", &[&["CUT TO:"]]),
-        ("CUT TO: \n", &[&["CUT TO:"]]),
-        ("> CUT TO:\n", &[&["CUT TO:"]]),
-        ("> a <\n", &[&["a"]]),
-        ("~la\n", &[&["la"]]),
-        ("INT. ROOM #1#\n", &[&["INT. ROOM"]]),
-        ("# Act\n\n= It rains.\n\na\n", &[&["a"]]),
+    let cases: [(&str, &[SheetRows]); 32] = [
+        ("!a\nb\n", &[("1", &["[15]a", "[15]b"])]),
+        ("a\n/* b\nc */ d\n", &[("1", &["[15]a", "[16]d"])]),
+        ("a [[b\nc]] d\n", &[("1", &["[15]a", "[16]d"])]),
+        (
+            "a [[b\n\nc]] d\n",
+            &[("1", &["[15]a [[b", "", "[15]c]] d"])],
+        ),
+        ("!a\n===\n!b\n", &[("1", &["[15]a"]), ("2", &["[15]b"])]),
+        (
+            "===\na\n\n===\n\n====\n\nb\n===\n",
+            &[("1", &["[15]a"]), ("2", &["[15]b"])],
+        ),
+        ("BOB\n\nHi.\n", &[("1", &["[15]BOB", "", "[15]Hi."])]),
+        ("BOB\n  \n", &[("1", &["[37]BOB", ""])]),
+        ("  \n\na\n", &[("1", &["[15]a"])]),
+        ("R2D2\nBeep.\n", &[("1", &["[37]R2D2", "[25]Beep."])]),
+        ("23\nBeep.\n", &[("1", &["[15]23", "[15]Beep."])]),
+        (
+            "BOB\n(softly)\nHi.\n",
+            &[("1", &["[37]BOB", "[31](softly)", "[25]Hi."])],
+        ),
+        ("...and then\n", &[("1", &["[15]...and then"])]),
+        (".and then\n", &[("1", &["[15]and then"])]),
+        ("!CUT TO:\n", &[("1", &["[15]CUT TO:"])]),
+        (".CUT TO:\n", &[("1", &["[15]CUT TO:"])]),
+        ("CUT TO: \n", &[("1", &["[15]CUT TO:"])]),
+        ("> CUT TO:\n", &[("1", &["[68]CUT TO:"])]),
+        ("> a <\n", &[("1", &["[44]a"])]),
+        ("~la\n", &[("1", &["[25]la"])]),
+        (
+            "INT. ROOM #1#\n\na\n",
+            &[("1", &["[7]1[7]INT. ROOM[52]1", "", "[15]a"])],
+        ),
+        ("a\n\n.B\n", &[("1", &["[15]a", "", "", "[15]B"])]),
+        ("# Act\n\n= It rains.\n\na\n", &[("1", &["[15]a"])]),
         ("# Act\n", &[]),
-        ("Title: X\nAuthor: Y\n\na\n", &[&["a"]]),
-        ("FADE IN:\n", &[&["FADE IN:"]]),
-        ("**a *b** c*\n", &[&["a b c"]]),
-        ("2 * 3 * 4\n", &[&["2 * 3 * 4"]]),
-        ("\\*a* _b c_\n", &[&["*a* b c"]]),
+        ("Title: X\n", &[("", &["[44]X"])]),
+        (
+            "Title: X\nContact:\n\tme\n\na\n",
+            &[("", &["[44]X", "", "[15]me"]), ("1", &["[15]a"])],
+        ),
+        ("FADE IN:\n", &[("1", &["[15]FADE IN:"])]),
+        ("**a *b** c*\n", &[("1", &["[15]a b c"])]),
+        ("2 * 3 * 4\n", &[("1", &["[15]2 * 3 * 4"])]),
+        ("\\*a* _b c_\n", &[("1", &["[15]*a* b c"])]),
+        ("A ^\nx\n", &[("1", &["[37]A", "[25]x"])]),
+        (
+            "A\nx\n\nB ^\ny\n\nC ^\nz\n",
+            &[("1", &["[15]A[31]B", "[15]x[31]y", "", "[37]C", "[25]z"])],
+        ),
     ];
     for (script, sheets) in cases {
         assert!(rt; prints(alloc, script, sheets)?, "{script}");
     }
+    Ok(())
+}
+
+#[test]
+fn a_whole_script_prints(rt: HostRuntime) -> Result<(), Fail> {
+    let script =
+        "Title: The Lamp\nAuthor: A. Writer\n\nFADE IN:\n\nINT. KITCHEN - DAY #1#\n\nANNA (30) lights a lamp. [[check prop]]\n\n\
+        ANNA\n(softly)\nIt is *late*.\n\nBERT\nGo.\n\nANNA ^\nStay.\n\n~La la la\n\n> CUT TO:\n\n= Anna leaves.\n\nEXT. STREET - NIGHT\n";
+    let sheets: [SheetRows; 2] = [
+        ("", &["[41]The Lamp", "", "[40]A. Writer"]),
+        (
+            "1",
+            &[
+                "[15]FADE IN:",
+                "",
+                "",
+                "[7]1[7]INT. KITCHEN - DAY[43]1",
+                "",
+                "[15]ANNA (30) lights a lamp.",
+                "",
+                "[37]ANNA",
+                "[31](softly)",
+                "[25]It is late.",
+                "",
+                "[15]BERT[28]ANNA",
+                "[15]Go.[29]Stay.",
+                "",
+                "[25]La la la",
+                "",
+                "[68]CUT TO:",
+                "",
+                "",
+                "[15]EXT. STREET - NIGHT",
+            ],
+        ),
+    ];
+    assert!(rt; prints(rt.alloc(), script, &sheets)?);
     Ok(())
 }
 
@@ -157,7 +247,7 @@ fn scripts_of_many_lines_print(rt: HostRuntime) -> Result<(), Fail> {
 #[test]
 fn pages_end_where_they_may(rt: HostRuntime) -> Result<(), Fail> {
     let alloc = rt.alloc();
-    let rows = ["a"; 54];
+    let rows = ["[15]a"; 54];
     let (status, bytes) = printed(alloc, lines(alloc, "!a", 54)?.as_slice())?;
     assert_eq!(rt; status, Status::Done);
     assert_eq!(rt;

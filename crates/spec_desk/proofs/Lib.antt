@@ -1,3 +1,3 @@
-mod PrintRows
 pub mod PageSpans
-pub mod ElementLaws
+pub mod LayoutLaws
+mod PrintRows

@@ -1,3 +1,3 @@
-pub mod Elements
+pub mod Layout
 pub mod Sheets
 pub mod Printing

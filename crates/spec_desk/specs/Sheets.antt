@@ -1,11 +1,13 @@
 -- Sheets and their bytes (docs/RULES.md, "Sheets").
-use Rattle.std.specs.Prelude.{◌≡◌, ◌<◌, All, ℕ, ◌-◌, ◌+◌, max, ◌==◌, nat_lt, if◌then◌else◌, List, [], ◌∷◌, ◌++◌, length, map, replicate, sum_by, slice_range, slice_index_or, decimal, fold}
+use Rattle.std.specs.Prelude.{◌<◌, ◌≤◌, All, Bool, true, false, Option, Some, None, ℕ, ◌-◌, ◌+◌, max, ◌==◌, nat_lt, if◌then◌else◌, List, [], ◌∷◌, ◌++◌, length, map, replicate, sum_by, slice_range, slice_index_or, decimal}
 use Rattle.std.specs.List.{flat_map}
 use Rattle.spec_script.specs.declared.Run.{Run}
 use Rattle.spec_script.specs.Runs.{RunParts}
 use Rattle.spec_pages.specs.declared.Shape.{Shape}
 use Rattle.spec_pages.specs.Clusters.{columns_of}
+use Rattle.spec_pages.specs.declared.RowKind.TheVariants.{Action}
 use Rattle.spec_pages.specs.Pages.{page_starts}
+use Rattle.spec_desk.specs.Layout.{Layout}
 use Rattle.spec_pages.specs.Rows.{Cell, Row}
 
 -- A cell as it is written: its column, and the slices of text that it shows.
@@ -30,22 +32,11 @@ pub record ShowsParts (texts : List (List ℕ)) (cell : Cell) : Type 0 where
   pub place : cell.line < length texts
   pub parts : RunParts (text_at texts cell.line) cell.runs
 
--- All cells show parts of their lines.
-abbrev pub CellsShow : List (List ℕ) → List Cell → Type 0
-CellsShow texts cells = All (ShowsParts texts) cells
-
--- All cells of a row do.
-abbrev pub RowShows : List (List ℕ) → Row → Type 0
-RowShows texts row = CellsShow texts row.cells
-
--- All cells show parts of this line.
-abbrev pub ShowsLine : ℕ → List ℕ → List Cell → Type 0
-ShowsLine place text cells = All (λ (cell : Cell). (cell.line ≡ place) × RunParts text cell.runs) cells
-
--- What is written of a row so far: its bytes, and how many columns they take.
-pub record Written : Type 0 where
-  pub bytes : List ℕ
-  pub columns : ℕ
+-- The line of a row is there, and its few cells show parts of their lines.
+pub record RowShows (texts : List (List ℕ)) (row : Row) : Type 0 where
+  pub place : row.line < length texts
+  pub few : length row.cells ≤ 4
+  pub cells : All (ShowsParts texts) row.cells
 
 -- So many spaces.
 abbrev pub spaces : ℕ → List ℕ
@@ -55,30 +46,38 @@ spaces n = replicate n 32
 abbrev pub untabbed : List ℕ → List ℕ
 untabbed text = flat_map (λ b. if b == 9 then spaces 4 else b ∷ []) text
 
+-- The cell has no text.
+abbrev pub is_blank : ShownCell → Bool
+is_blank cell = length (flat_map (λ (s : List ℕ). s) cell.slices) == 0
+
 -- Spaces fill up to the column of a cell where fewer columns were written; otherwise there is one.
 abbrev pub gap : ℕ → ℕ → ℕ
 gap column columns = if nat_lt columns column then column - columns else 1
 
--- A row with one more cell; a cell with empty text is not written.
-abbrev pub with_cell : Written → ShownCell → Written
-with_cell written cell =
-    if length (flat_map (λ (s : List ℕ). s) cell.slices) == 0 then written
-    else record {
-      bytes = written.bytes ++ (spaces (gap cell.column written.columns) ++ flat_map untabbed cell.slices);
-      columns = written.columns + gap cell.column written.columns + sum_by columns_of cell.slices;
-    }
+-- What is written of a cell where so many columns were written: nothing of a cell with empty text.
+abbrev pub cell_bytes : ℕ → ShownCell → List ℕ
+cell_bytes columns cell = if is_blank cell then [] else spaces (gap cell.column columns) ++ flat_map untabbed cell.slices
 
--- The bytes of a row: its cells in order.
+-- The columns that are written behind a cell.
+abbrev pub columns_behind : ℕ → ShownCell → ℕ
+columns_behind columns cell = if is_blank cell then columns else columns + gap cell.column columns + sum_by columns_of cell.slices
+
+-- The bytes of cells in order, where so many columns were written.
+abbrev pub cells_bytes : ℕ → List ShownCell → List ℕ
+cells_bytes columns [] = []
+cells_bytes columns (cell ∷ cells) = cell_bytes columns cell ++ cells_bytes (columns_behind columns cell) cells
+
+-- The bytes of a row.
 abbrev pub row_bytes : List ShownCell → List ℕ
-row_bytes cells = (fold with_cell (record { bytes = []; columns = 0 }) cells).bytes
+row_bytes cells = cells_bytes 0 cells
 
 -- A row, ended.
 abbrev pub row_line : List ShownCell → List ℕ
 row_line cells = row_bytes cells ++ 10 ∷ []
 
--- A sheet: its label as it is written, and its body rows. Empty rows have no cells.
+-- A sheet: its label as it is written, where it has one, and its rows below the header. Empty rows have no cells.
 pub record Sheet : Type 0 where
-  pub label : List ℕ
+  pub label : Option (List ℕ)
   pub rows : List (List ShownCell)
 
 -- The header's cell: the label and a full stop, so that it ends at column 75, or at column 15 where it is wider than 60. A
@@ -86,9 +85,14 @@ pub record Sheet : Type 0 where
 abbrev pub label_cell : List ℕ → ShownCell
 label_cell label = record { column = max 15 (75 - length (label ++ 46 ∷ [])); slices = (label ++ 46 ∷ []) ∷ [] }
 
+-- The header of a sheet.
+abbrev pub header_cells : Option (List ℕ) → List ShownCell
+header_cells None = []
+header_cells (Some label) = label_cell label ∷ []
+
 -- The bytes of a sheet: its header, an empty row, its body rows, each ended, and a form feed.
 abbrev pub sheet_bytes : Sheet → List ℕ
-sheet_bytes sheet = row_line (label_cell sheet.label ∷ []) ++ (10 ∷ (flat_map row_line sheet.rows ++ 12 ∷ []))
+sheet_bytes sheet = row_line (header_cells sheet.label) ++ (10 ∷ (flat_map row_line sheet.rows ++ 12 ∷ []))
 
 -- A row below the top of a page: its lead as empty rows, and the row.
 abbrev pub led_row : List (List ℕ) → Row → List (List ShownCell)
@@ -105,20 +109,35 @@ page_spans [] end = []
 page_spans (p ∷ []) end = (p, end) ∷ []
 page_spans (p ∷ q ∷ starts) end = (p, q) ∷ page_spans (q ∷ starts) end
 
+-- The label of a page with this number: pages of a title page have none.
+abbrev pub page_label : Bool → ℕ → Option (List ℕ)
+page_label labelled number = if labelled then Some (decimal number) else None
+
 -- The sheet of a page with this number.
-abbrev pub page_sheet : List (List ℕ) → List Row → ℕ → ℕ × ℕ → Sheet
-page_sheet texts rows number span =
-    record { label = decimal number; rows = page_body texts (slice_range rows span.0 span.1) }
+abbrev pub page_sheet : List (List ℕ) → List Row → Bool → ℕ → ℕ × ℕ → Sheet
+page_sheet texts rows labelled number span =
+    record { label = page_label labelled number; rows = page_body texts (slice_range rows span.0 span.1) }
 
 -- The sheets of these pages, with numbers from the given one on.
-abbrev pub sheets_from : List (List ℕ) → List Row → ℕ → List (ℕ × ℕ) → List Sheet
-sheets_from texts rows number [] = []
-sheets_from texts rows number (span ∷ spans) = page_sheet texts rows number span ∷ sheets_from texts rows (number + 1) spans
+abbrev pub sheets_from : List (List ℕ) → List Row → Bool → ℕ → List (ℕ × ℕ) → List Sheet
+sheets_from texts rows labelled number [] = []
+sheets_from texts rows labelled number (span ∷ spans) =
+    page_sheet texts rows labelled number span ∷ sheets_from texts rows labelled (number + 1) spans
 
--- What page ends see of the rows.
-abbrev pub shapes_of : List Row → List Shape
-shapes_of rows = map (λ (row : Row). row.shape) rows
+-- The sheets of rows that page ends see like this, with these stops.
+abbrev pub sheets_in : List (List ℕ) → List Row → Bool → List Shape → List ℕ → List Sheet
+sheets_in texts rows labelled shapes stops = sheets_from texts rows labelled 1 (page_spans (page_starts shapes stops) (length shapes))
 
--- The sheets of a text of these lines and rows, with these stops: its pages, labelled 1, 2, ..
-abbrev pub sheets_of : List (List ℕ) → List Row → List ℕ → List Sheet
-sheets_of texts rows stops = sheets_from texts rows 1 (page_spans (page_starts (shapes_of rows) stops) (length rows))
+-- A body row as page ends see it: until speeches are cut with a word at their cut, all are action.
+abbrev pub body_shape : Row → Shape
+body_shape row = record row.shape { kind = Action }
+
+-- A row of a title page as page ends see it: no page ends before it unless it is full.
+abbrev pub title_shape : Row → Shape
+title_shape row = record { lead = row.shape.lead; kind = Action; index = 1; rest = 0; sentence_end = false }
+
+-- The sheets of a text: those of its title page, then its pages, labelled 1, 2, ..
+abbrev pub sheets_of : List (List ℕ) → Layout → List Sheet
+sheets_of texts layout =
+    sheets_in texts layout.titles false (map title_shape layout.titles) []
+    ++ sheets_in texts layout.rows true (map body_shape layout.rows) layout.stops

@@ -1,5 +1,5 @@
 -- Rows of the rules of emphasis, computed.
-use Rattle.std.specs.Prelude.{◌≡◌, ℕ, List, [], ◌∷◌, ◌++◌, length, map, codes, refl}
+use Rattle.std.specs.Prelude.{◌≡◌, ℕ, List, [], ◌∷◌, length, map, codes, refl}
 use Rattle.spec_script.specs.declared.Run.{Run}
 use Rattle.spec_script.specs.Spans.{text_in}
 use Rattle.spec_script.specs.Runs.{span_of}

@@ -32,3 +32,4 @@ pub mod BlockParts
 pub mod PlainLaws
 pub mod BlockPlaces
 pub mod RunPlaces
+pub mod ElementLaws

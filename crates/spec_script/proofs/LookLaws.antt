@@ -1,8 +1,7 @@
 -- What is seen changes only beside an ASCII byte: a mark, or a `\`.
-use Rattle.std.proofs.Common.{◌≡◌, ℕ, zero, suc, ◌+◌, ◌-◌, ◌*◌, ◌<◌, ◌≤◌, ◌⊎◌, ◌==◌, Bool, true, false, not, ◌&&◌, ◌||◌, cond, ltb, leb, List, [], ◌∷◌, length, get_or, slice_index, map, Option, Some, None, refl, sym, ap, subst, ◌∙◌, inl, inr, zero-add, arith}
+use Rattle.std.proofs.Common.{◌≡◌, ℕ, suc, ◌+◌, ◌-◌, ◌<◌, ◌≤◌, ◌⊎◌, ◌==◌, true, false, not, ◌&&◌, ◌||◌, cond, ltb, leb, List, [], ◌∷◌, length, get_or, slice_index, Option, Some, None, refl, sym, ap, subst, ◌∙◌, inl, inr, zero-add, arith}
 use Rattle.std.specs.Prelude.{bit_or}
-use Rattle.std.specs.List.{list_any, range_with_len}
-use Rattle.std.proofs.lemmas.Bool.{cases_lt, cases_eq, cases_Bool, eqb-true, and_parts, and_left, and_right, or_from, lt-ltb, le-ltb, le-leb, lt-leb, leb-true, ltb-true, false_from_ne_true}
+use Rattle.std.proofs.lemmas.Bool.{cases_lt, eqb-true, and_parts, or_from, lt-ltb, le-ltb, le-leb, lt-leb, leb-true, ltb-true, false_from_ne_true}
 use Rattle.std.proofs.lemmas.List.{get_or_default}
 use Rattle.std.proofs.lemmas.List.FromFn.{get_or-map-range_with_len}
 use Rattle.spec_script.specs.declared.Layer.{Layer}

@@ -1,10 +1,10 @@
 -- A line without marks and `\` is seen as it stands.
-use Rattle.std.proofs.Common.{◌≡◌, ℕ, zero, suc, ◌+◌, ◌-◌, ◌<◌, ◌≤◌, ◌==◌, Bool, true, false, not, ◌&&◌, ◌||◌, cond, List, [], ◌∷◌, ◌++◌, length, map, flat_map, filter, replicate, take, drop, get_or, slice_range, sum_by, Option, Some, None, refl, sym, ap, subst, ◌∙◌, inl, inr, add-zero, arith}
+use Rattle.std.proofs.Common.{◌≡◌, ℕ, zero, suc, ◌+◌, ◌-◌, ◌≤◌, ◌==◌, Bool, false, ◌||◌, cond, List, [], ◌∷◌, ◌++◌, length, map, filter, replicate, take, drop, slice_range, sum_by, Option, Some, None, refl, sym, ap, ◌∙◌, inl, inr, arith}
 use Rattle.std.specs.Prelude.{bit_or}
 use Rattle.std.specs.Option.{option_to_list}
 use Rattle.std.specs.List.{list_any, range_with_len}
 use Rattle.std.proofs.lemmas.Bool.{cases_lt, eqb-true, and_parts, or_from, or_parts, lt-ltb, le-ltb, false_from_ne_true, true≢false}
-use Rattle.std.proofs.lemmas.List.{append-nil, get_or_past, take-replicate, drop-replicate}
+use Rattle.std.proofs.lemmas.List.{get_or_past, take-replicate, drop-replicate}
 use Rattle.std.proofs.lemmas.List.Folds.{list_any-append, list_any_at}
 use Rattle.std.proofs.lemmas.List.Sums.{sum_by-cons}
 use Rattle.spec_text.specs.Parts.{SpanOf, Parts}
@@ -12,8 +12,8 @@ use Rattle.spec_script.specs.declared.Layer.{Layer}
 use Rattle.spec_script.specs.declared.Layer.TheVariants.{Italic, Bold, BoldItalic, Underline}
 use Rattle.spec_script.specs.declared.Run.{Run}
 use Rattle.spec_script.specs.Spans.{span_len, text_in}
-use Rattle.spec_script.specs.Emphasis.{is_markup, mark_of, style_of, byte_at, byte_before, is_mark, is_escape, is_marker, markers_of, pairs_among, pairs_of, is_inside, is_spent, is_removed, with_layer, style_at, looks_of, byte_runs, byte_runs_in, joined, runs_of, part_runs}
-use Rattle.spec_script.proofs.PairLaws.{IsMarker, marker-markup}
+use Rattle.spec_script.specs.Emphasis.{is_markup, style_of, byte_at, is_escape, is_marker, pairs_among, pairs_of, is_inside, is_spent, is_removed, with_layer, style_at, looks_of, byte_runs, byte_runs_in, joined, runs_of, part_runs}
+use Rattle.spec_script.proofs.PairLaws.{marker-markup}
 use Rattle.spec_script.proofs.JoinLaws.{joined-behind, joined-bytes}
 use Rattle.spec_script.proofs.RunLaws.{sum_by-span_len}
 

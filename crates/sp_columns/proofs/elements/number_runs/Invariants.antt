@@ -1,5 +1,5 @@
 use Rattle.std.proofs.Common.{◌≡◌, take}
-use Rattle.spec_pages.specs.ElementRows.{number_runs}
+use Rattle.spec_pages.specs.Rows.{number_runs}
 use Rattle.sp_columns.proofs.elements.number_runs.Given as goal
 
 abbrev pub invariant-loop-span : goal.invariant-loop-span

@@ -1,6 +1,6 @@
 use Rattle.std.proofs.Common.{◌≡◌, ◌+◌, ◌++◌, length}
 use Rattle.std.specs.Vec.Iter.{into_iter_items}
-use Rattle.spec_pages.specs.ElementRows.{shaped_rows}
+use Rattle.spec_pages.specs.Rows.{shaped_rows}
 use Rattle.sp_columns.proofs.elements.shaped_rows.Given as goal
 
 abbrev pub invariant-loop-row : goal.invariant-loop-row

@@ -1,6 +1,6 @@
 use Rattle.std.proofs.Common.{◌≡◌, ◌≢◌, [], ◌++◌, ◌⊎◌}
 use Rattle.std.specs.Vec.Iter.{into_iter_items}
-use Rattle.spec_pages.specs.ElementRows.{with_number}
+use Rattle.spec_pages.specs.Rows.{with_number}
 use Rattle.sp_columns.proofs.elements.with_number.Given as goal
 
 -- Before the first row nothing is made; then its number stands there, and the others follow.

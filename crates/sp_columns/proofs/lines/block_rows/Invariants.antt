@@ -1,6 +1,6 @@
 use Rattle.std.proofs.Common.{◌≡◌, ◌*◌, ◌≤◌, ◌++◌, length, drop}
 use Rattle.std.specs.List.{flat_map}
-use Rattle.spec_pages.specs.ElementRows.{block_rows, line_rows}
+use Rattle.spec_pages.specs.Rows.{block_rows, line_rows}
 use Rattle.sp_columns.proofs.lines.block_rows.Given as goal
 
 -- The rows so far and those of the lines that are left are all rows.

@@ -16,6 +16,6 @@ loop-piece-init c =
     ∙ ap length (concat-segments (is_grapheme_break true) c.args.text.now c.utf8.text) in
     (tt, tt, zero-add _ ∙ ap (sum_by width_of) left, omega (arith, whole))
 
-pub returns-then-is_printable : goal.returns-then-is_printable
-returns-then-is_printable c =
+pub returns-then-is_printable-clause-value : goal.returns-then-is_printable-clause-value
+returns-then-is_printable-clause-value c =
     sym (columns_of-printable c.args.text.now (sym c.is_printable.ensures ∙ c.if-is_printable.true))

@@ -13,7 +13,7 @@ invariant-loop-from g l = record {
   kept : g.O.Sink.faults l.output ≡ g.O.Sink.faults l.fn.output;
   ahead : (r : ℕ) → l.from ≤ r → find (λ (stop : ℕ). nat_lt r stop) l.ahead ≡ find (λ (stop : ℕ). nat_lt r stop) l.stops;
   within : All (λ (stop : ℕ). stop ≤ length l.shapes) l.ahead;
-  left : PagesLeft (g.O.Sink.taken l.fn.output) (g.O.Sink.taken l.output) (line_texts l.lines.lines) l.rows l.shapes l.stops l.number l.from;
+  left : PagesLeft (g.O.Sink.taken l.fn.output) (g.O.Sink.taken l.output) (line_texts l.lines.lines) l.rows l.labelled l.shapes l.stops l.number l.from;
 }
 
 abbrev pub decreases-loop-from : goal.decreases-loop-from
