@@ -1,4 +1,4 @@
-ghost use Rattle.std.specs.Prelude.{◌≢◌, ◌<◌, ◌≤◌, All, IfOk};
+ghost use Rattle.std.specs.Prelude.{◌≡◌, ◌≢◌, ◌<◌, ◌≤◌, ◌++◌, ◌∷◌, [], None, false, length, All, IfOk, OnOk};
 ghost use Rattle.std.specs.Bool.{OnTrue};
 ghost use Rattle.spec_labels.specs.Labels.{IsLabel};
 ghost use Rattle.spec_labels.specs.Scenes.{HeadingOf, AreHeadings, AreSceneRecords, IsNumbered, IsSceneLabel};
@@ -86,6 +86,36 @@ fn headings_of(alloc: Global, rows: &[(u64, &str)]) -> Result<Vec<HeadingAt>, Al
         };
         push_heading(&mut headings, heading)?;
         place = place.saturating_add(10);
+    }
+    Ok(headings)
+}
+
+/// Puts a heading without a number behind others.
+fn push_plain(headings: &mut Vec<HeadingAt>, place: u64) -> Result<(), AllocError>
+    requires few { length headings.old.items < 200000 }
+    requires are { AreHeadings headings.old.items }
+    requires before { All (λ (it : HeadingOf). it.place < place) headings.old.items }
+    requires others { All (λ (it : HeadingOf). it.id ≢ place) headings.old.items }
+    ensures are { AreHeadings headings.new.items }
+    ensures pushed { OnOk result (headings.new.items ≡ headings.old.items ++ (record { place = place; id = place; written = false; number = None }) ∷ []) }
+{
+    headings.push(HeadingAt {
+        place,
+        id: place,
+        written: false,
+        number: None,
+    })?;
+    Ok(())
+}
+
+/// So many headings without numbers, one a line.
+fn plain_headings(alloc: Global, count: u64) -> Result<Vec<HeadingAt>, AllocError>
+    requires { count ≤ 200000 }
+    ensures { IfOk result (λ headings. AreHeadings headings.items) }
+{
+    let mut headings = Vec::new(alloc);
+    for place in 0..count {
+        push_plain(&mut headings, place)?;
     }
     Ok(headings)
 }
@@ -237,5 +267,24 @@ fn a_label_is_given_once(rt: HostRuntime) -> Result<(), Fail> {
     let last = headings_of(rt.alloc(), &[(0, ""), (5, ""), (6, ""), (2, "")])?;
     let numbered = numbers(rt.alloc(), &last, Some(&records))?;
     assert!(rt; are_labels(rt.alloc(), &numbered, "1 2A 2AA 3")?);
+    Ok(())
+}
+
+#[test]
+fn records_are_at_most_100_000(rt: HostRuntime) -> Result<(), Fail> {
+    let alloc = rt.alloc();
+    let most = plain_headings(alloc, 100_000)?;
+    let more = plain_headings(alloc, 100_001)?;
+    assert_eq!(rt;
+        lock_scenes(alloc, &more).err(),
+        Some(SceneFault::RecordsFull)
+    );
+    let mut records = lock_scenes(alloc, &most).expect(&rt, "as many scenes as can be locked");
+    assert_eq!(rt; records.len(), 100_000);
+    assert_eq!(rt;
+        extend_scenes(alloc, &mut records, &more).err(),
+        Some(LockFault::RecordsFull)
+    );
+    assert_eq!(rt; records.len(), 100_000);
     Ok(())
 }

@@ -1,3 +1,4 @@
 pub mod PageSpans
 pub mod LayoutLaws
 mod PrintRows
+pub mod TitlePages
