@@ -222,9 +222,10 @@ layout_of-show lines utf8 few =
     let texts = line_texts lines in
     let blocks = blocks_of-lie texts utf8 few in
     let elements = elements_of texts in
-    let all = elements-show lines 0 (blocks_of texts) utf8 blocks.lie blocks.rise in
-    (All-flat_map (RowShows texts) (title_rows lines) elements (λ k d h. (part-shows texts (is_title (get_or elements k d).first.block.kind) _ (all k d h)).0),
-     All-flat_map (RowShows texts) (body_rows lines) elements (λ k d h. (part-shows texts (is_title (get_or elements k d).first.block.kind) _ (all k d h)).1))
+    let all = elements-show lines 0 (blocks_of texts) utf8 blocks.lie blocks.rise in (
+      All-flat_map (RowShows texts) (title_rows lines) elements (λ k d h. (part-shows texts (is_title (get_or elements k d).first.block.kind) _ (all k d h)).0),
+      All-flat_map (RowShows texts) (body_rows lines) elements (λ k d h. (part-shows texts (is_title (get_or elements k d).first.block.kind) _ (all k d h)).1),
+    )
 
 -- By whether an element is a page break.
 stop-within : (t : Bool) (count high : ℕ) → count ≤ high → All (λ (stop : ℕ). stop ≤ high) (cond t (count ∷ []) [])
