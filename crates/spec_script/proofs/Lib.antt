@@ -11,7 +11,6 @@ pub mod KeptRuns
 pub mod FirstBoneyards
 pub mod FirstNotes
 mod BlockRows
-pub mod FirstPlaces
 pub mod KeptPlaces
 pub mod LongestRuns
 pub mod Blocks
