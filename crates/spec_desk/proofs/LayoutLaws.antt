@@ -25,7 +25,7 @@ use Rattle.spec_pages.specs.Rows as rows
 use Rattle.spec_pages.specs.Wrapping.{WrappedRow, wrapped}
 use Rattle.spec_pages.proofs.RowParts.{RunParts-wrapped}
 use Rattle.spec_desk.specs.Layout.{cell_at, row_at, block_rows, pair_rows, element_rows, is_title, is_page_break, body_rows, title_rows, stop_at, stops_from, layout_of}
-use Rattle.spec_desk.specs.Sheets.{text_at, ShowsParts, RowShows}
+use Rattle.spec_desk.specs.Cells.{text_at, ShowsParts, RowShows}
 
 -- What holds of each part of a list that is made part by part holds of the list.
 All-flat_map : {X Y : Type 0} (P : Y → Type 0) (f : X → List Y) (xs : List X) → All (λ x. All P (f x)) xs → All P (flat_map f xs)
