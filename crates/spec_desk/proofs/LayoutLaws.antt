@@ -24,7 +24,7 @@ use Rattle.spec_pages.specs.Rows.{Cell, Row, LineRow, line_state, line_row, line
 use Rattle.spec_pages.specs.Rows as rows
 use Rattle.spec_pages.specs.Wrapping.{WrappedRow, wrapped}
 use Rattle.spec_pages.proofs.RowParts.{RunParts-wrapped}
-use Rattle.spec_desk.specs.Layout.{cell_at, row_at, block_rows, pair_rows, element_rows, is_title, is_page_break, body_rows, title_rows, stop_at, stops_from, layout_of}
+use Rattle.spec_desk.specs.Layout.{cell_at, row_at, single_block_rows, pair_rows, element_rows, is_title, is_page_break, body_rows, title_rows, stop_at, stops_from, layout_of}
 use Rattle.spec_desk.specs.Cells.{text_at, ShowsParts, RowShows}
 
 -- What holds of each part of a list that is made part by part holds of the list.
@@ -131,7 +131,7 @@ rows-if texts first true made all = all
 rows-if texts first false made all = All-nil (RowShows texts)
 
 -- The rows of a block that lies in the text.
-pub block-shows : (lines : List LineState) (placed : PlacedBlock) → All IsUtf8 (line_texts lines) → PlacedLies (line_texts lines) placed → All (RowShows (line_texts lines)) (block_rows lines placed)
+pub block-shows : (lines : List LineState) (placed : PlacedBlock) → All IsUtf8 (line_texts lines) → PlacedLies (line_texts lines) placed → All (RowShows (line_texts lines)) (single_block_rows lines placed)
 block-shows lines placed utf8 lies =
     let texts = line_texts lines in
     let first = placed.first in

@@ -25,7 +25,7 @@ use Rattle.spec_labels.specs.Labels.{LabelOf, plain_label}
 use Rattle.spec_desk.specs.Cells.{spaces, row_line}
 use Rattle.spec_desk.specs.Bodies.{body_rows, omitted_rows}
 use Rattle.spec_desk.specs.Rounds.{round_name}
-use Rattle.spec_desk.specs.Sheets.{Sheet, body_shape, sheet_bytes, page_sheet, page_spans}
+use Rattle.spec_desk.specs.Sheets.{body_shape, sheet_bytes, page_sheet, page_spans}
 
 -- Of nothing nothing is printed.
 pub empty_script : printing_of [] ≡ printed []

@@ -16,9 +16,22 @@ cell_at first cell = record cell { line = first + cell.line }
 abbrev pub row_at : ℕ → Row → Row
 row_at first row = record row { line = first + row.line; cells = map (cell_at first) row.cells }
 
+-- An element laid out: its rows, and the line of the text from which they count their lines.
+pub record ElementOf : Type 0 where
+  pub first : ℕ
+  pub rows : List Row
+
+-- The rows of an element, with places in the text.
+abbrev pub placed_rows : ElementOf → List Row
+placed_rows element = map (row_at element.first) element.rows
+
+-- The rows of elements, one behind the other.
+abbrev pub rows_in : List ElementOf → List Row
+rows_in elements = flat_map placed_rows elements
+
 -- The rows of a block by itself.
-abbrev pub block_rows : List LineState → PlacedBlock → List Row
-block_rows lines placed = map (row_at placed.first) (single_rows lines placed.first placed.block)
+abbrev pub single_block_rows : List LineState → PlacedBlock → List Row
+single_block_rows lines placed = map (row_at placed.first) (single_rows lines placed.first placed.block)
 
 -- The rows of two speeches as dual dialogue.
 abbrev pub pair_rows : List LineState → PlacedBlock → PlacedBlock → List Row
@@ -26,7 +39,7 @@ pair_rows lines left right = map (row_at left.first) (dual_rows lines left.first
 
 -- The rows of an element: a block, with the speech beside it where there is one.
 abbrev pub rows_beside : List LineState → PlacedBlock → List PlacedBlock → List Row
-rows_beside lines placed [] = block_rows lines placed
+rows_beside lines placed [] = single_block_rows lines placed
 rows_beside lines placed (right ∷ others) = pair_rows lines placed right
 
 abbrev pub element_rows : List LineState → Group PlacedBlock → List Row
