@@ -1,6 +1,6 @@
 pub mod LineTexts
-pub mod ShownRows
 pub mod Stops
+pub mod LayoutLeft
 pub mod PagesLeft
 pub mod Answering
 pub mod WrittenParts

@@ -3,3 +3,5 @@ pub mod Ending
 pub mod Reading
 pub mod Written
 pub mod LaidOut
+pub mod Rest
+pub mod Gathering

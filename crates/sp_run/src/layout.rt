@@ -1,47 +1,61 @@
-//! The rows of a text (docs/RULES.md, "Elements" and "Pages").
-ghost use Rattle.std.specs.Prelude.{◌≡◌, ℕ, ◌+◌, ◌<◌, ◌≤◌, ◌++◌, [], length, drop, map, All, IfOk, OnOk, true};
+//! The elements of a text, laid out (docs/RULES.md, "Elements" and "Pages").
+ghost use Rattle.std.specs.Prelude.{◌≡◌, ℕ, ◌+◌, ◌<◌, ◌≤◌, ◌++◌, List, [], length, map, All, IfOk, OnOk, true};
 ghost use Rattle.spec_text.specs.Lines.{line_texts};
 ghost use Rattle.spec_script.specs.Elements.{alone, pair, is_dual, is_speech_kind, elements_in, PlacedLies, PlacesRise};
-ghost use Rattle.spec_desk.specs.Layout.{row_at, is_title, is_page_break, title_rows, body_rows, stop_at, layout_from};
-ghost use Rattle.sp_run.specs.LaidOut.{AddsElement, AddsOne};
+ghost use Rattle.spec_pages.specs.Rows.{Row as RowValue};
+ghost use Rattle.spec_desk.specs.Layout.{AreIndexed, row_at, is_title, is_page_break, layout_from};
+ghost use Rattle.spec_desk.specs.Sheets.{body_shape};
+ghost use Rattle.sp_run.specs.LaidOut.{mark_of, HasRows, IsLaidOut, AddsElement, AddsOne};
 
 use crate::blocks::PlacedBlock;
 use sp_columns::{Row, dual_rows, single_rows};
+use sp_fill::Shape;
+use sp_print::Element;
 use sp_text::Lines;
 use spec_script::Kind;
 use std::alloc::{AllocError, Global};
 use std::marker::Model;
 
-/// A row, and the place of the line from which it counts its lines.
+/// Elements one behind the other, what page ends see of each of their rows, and each row's mark.
 #[derive(Drop)]
-pub struct PlacedRow {
-    pub first: u32,
-    pub row: Row,
+pub struct Part {
+    pub elements: Vec<Element>,
+    pub shapes: Vec<Shape>,
+    pub marks: Vec<u8>,
 }
 
-impl Model for PlacedRow {
-    ghost use Rattle.spec_pages.specs.Rows.{Row as RowValue};
-    ghost use Rattle.spec_desk.specs.Layout.{row_at};
+impl Model for Part {
+    ghost use Rattle.sp_run.specs.LaidOut.{PartOf};
 
-    ghost Value = { RowValue };
+    ghost Value = { PartOf };
 
-    ghost view = { λ r. row_at r.first r.row };
+    ghost view = { λ p. record { elements = p.elements.items; shapes = p.shapes.items; marks = p.marks.items } };
 }
 
-/// The rows of a text's title page, those of its body, and the rows before which its page breaks stand.
+/// A text laid out: its title page, its body, and the rows of the body before which its page breaks stand.
 #[derive(Drop)]
 pub struct Layout {
-    pub titles: Vec<PlacedRow>,
-    pub rows: Vec<PlacedRow>,
+    pub titles: Part,
+    pub body: Part,
     pub stops: Vec<usize>,
 }
 
 impl Model for Layout {
-    ghost use Rattle.spec_desk.specs.Layout.{Layout as LayoutValue};
+    ghost use Rattle.sp_run.specs.LaidOut.{LaidOut};
 
-    ghost Value = { LayoutValue };
+    ghost Value = { LaidOut };
 
-    ghost view = { λ l. record { titles = l.titles.items; rows = l.rows.items; stops = l.stops.items } };
+    ghost view = { λ l. record { titles = l.titles; body = l.body; stops = l.stops.items } };
+}
+
+fn no_part(alloc: Global) -> Part
+    ensures { HasRows [] result }
+{
+    Part {
+        elements: Vec::new(alloc),
+        shapes: Vec::new(alloc),
+        marks: Vec::new(alloc),
+    }
 }
 
 fn is_speech(kind: Kind) -> bool
@@ -72,13 +86,35 @@ fn is_dual(left: &PlacedBlock, right: &PlacedBlock) -> bool
         && right.block.caret
 }
 
-/// Adds the rows of an element that begins at a place.
-fn add_rows(rows: &mut Vec<PlacedRow>, first: u32, made: Vec<Row>) -> Result<(), AllocError>
-    ensures { OnOk result (rows.new.items ≡ rows.old.items ++ map (row_at first) made.items) }
+/// Adds what pages need to know of rows.
+fn add_facts(
+    shapes: &mut Vec<Shape>,
+    marks: &mut Vec<u8>,
+    rows: &[Row],
+) -> Result<(), AllocError>
+    ensures shapes { OnOk result (shapes.new.items ≡ shapes.old.items ++ map body_shape rows.now) }
+    ensures marks { OnOk result (marks.new.items ≡ marks.old.items ++ map mark_of rows.now) }
 {
-    for row in made {
-        rows.push(PlacedRow { first, row })?;
+    for row in rows {
+        shapes.push(row.shape)?;
+        marks.push(row.mark)?;
     }
+    Ok(())
+}
+
+/// Adds the rows of an element that begins at a place.
+fn add_rows(part: &mut Part, first: usize, rows: Vec<Row>) -> Result<(), AllocError>
+    requires { AreIndexed rows.items }
+    ensures { OnOk result ((before : List RowValue) → HasRows before part.old → HasRows (before ++ map (row_at first) rows.items) part.new) }
+{
+    if rows.is_empty() {
+        return Ok(());
+    }
+    add_facts(&mut part.shapes, &mut part.marks, &rows)?;
+    part.elements.push(Element {
+        first: first as u64,
+        rows,
+    })?;
     Ok(())
 }
 
@@ -93,14 +129,14 @@ fn add_block(
     ensures { OnOk result (AddsOne lines.now.lines (alone placed.now) layout.old layout.new) }
 {
     if is_page_break(placed.block.kind) {
-        layout.stops.push(layout.rows.len())?;
+        layout.stops.push(layout.body.shapes.len())?;
         return Ok(());
     }
     let rows = single_rows(alloc, lines, placed.first, &placed.block)?;
     if is_title(placed.block.kind) {
-        return add_rows(&mut layout.titles, placed.first as u32, rows);
+        return add_rows(&mut layout.titles, placed.first, rows);
     }
-    add_rows(&mut layout.rows, placed.first as u32, rows)
+    add_rows(&mut layout.body, placed.first, rows)
 }
 
 /// Adds two speeches as dual dialogue.
@@ -125,7 +161,7 @@ fn add_pair(
         right.first,
         &right.block,
     )?;
-    add_rows(&mut layout.rows, left.first as u32, rows)
+    add_rows(&mut layout.body, left.first, rows)
 }
 
 /// Adds the element that begins with the block at a place, and gives the place behind it.
@@ -153,11 +189,11 @@ fn add_element(
 pub fn lay_out(alloc: Global, lines: &Lines, blocks: &[PlacedBlock]) -> Result<Layout, AllocError>
     requires lie { All (PlacedLies (line_texts lines.now.lines)) blocks.now }
     requires rise { PlacesRise 0 blocks.now }
-    ensures { IfOk result (λ layout. layout ≡ layout_from lines.now.lines 0 (elements_in blocks.now)) }
+    ensures { IfOk result (IsLaidOut (layout_from lines.now.lines 0 (elements_in blocks.now))) }
 {
     let mut layout = Layout {
-        titles: Vec::new(alloc),
-        rows: Vec::new(alloc),
+        titles: no_part(alloc),
+        body: no_part(alloc),
         stops: Vec::new(alloc),
     };
     let mut place = 0;

@@ -2,12 +2,13 @@
 #![tactic(auto)]
 
 mod blocks;
+mod gathering;
 mod layout;
 mod pages;
 mod print;
 mod program;
+mod rest;
 mod script;
-mod sheets;
 mod status;
 
 pub use program::run;
