@@ -1,4 +1,5 @@
 pub mod PageSpans
 pub mod LayoutLaws
+pub mod IndexLaws
 mod PrintRows
 pub mod TitlePages
