@@ -1,5 +1,5 @@
 -- The rows of a text, the rows of its title page, and its stops (docs/RULES.md, "Elements" and "Pages").
-use Rattle.std.specs.Prelude.{ℕ, ◌+◌, Bool, true, false, if◌then◌else◌, List, [], ◌∷◌, ◌++◌, length, map}
+use Rattle.std.specs.Prelude.{◌≡◌, ℕ, ◌+◌, ◌<◌, Bool, true, false, if◌then◌else◌, List, [], ◌∷◌, ◌++◌, length, map, slice_index_or}
 use Rattle.std.specs.List.{flat_map}
 use Rattle.spec_text.specs.Lines.{LineState, line_texts}
 use Rattle.spec_script.specs.declared.Kind.{Kind}
@@ -28,6 +28,10 @@ placed_rows element = map (row_at element.first) element.rows
 -- The rows of elements, one behind the other.
 abbrev pub rows_in : List ElementOf → List Row
 rows_in elements = flat_map placed_rows elements
+
+-- Each row of an element knows how many of the element's rows stand before it.
+abbrev pub AreIndexed : List Row → Type 0
+AreIndexed rows = (k : ℕ) (d : Row) → k < length rows → (slice_index_or rows k d).shape.index ≡ k
 
 -- The rows of a block by itself.
 abbrev pub single_block_rows : List LineState → PlacedBlock → List Row
