@@ -8,7 +8,7 @@ use sp_print::Element;
 use std::marker::Model;
 
 /// The last of some elements, and how many rows stand before them.
-#[derive(Clone, Copy)]
+#[derive(Drop)]
 pub struct Rest<'a> {
     pub elements: &'a [Element],
     pub passed: usize,
