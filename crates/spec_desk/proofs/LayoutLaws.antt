@@ -57,7 +57,7 @@ line_rows_from-show texts first side kind mark text shift line number (row ∷ l
     (line_rows_from-show texts first side kind mark text shift line (number + 1) later inside (All-tail P row later parts))
 
 -- The text of the line at a place.
-state-text : (lines : List LineState) (place : ℕ) → place < length (line_texts lines) → text_at (line_texts lines) place ≡ (line_state lines place).text
+pub state-text : (lines : List LineState) (place : ℕ) → place < length (line_texts lines) → text_at (line_texts lines) place ≡ (line_state lines place).text
 state-text lines place inside =
     let size = length-map lines (λ (line : LineState). line.text) in
     get_or-map (λ (line : LineState). line.text) lines place (record { id = 0; mark = 0; text = [] }) [] (omega (arith, inside, size))
