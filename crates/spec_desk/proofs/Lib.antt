@@ -4,5 +4,6 @@ pub mod IndexLaws
 pub mod BodyLaws
 pub mod ElementPlaces
 pub mod RowCounts
+pub mod RowKeys
 mod PrintRows
 pub mod TitlePages
