@@ -5,5 +5,6 @@ pub mod BodyLaws
 pub mod ElementPlaces
 pub mod RowCounts
 pub mod RowKeys
+pub mod PageHeights
 mod PrintRows
 pub mod TitlePages
