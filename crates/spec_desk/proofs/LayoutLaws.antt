@@ -28,7 +28,7 @@ use Rattle.spec_desk.specs.Layout.{cell_at, row_at, single_block_rows, pair_rows
 use Rattle.spec_desk.specs.Cells.{text_at, ShowsParts, RowShows}
 
 -- What holds of each part of a list that is made part by part holds of the list.
-All-flat_map : {X Y : Type 0} (P : Y → Type 0) (f : X → List Y) (xs : List X) → All (λ x. All P (f x)) xs → All P (flat_map f xs)
+pub All-flat_map : {X Y : Type 0} (P : Y → Type 0) (f : X → List Y) (xs : List X) → All (λ x. All P (f x)) xs → All P (flat_map f xs)
 All-flat_map P f [] all = All-nil P
 All-flat_map {X} P f (x ∷ xs) all =
     let Q : X → Type 0 = λ x. All P (f x) in

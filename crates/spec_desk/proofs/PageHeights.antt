@@ -71,7 +71,8 @@ body_rows-few texts rows labels round span page =
 abbrev pub IsLow : Sheet → Type 0
 IsLow sheet = length sheet.rows ≤ page_limit
 
-sheets_from-low : (texts : List (List ℕ)) (rows : List Row) (labelled : Bool) (number : ℕ) (spans : List (ℕ × ℕ)) → All (IsPage (map body_shape rows)) spans
+-- The sheets of pages that aren't too high.
+pub sheets_from-low : (texts : List (List ℕ)) (rows : List Row) (labelled : Bool) (number : ℕ) (spans : List (ℕ × ℕ)) → All (IsPage (map body_shape rows)) spans
     → All IsLow (sheets_from texts rows labelled number spans)
 sheets_from-low texts rows labelled number [] pages = All-nil IsLow
 sheets_from-low texts rows labelled number (span ∷ spans) pages =
