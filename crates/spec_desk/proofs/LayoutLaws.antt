@@ -28,7 +28,7 @@ use Rattle.spec_desk.specs.Layout.{cell_at, row_at, single_block_rows, pair_rows
 use Rattle.spec_desk.specs.Cells.{text_at, ShowsParts, RowShows}
 
 -- What holds of each part of a list that is made part by part holds of the list.
-All-flat_map : {X Y : Type 0} (P : Y → Type 0) (f : X → List Y) (xs : List X) → All (λ x. All P (f x)) xs → All P (flat_map f xs)
+pub All-flat_map : {X Y : Type 0} (P : Y → Type 0) (f : X → List Y) (xs : List X) → All (λ x. All P (f x)) xs → All P (flat_map f xs)
 All-flat_map P f [] all = All-nil P
 All-flat_map {X} P f (x ∷ xs) all =
     let Q : X → Type 0 = λ x. All P (f x) in
@@ -57,7 +57,7 @@ line_rows_from-show texts first side kind mark text shift line number (row ∷ l
     (line_rows_from-show texts first side kind mark text shift line (number + 1) later inside (All-tail P row later parts))
 
 -- The text of the line at a place.
-state-text : (lines : List LineState) (place : ℕ) → place < length (line_texts lines) → text_at (line_texts lines) place ≡ (line_state lines place).text
+pub state-text : (lines : List LineState) (place : ℕ) → place < length (line_texts lines) → text_at (line_texts lines) place ≡ (line_state lines place).text
 state-text lines place inside =
     let size = length-map lines (λ (line : LineState). line.text) in
     get_or-map (λ (line : LineState). line.text) lines place (record { id = 0; mark = 0; text = [] }) [] (omega (arith, inside, size))
