@@ -1,5 +1,5 @@
 -- The rows of a text show parts of its lines, and no page break stands behind the last row of its body.
-use Rattle.std.proofs.Common.{◌≡◌, ℕ, ◌+◌, ◌-◌, ◌<◌, ◌≤◌, ◌==◌, Bool, true, false, cond, List, [], ◌∷◌, ◌++◌, length, map, get_or, refl, sym, subst, arith, length-append}
+use Rattle.std.proofs.Common.{◌≡◌, ℕ, ◌+◌, ◌-◌, ◌/◌, ◌<◌, ◌≤◌, ◌==◌, Bool, true, false, cond, List, [], ◌∷◌, ◌++◌, length, map, get_or, refl, sym, subst, arith, length-append}
 use Rattle.std.specs.Prelude.{All}
 use Rattle.std.specs.List.{flat_map}
 use Rattle.std.specs.Str.{IsUtf8}
@@ -9,6 +9,9 @@ use Rattle.spec_text.specs.Limits.{line_count_limit}
 use Rattle.spec_text.specs.Lines.{LineState, line_texts}
 use Rattle.spec_text.specs.Parts.{SpanOf, Parts}
 use Rattle.spec_script.specs.declared.Kind.{Kind}
+use Rattle.spec_script.specs.declared.Kind.TheVariants as kinds
+use Rattle.spec_script.specs.declared.Part.{Part}
+use Rattle.spec_script.specs.declared.Part.TheVariants as parts
 use Rattle.spec_script.specs.LongestRuns.{Group}
 use Rattle.spec_script.specs.BlockValues.{LineOf, BlockOf}
 use Rattle.spec_script.specs.BlockParts.{LineLies, BlockLies}
@@ -19,13 +22,13 @@ use Rattle.spec_script.proofs.BlockPlaces.{blocks_of-lie}
 use Rattle.spec_script.proofs.ElementLaws.{elements_in-alone, elements_in-pair}
 use Rattle.spec_pages.specs.declared.Side.{Side}
 use Rattle.spec_pages.specs.declared.Side.TheVariants as sides
-use Rattle.spec_pages.specs.Columns.{width_of, first_lead, has_rows}
+use Rattle.spec_pages.specs.Columns.{centred_column, text_column, own_column, column_of, width_of, first_lead, has_rows}
 use Rattle.spec_pages.specs.Rows.{Cell, Row, LineRow, line_state, line_row, line_rows_from, line_rows, number_cell, number_runs, numbered_cells, with_number, half_row, joined_row, joined_rows, shaped_row, shaped_rows, single_rows, dual_rows}
 use Rattle.spec_pages.specs.Rows as rows
 use Rattle.spec_pages.specs.Wrapping.{WrappedRow, wrapped}
 use Rattle.spec_pages.proofs.RowParts.{RunParts-wrapped}
 use Rattle.spec_desk.specs.Layout.{cell_at, row_at, single_block_rows, pair_rows, element_rows, is_title, is_page_break, body_rows, title_rows, stop_at, stops_from, layout_of}
-use Rattle.spec_desk.specs.Cells.{text_at, ShowsParts, RowShows}
+use Rattle.spec_desk.specs.Cells.{text_at, last_column, ShowsParts, RowShows}
 
 -- What holds of each part of a list that is made part by part holds of the list.
 All-flat_map : {X Y : Type 0} (P : Y → Type 0) (f : X → List Y) (xs : List X) → All (λ x. All P (f x)) xs → All P (flat_map f xs)
@@ -40,6 +43,39 @@ pub record LineRowShows (texts : List (List ℕ)) (first most : ℕ) (row : Line
   pub few : length row.cells ≤ most
   pub cells : All (λ (cell : Cell). ShowsParts texts (cell_at first cell)) row.cells
 
+-- The columns of rows.
+centred-near : (width : ℕ) → centred_column width ≤ last_column
+centred-near width =
+    let half : (60 - width) / 2 ≤ 30 = omega arith in
+    omega (arith, half)
+
+text_column-near : (kind : Kind) (width : ℕ) → text_column kind width ≤ last_column
+text_column-near kinds.Lyric width = omega arith
+text_column-near kinds.Transition width = omega arith
+text_column-near kinds.Centred width = centred-near width
+text_column-near kinds.Heading width = omega arith
+text_column-near kinds.Action width = omega arith
+text_column-near kinds.Speech width = omega arith
+text_column-near kinds.PageBreak width = omega arith
+text_column-near kinds.Section width = omega arith
+text_column-near kinds.Synopsis width = omega arith
+text_column-near kinds.Title width = omega arith
+
+own_column-near : (kind : Kind) (part : Part) (width : ℕ) → own_column kind part width ≤ last_column
+own_column-near kind parts.Text width = text_column-near kind width
+own_column-near kind parts.Cue width = omega arith
+own_column-near kind parts.Parenthetical width = omega arith
+own_column-near kind parts.Dialogue width = omega arith
+own_column-near kind parts.Sung width = omega arith
+own_column-near kind parts.Held width = omega arith
+own_column-near kind parts.TitleCentred width = centred-near width
+own_column-near kind parts.TitleLeft width = omega arith
+
+pub column_of-near : (side : Side) (kind : Kind) (part : Part) (width : ℕ) → column_of side kind part width ≤ last_column
+column_of-near sides.Alone kind part width = own_column-near kind part width
+column_of-near sides.Left kind part width = omega arith
+column_of-near sides.Right kind part width = omega arith
+
 -- The rows of a line.
 line_rows_from-show : (texts : List (List ℕ)) (first : ℕ) (side : Side) (kind : Kind) (mark : ℕ) (text : List ℕ) (shift : ℕ) (line : LineOf) (number : ℕ) (wrapped_rows : List WrappedRow)
     → first + (shift + line.offset) < length texts → All (λ (r : WrappedRow). RunParts (text_at texts (first + (shift + line.offset))) r.runs) wrapped_rows
@@ -52,7 +88,7 @@ line_rows_from-show texts first side kind mark text shift line number (row ∷ l
     (record {
       place = inside;
       few = omega arith;
-      cells = All-cons Q _ [] (record { place = inside; parts = All-head P row later parts }) (All-nil Q);
+      cells = All-cons Q _ [] (record { near = column_of-near side kind line.part row.width; place = inside; parts = All-head P row later parts }) (All-nil Q);
     })
     (line_rows_from-show texts first side kind mark text shift line (number + 1) later inside (All-tail P row later parts))
 
@@ -86,8 +122,9 @@ number-parts : (text : List ℕ) (at : ℕ) (spans : List SpanOf) → Parts text
 number-parts text at [] parts = tt
 number-parts text at (span ∷ spans) parts = (parts.0, parts.1, number-parts text span.1 spans parts.2)
 
-number-shows : (texts : List (List ℕ)) (first column : ℕ) (block : BlockOf) → BlockLies texts first block → ShowsParts texts (cell_at first (number_cell block column))
-number-shows texts first column block lies = record { place = lies.place; parts = number-parts (text_at texts (first + block.first)) 0 block.number lies.number }
+number-shows : (texts : List (List ℕ)) (first column : ℕ) (block : BlockOf) → column ≤ last_column → BlockLies texts first block
+    → ShowsParts texts (cell_at first (number_cell block column))
+number-shows texts first column block near lies = record { near = near; place = lies.place; parts = number-parts (text_at texts (first + block.first)) 0 block.number lies.number }
 
 -- By whether a number is written.
 numbered-if : (texts : List (List ℕ)) (first : ℕ) (block : BlockOf) (row : LineRow) (t : Bool) → BlockLies texts first block → LineRowShows texts first 1 row
@@ -99,8 +136,8 @@ numbered-if texts first block row false lies shows =
     record {
       place = shows.place;
       few = omega (arith, size, shows.few);
-      cells = All-cons Q (number_cell block 7) (row.cells ++ number_cell block 76 ∷ []) (number-shows texts first 7 block lies)
-          (All-append Q row.cells (number_cell block 76 ∷ []) shows.cells (All-cons Q (number_cell block 76) [] (number-shows texts first 76 block lies) (All-nil Q)));
+      cells = All-cons Q (number_cell block 7) (row.cells ++ number_cell block 76 ∷ []) (number-shows texts first 7 block (omega arith) lies)
+          (All-append Q row.cells (number_cell block 76 ∷ []) shows.cells (All-cons Q (number_cell block 76) [] (number-shows texts first 76 block (omega arith) lies) (All-nil Q)));
     }
 
 more-cells : (texts : List (List ℕ)) (first most more : ℕ) (line_rows : List LineRow) → most ≤ more → All (LineRowShows texts first most) line_rows → All (LineRowShows texts first more) line_rows
