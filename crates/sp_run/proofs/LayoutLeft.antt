@@ -1,11 +1,12 @@
 -- What is laid out, and the blocks that are left.
-use Rattle.std.proofs.Common.{◌≡◌, ℕ, List, [], ◌∷◌, ◌+◌, ◌++◌, length, drop, ap, sym, ◌∙◌, refl, append_assoc, length-append, subst, append-nil}
+use Rattle.std.proofs.Common.{◌≡◌, ℕ, List, [], ◌∷◌, ◌+◌, ◌≤◌, ◌++◌, length, drop, ap, sym, ◌∙◌, refl, append_assoc, length-append, subst, append-nil}
 use Rattle.std.specs.List.{flat_map}
 use Rattle.std.proofs.lemmas.List.{drop_all}
 use Rattle.spec_text.specs.Lines.{LineState}
 use Rattle.spec_script.specs.LongestRuns.{Group}
 use Rattle.spec_script.specs.Stanzas.{PlacedBlock}
 use Rattle.spec_script.specs.Elements.{elements_in}
+use Rattle.spec_pages.specs.Rows.{Row}
 use Rattle.spec_desk.specs.Layout.{Layout, title_rows, body_rows, stop_at, stops_from, layout_from}
 use Rattle.sp_run.specs.LaidOut.{LaidOut, IsLaidOut, AddsElement, with_element}
 
@@ -22,6 +23,13 @@ pub record LayoutLeft (lines : List LineState) (blocks : List PlacedBlock) (plac
   pub layout : Layout
   pub is : IsLaidOut layout laid
   pub all : followed_by lines layout (elements_in (drop place blocks)) ≡ layout_from lines 0 (elements_in blocks)
+
+-- Before the first block nothing is laid out.
+abbrev pub no_layout : Layout
+no_layout = record { titles = []; rows = []; stops = [] }
+
+pub left-first : (lines : List LineState) (blocks : List PlacedBlock) (laid : LaidOut) → IsLaidOut no_layout laid → LayoutLeft lines blocks 0 laid
+left-first lines blocks laid is = record { layout = no_layout; is = is; all = refl }
 
 -- One element more.
 followed-more : (lines : List LineState) (layout : Layout) (element : Group PlacedBlock) (elements : List (Group PlacedBlock))
@@ -45,3 +53,21 @@ left-next lines blocks place next old new left adds = record {
       ∙ ap (followed_by lines left.layout) (sym adds.split)
       ∙ left.all;
 }
+
+-- Nothing more.
+followed-none : (lines : List LineState) (layout : Layout) → followed_by lines layout [] ≡ layout
+followed-none lines layout =
+    let rows : List Row = layout.rows ++ [] in
+    ap (λ titles. record { titles = titles; rows = rows; stops = layout.stops ++ [] }) (append-nil layout.titles)
+    ∙ ap (λ r. record { titles = layout.titles; rows = r; stops = layout.stops ++ [] }) (append-nil layout.rows)
+    ∙ ap (λ stops. record { titles = layout.titles; rows = layout.rows; stops = stops }) (append-nil layout.stops)
+
+-- Behind the last block all are laid out.
+pub left-last : (lines : List LineState) (blocks : List PlacedBlock) (place : ℕ) (laid : LaidOut) → length blocks ≤ place → LayoutLeft lines blocks place laid
+    → IsLaidOut (layout_from lines 0 (elements_in blocks)) laid
+left-last lines blocks place laid past left =
+    let none = drop_all place blocks past in
+    let whole : followed_by lines left.layout [] ≡ layout_from lines 0 (elements_in blocks) =
+    ap (λ (bs : List PlacedBlock). followed_by lines left.layout (elements_in bs)) (sym none) ∙ left.all in
+    let ends : followed_by lines left.layout [] ≡ left.layout = followed-none lines left.layout in
+    subst (λ (layout : Layout). IsLaidOut layout laid) (sym ends ∙ whole) left.is
