@@ -1,7 +1,7 @@
 -- The elements that are left to print, without the first of them.
 use Rattle.std.proofs.Common.{◌≡◌, ℕ, ◌+◌, ◌<◌, ◌≤◌, List, ◌∷◌, ◌++◌, length, drop, get_or, ap, sym, ◌∙◌, subst, append_assoc, length-append, arith}
 use Rattle.std.specs.Prelude.{All}
-use Rattle.std.proofs.lemmas.List.{at_drop_more, length-map}
+use Rattle.std.proofs.lemmas.List.{at_drop_more, get_or-append-add, length-map}
 use Rattle.std.proofs.lemmas.List.Elements.{All-tail}
 use Rattle.spec_pages.specs.Rows.{Row}
 use Rattle.spec_desk.specs.Layout.{ElementOf, AreIndexed, row_at, placed_rows, rows_in}
@@ -38,3 +38,14 @@ length-next elements place element inside is =
     ap (λ (es : List ElementOf). length (rows_in es)) (front elements place element inside is)
     ∙ length-append (placed_rows element) (rows_in (drop (place + 1) elements))
     ∙ ap (λ n. n + length (rows_in (drop (place + 1) elements))) (length-placed element)
+
+-- Those before and those that are left are all rows.
+pub rest-length : (rows : List Row) (rest : RestOf) → IsRest rows rest → length rows ≡ rest.passed + length (rows_in rest.elements)
+rest-length rows rest is = ap length is.split ∙ length-append is.before (rows_in rest.elements) ∙ ap (λ n. n + length (rows_in rest.elements)) (sym is.count)
+
+-- What holds of all rows holds of those that are left.
+pub rest-all : (P : Row → Type 0) (rows : List Row) (rest : RestOf) → IsRest rows rest → All P rows → All P (rows_in rest.elements)
+rest-all P rows rest is all = λ k d inside.
+    let size = rest-length rows rest is in
+    let at = ap (λ (those : List Row). get_or those (length is.before + k) d) is.split ∙ get_or-append-add is.before (rows_in rest.elements) k d in
+    subst P at (all (length is.before + k) d (omega (arith, inside, size, is.count)))

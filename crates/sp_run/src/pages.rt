@@ -1,11 +1,11 @@
 //! The pages of a script, written sheet by sheet.
-ghost use Rattle.std.specs.Prelude.{◌≡◌, ℕ, ◌+◌, ◌<◌, ◌≤◌, List, [], ◌++◌, true, false, map, length, nat_lt, find, fold, max, slice_get, slice_range, unwrap_or, All, IfOk, IfErr, OnOk, ◌-◌};
+ghost use Rattle.std.specs.Prelude.{◌≡◌, ℕ, ◌+◌, ◌<◌, ◌≤◌, List, [], ◌++◌, true, false, map, length, nat_lt, find, fold, max, slice_get, slice_range, unwrap_or, All, IfOk, OnOk, ◌-◌};
 ghost use Rattle.std.specs.List.{flat_map};
 ghost use Rattle.spec_text.specs.Lines.{line_texts};
 ghost use Rattle.spec_pages.specs.Rows.{Row as RowValue};
 ghost use Rattle.spec_desk.specs.Cells.{RowShows};
 ghost use Rattle.spec_desk.specs.Layout.{rows_in, layout_of};
-ghost use Rattle.spec_desk.specs.Sheets.{title_shape, page_sheet, sheets_in, sheet_bytes};
+ghost use Rattle.spec_desk.specs.Sheets.{body_shape, uncut, title_shape, page_sheet, sheets_in, sheet_bytes};
 ghost use Rattle.spec_desk.specs.Printing.{sheets_bytes};
 ghost use Rattle.sp_run.specs.LaidOut.{LaidOut, PartOf, HasRows, IsLaidOut, mark_of};
 ghost use Rattle.sp_run.specs.Rest.{IsRest, StandsFirst};
@@ -50,9 +50,9 @@ fn uncut(shape: &Shape) -> Shape
 fn greatest(marks: &[u8]) -> u8
     ensures { result ≡ fold max 0 marks.now }
 {
-    let mut greatest = 0;
+    let mut greatest = 0u8;
     for mark in marks {
-        greatest = mark.max(greatest);
+        greatest = greatest.max(*mark);
     }
     greatest
 }
@@ -98,15 +98,14 @@ fn add_sheet(
     marks: &[u8],
     labelled: bool,
     number: u32,
-) -> Result<(), Status>
+) -> Result<(), AllocError>
     requires order { from < to }
     requires passed { rest.now.passed ≤ from }
     requires within { to ≤ rest.now.passed + length (rows_in rest.now.elements) }
     requires low { to ≤ 16777216 }
     requires first { StandsFirst rest.now.elements (from - rest.now.passed) }
     requires show { All (RowShows (line_texts lines.now.lines)) (rows_in rest.now.elements) }
-    ensures sheet { OnOk result ((rows : List RowValue) → IsRest rows rest.now → marks.now ≡ map mark_of (slice_range rows from to) → sheet.new.taken ≡ sheet.old.taken ++ sheet_bytes (page_sheet (line_texts lines.now.lines) rows labelled number (from, to))) }
-    ensures err { IfErr result (λ status. status ≡ Status.NoMemory) }
+    ensures { OnOk result ((rows : List RowValue) → IsRest rows rest.now → marks.now ≡ map mark_of (slice_range rows from to) → sheet.new.taken ≡ sheet.old.taken ++ sheet_bytes (page_sheet (line_texts lines.now.lines) rows labelled number (from, to))) }
 {
     let label = Label {
         number,
@@ -131,7 +130,7 @@ fn add_sheet(
     );
     match print_sheet(&page, sheet) {
         Ok(()) => Ok(()),
-        Err(_) => Err(Status::NoMemory),
+        Err(_) => Err(AllocError),
     }
 }
 
@@ -191,13 +190,30 @@ fn write_titles<O: Sink>(
     write_pages(alloc, lines, titles, false, &shapes, &[], output)
 }
 
+/// Writes the sheets of a body with these stops.
+fn write_body<O: Sink>(
+    alloc: Global,
+    lines: &Lines,
+    body: &Part,
+    stops: &[usize],
+    output: &mut O,
+) -> Result<(), Status>
+    requires part { HasRows (rows_in body.now.elements) body.now }
+    requires few { length (rows_in body.now.elements) ≤ 16777216 }
+    requires within { All (λ (stop : ℕ). stop ≤ length (rows_in body.now.elements)) stops.now }
+    requires show { All (RowShows (line_texts lines.now.lines)) (rows_in body.now.elements) }
+    ensures { IsWritten O.taken O.faults output.old output.new (flat_map sheet_bytes (sheets_in (line_texts lines.now.lines) (rows_in body.now.elements) true (map body_shape (rows_in body.now.elements)) stops.now)) result }
+{
+    write_pages(alloc, lines, body, true, &body.shapes, stops, output)
+}
+
 /// The layout of a text.
 fn text_layout(alloc: Global, lines: &Lines) -> Result<Layout, AllocError>
     ensures layout { IfOk result (IsLaidOut (layout_of lines.now.lines)) }
     ensures titles { IfOk result (λ (layout : LaidOut). All (RowShows (line_texts lines.now.lines)) (rows_in layout.titles.elements)) }
     ensures body { IfOk result (λ (layout : LaidOut). All (RowShows (line_texts lines.now.lines)) (rows_in layout.body.elements)) }
     ensures few { IfOk result (λ (layout : LaidOut). length (rows_in layout.titles.elements) + length (rows_in layout.body.elements) ≤ 16777216) }
-    ensures within { IfOk result (λ (layout : LaidOut). All (λ (stop : ℕ). stop ≤ length layout.body.shapes) layout.stops) }
+    ensures within { IfOk result (λ (layout : LaidOut). All (λ (stop : ℕ). stop ≤ length (rows_in layout.body.elements)) layout.stops) }
 {
     let blocks = read_blocks(alloc, lines, &mut Counter::new())?;
     lay_out(alloc, lines, &blocks)
@@ -209,13 +225,5 @@ pub fn write_sheets<O: Sink>(alloc: Global, lines: &Lines, output: &mut O) -> Re
 {
     let layout = text_layout(alloc, lines)?;
     write_titles(alloc, lines, &layout.titles, output)?;
-    write_pages(
-        alloc,
-        lines,
-        &layout.body,
-        true,
-        &layout.body.shapes,
-        &layout.stops,
-        output,
-    )
+    write_body(alloc, lines, &layout.body, &layout.stops, output)
 }
