@@ -2,6 +2,7 @@
 #![tactic(auto)]
 
 mod blocks;
+mod form;
 mod layout;
 mod pages;
 mod print;

@@ -12,7 +12,7 @@ use crate::layout::{Layout, PlacedRow, lay_out};
 use crate::sheets::add_sheet;
 use crate::status::Status;
 use sp_fill::{RowKind, Shape, fill};
-use sp_kit::{Counter, Sink, write_whole};
+use sp_kit::{Sink, Steps, write_whole};
 use sp_text::Lines;
 use std::alloc::{AllocError, Global};
 
@@ -91,7 +91,7 @@ fn first_stop(stops: &[usize], row: usize, end: usize) -> usize
 }
 
 /// Writes the sheets of rows that page ends see like this, with these stops, each sheet whole.
-fn write_pages<O: Sink>(
+fn write_pages<O: Sink, S: Steps>(
     alloc: Global,
     lines: &Lines,
     rows: &[PlacedRow],
@@ -99,13 +99,13 @@ fn write_pages<O: Sink>(
     shapes: &[Shape],
     stops: &[usize],
     output: &mut O,
+    steps: &mut S,
 ) -> Result<(), Status>
     requires shapes { length shapes.now ≡ length rows.now }
     requires within { All (λ (stop : ℕ). stop ≤ length rows.now) stops.now }
     requires show { All (RowShows (line_texts lines.now.lines)) rows.now }
     ensures { IsWritten O.taken O.faults output.old output.new (flat_map sheet_bytes (sheets_in (line_texts lines.now.lines) rows.now labelled shapes.now stops.now)) result }
 {
-    let mut steps = Counter::new();
     let mut sheet = Vec::new(alloc);
     let mut number = 0;
     let mut ahead = stops;
@@ -113,7 +113,7 @@ fn write_pages<O: Sink>(
     while from < shapes.len() {
         ahead = stops_above(ahead, from);
         let stop = first_stop(ahead, from, shapes.len());
-        let to = fill(shapes, from, stop, &mut steps);
+        let to = fill(shapes, from, stop, steps);
         number += 1;
         sheet.clear();
         add_sheet(&mut sheet, lines, &rows[from..to], labelled, number)?;
@@ -124,51 +124,58 @@ fn write_pages<O: Sink>(
 }
 
 /// Writes the sheets of a title page.
-fn write_titles<O: Sink>(
+fn write_titles<O: Sink, S: Steps>(
     alloc: Global,
     lines: &Lines,
     rows: &[PlacedRow],
     output: &mut O,
+    steps: &mut S,
 ) -> Result<(), Status>
     requires { All (RowShows (line_texts lines.now.lines)) rows.now }
     ensures { IsWritten O.taken O.faults output.old output.new (flat_map sheet_bytes (sheets_in (line_texts lines.now.lines) rows.now false (map title_shape rows.now) [])) result }
 {
     let shapes = title_shapes(alloc, rows)?;
-    write_pages(alloc, lines, rows, false, &shapes, &[], output)
+    write_pages(alloc, lines, rows, false, &shapes, &[], output, steps)
 }
 
 /// Writes the sheets of a body with these stops.
-fn write_body<O: Sink>(
+fn write_body<O: Sink, S: Steps>(
     alloc: Global,
     lines: &Lines,
     rows: &[PlacedRow],
     stops: &[usize],
     output: &mut O,
+    steps: &mut S,
 ) -> Result<(), Status>
     requires within { All (λ (stop : ℕ). stop ≤ length rows.now) stops.now }
     requires show { All (RowShows (line_texts lines.now.lines)) rows.now }
     ensures { IsWritten O.taken O.faults output.old output.new (flat_map sheet_bytes (sheets_in (line_texts lines.now.lines) rows.now true (map body_shape rows.now) stops.now)) result }
 {
     let shapes = body_shapes(alloc, rows)?;
-    write_pages(alloc, lines, rows, true, &shapes, stops, output)
+    write_pages(alloc, lines, rows, true, &shapes, stops, output, steps)
 }
 
 /// The layout of a text.
-fn text_layout(alloc: Global, lines: &Lines) -> Result<Layout, AllocError>
+fn text_layout<S: Steps>(alloc: Global, lines: &Lines, steps: &mut S) -> Result<Layout, AllocError>
     ensures layout { IfOk result (λ layout. layout ≡ layout_of lines.now.lines) }
     ensures titles { IfOk result (λ (layout : LayoutValue). All (RowShows (line_texts lines.now.lines)) layout.titles) }
     ensures rows { IfOk result (λ (layout : LayoutValue). All (RowShows (line_texts lines.now.lines)) layout.rows) }
     ensures within { IfOk result (λ (layout : LayoutValue). All (λ (stop : ℕ). stop ≤ length layout.rows) layout.stops) }
 {
-    let blocks = read_blocks(alloc, lines, &mut Counter::new())?;
+    let blocks = read_blocks(alloc, lines, steps)?;
     lay_out(alloc, lines, &blocks)
 }
 
 /// Writes the sheets of a text: those of its title page, then its pages.
-pub fn write_sheets<O: Sink>(alloc: Global, lines: &Lines, output: &mut O) -> Result<(), Status>
+pub fn write_sheets<O: Sink, S: Steps>(
+    alloc: Global,
+    lines: &Lines,
+    output: &mut O,
+    steps: &mut S,
+) -> Result<(), Status>
     ensures { IsWritten O.taken O.faults output.old output.new (sheets_bytes lines.now.lines) result }
 {
-    let layout = text_layout(alloc, lines)?;
-    write_titles(alloc, lines, &layout.titles, output)?;
-    write_body(alloc, lines, &layout.rows, &layout.stops, output)
+    let layout = text_layout(alloc, lines, steps)?;
+    write_titles(alloc, lines, &layout.titles, output, steps)?;
+    write_body(alloc, lines, &layout.rows, &layout.stops, output, steps)
 }

@@ -24,7 +24,7 @@ rows-show text is =
     layout_of-show text.lines (All-map IsUtf8 (λ (l : LineState). l.text) text.lines (λ k d h. (is.clean k d h).utf8)) (omega (arith, count, is.count))
 
 pub returns-clause-titles : goal.returns-clause-titles
-returns-clause-titles c =
+returns-clause-titles g c =
     let lines = c.args.lines.now.lines in
     let blocks = c.deref.ensures.value ∙ c.in_ok-blocks.ensures.blocks in
     if-ok (λ (l : Layout). l ≡ layout_from lines 0 (elements_in c.deref.result.now)) (λ (l : Layout). All (RowShows (line_texts lines)) l.titles) c.lay_out.result
@@ -32,7 +32,7 @@ returns-clause-titles c =
     (rows-show c.args.lines.now c.in_ok-blocks.ensures.text).0) c.lay_out.ensures
 
 pub returns-clause-rows : goal.returns-clause-rows
-returns-clause-rows c =
+returns-clause-rows g c =
     let lines = c.args.lines.now.lines in
     let blocks = c.deref.ensures.value ∙ c.in_ok-blocks.ensures.blocks in
     if-ok (λ (l : Layout). l ≡ layout_from lines 0 (elements_in c.deref.result.now)) (λ (l : Layout). All (RowShows (line_texts lines)) l.rows) c.lay_out.result
@@ -40,7 +40,7 @@ returns-clause-rows c =
     (rows-show c.args.lines.now c.in_ok-blocks.ensures.text).1) c.lay_out.ensures
 
 pub returns-clause-within : goal.returns-clause-within
-returns-clause-within c =
+returns-clause-within g c =
     let lines = c.args.lines.now.lines in
     let blocks = c.deref.ensures.value ∙ c.in_ok-blocks.ensures.blocks in
     if-ok (λ (l : Layout). l ≡ layout_from lines 0 (elements_in c.deref.result.now)) (λ (l : Layout). All (λ (stop : ℕ). stop ≤ length l.rows) l.stops) c.lay_out.result
