@@ -17,7 +17,7 @@ use crate::layout::{Layout, Part, lay_out};
 use crate::rest::{Rest, rest_from};
 use crate::status::Status;
 use sp_fill::{RowKind, Shape, fill};
-use sp_kit::{Counter, Sink, write_whole};
+use sp_kit::{Sink, Steps, write_whole};
 use sp_labels::Label;
 use sp_print::{PageView, SheetLabel, print_sheet};
 use sp_text::Lines;
@@ -135,7 +135,7 @@ fn add_sheet(
 }
 
 /// Writes the sheets of a part whose rows page ends see like this, with these stops, each sheet whole.
-fn write_pages<O: Sink>(
+fn write_pages<O: Sink, S: Steps>(
     alloc: Global,
     lines: &Lines,
     part: &Part,
@@ -143,6 +143,7 @@ fn write_pages<O: Sink>(
     shapes: &[Shape],
     stops: &[usize],
     output: &mut O,
+    steps: &mut S,
 ) -> Result<(), Status>
     requires part { HasRows (rows_in part.now.elements) part.now }
     requires shapes { length shapes.now ≡ length (rows_in part.now.elements) }
@@ -151,7 +152,6 @@ fn write_pages<O: Sink>(
     requires show { All (RowShows (line_texts lines.now.lines)) (rows_in part.now.elements) }
     ensures { IsWritten O.taken O.faults output.old output.new (flat_map sheet_bytes (sheets_in (line_texts lines.now.lines) (rows_in part.now.elements) labelled shapes.now stops.now)) result }
 {
-    let mut steps = Counter::new();
     let mut sheet = SheetBytes::new(alloc);
     let mut number = 0;
     let mut ahead = stops;
@@ -163,7 +163,7 @@ fn write_pages<O: Sink>(
     while from < shapes.len() {
         ahead = stops_above(ahead, from);
         let stop = first_stop(ahead, from, shapes.len());
-        let to = fill(shapes, from, stop, &mut steps);
+        let to = fill(shapes, from, stop, steps);
         rest = rest_from(rest, from);
         number += 1;
         sheet.clear();
@@ -175,11 +175,12 @@ fn write_pages<O: Sink>(
 }
 
 /// Writes the sheets of a title page.
-fn write_titles<O: Sink>(
+fn write_titles<O: Sink, S: Steps>(
     alloc: Global,
     lines: &Lines,
     titles: &Part,
     output: &mut O,
+    steps: &mut S,
 ) -> Result<(), Status>
     requires part { HasRows (rows_in titles.now.elements) titles.now }
     requires few { length (rows_in titles.now.elements) ≤ 16777216 }
@@ -187,16 +188,17 @@ fn write_titles<O: Sink>(
     ensures { IsWritten O.taken O.faults output.old output.new (flat_map sheet_bytes (sheets_in (line_texts lines.now.lines) (rows_in titles.now.elements) false (map title_shape (rows_in titles.now.elements)) [])) result }
 {
     let shapes = title_shapes(alloc, &titles.shapes)?;
-    write_pages(alloc, lines, titles, false, &shapes, &[], output)
+    write_pages(alloc, lines, titles, false, &shapes, &[], output, steps)
 }
 
 /// Writes the sheets of a body with these stops.
-fn write_body<O: Sink>(
+fn write_body<O: Sink, S: Steps>(
     alloc: Global,
     lines: &Lines,
     body: &Part,
     stops: &[usize],
     output: &mut O,
+    steps: &mut S,
 ) -> Result<(), Status>
     requires part { HasRows (rows_in body.now.elements) body.now }
     requires few { length (rows_in body.now.elements) ≤ 16777216 }
@@ -204,26 +206,31 @@ fn write_body<O: Sink>(
     requires show { All (RowShows (line_texts lines.now.lines)) (rows_in body.now.elements) }
     ensures { IsWritten O.taken O.faults output.old output.new (flat_map sheet_bytes (sheets_in (line_texts lines.now.lines) (rows_in body.now.elements) true (map body_shape (rows_in body.now.elements)) stops.now)) result }
 {
-    write_pages(alloc, lines, body, true, &body.shapes, stops, output)
+    write_pages(alloc, lines, body, true, &body.shapes, stops, output, steps)
 }
 
 /// The layout of a text.
-fn text_layout(alloc: Global, lines: &Lines) -> Result<Layout, AllocError>
+fn text_layout<S: Steps>(alloc: Global, lines: &Lines, steps: &mut S) -> Result<Layout, AllocError>
     ensures layout { IfOk result (IsLaidOut (layout_of lines.now.lines)) }
     ensures titles { IfOk result (λ (layout : LaidOut). All (RowShows (line_texts lines.now.lines)) (rows_in layout.titles.elements)) }
     ensures body { IfOk result (λ (layout : LaidOut). All (RowShows (line_texts lines.now.lines)) (rows_in layout.body.elements)) }
     ensures few { IfOk result (λ (layout : LaidOut). length (rows_in layout.titles.elements) + length (rows_in layout.body.elements) ≤ 16777216) }
     ensures within { IfOk result (λ (layout : LaidOut). All (λ (stop : ℕ). stop ≤ length (rows_in layout.body.elements)) layout.stops) }
 {
-    let blocks = read_blocks(alloc, lines, &mut Counter::new())?;
+    let blocks = read_blocks(alloc, lines, steps)?;
     lay_out(alloc, lines, &blocks)
 }
 
 /// Writes the sheets of a text: those of its title page, then its pages.
-pub fn write_sheets<O: Sink>(alloc: Global, lines: &Lines, output: &mut O) -> Result<(), Status>
+pub fn write_sheets<O: Sink, S: Steps>(
+    alloc: Global,
+    lines: &Lines,
+    output: &mut O,
+    steps: &mut S,
+) -> Result<(), Status>
     ensures { IsWritten O.taken O.faults output.old output.new (sheets_bytes lines.now.lines) result }
 {
-    let layout = text_layout(alloc, lines)?;
-    write_titles(alloc, lines, &layout.titles, output)?;
-    write_body(alloc, lines, &layout.body, &layout.stops, output)
+    let layout = text_layout(alloc, lines, steps)?;
+    write_titles(alloc, lines, &layout.titles, output, steps)?;
+    write_body(alloc, lines, &layout.body, &layout.stops, output, steps)
 }

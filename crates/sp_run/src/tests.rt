@@ -1,5 +1,5 @@
 use super::*;
-use sp_kit::{MemorySink, MemorySource};
+use sp_kit::{Counter, MemoryShelf, MemorySink, MemorySource, Shelf};
 use sp_text::TextFault;
 use std::alloc::{AllocError, Global};
 use std::test::Fail;
@@ -10,14 +10,40 @@ const MOST: usize = 1 << 30;
 fn printed(alloc: Global, script: &[u8]) -> Result<(Status, Vec<u8>), AllocError> {
     let mut output = MemorySink::new(alloc, 1 << 16, MOST, Vec::new(alloc))?;
     let mut input = MemorySource::new(script.to_vec(alloc)?, MOST, Vec::new(alloc));
-    let words = one_word(alloc, "print")?;
-    let status = run(alloc, &words, &mut input, &mut output);
+    let mut shelf = MemoryShelf::new(alloc, Vec::new(alloc));
+    let words = words_of(alloc, &["print"])?;
+    let status = run(
+        alloc,
+        &words,
+        &mut input,
+        &mut output,
+        &mut shelf,
+        &mut Counter::new(),
+    );
     Ok((status, output.taken().to_vec(alloc)?))
 }
 
-fn one_word(alloc: Global, word: &str) -> Result<Vec<String>, AllocError> {
+/// The status of `print x` on a shelf, over a source that fails, and what was written.
+fn printed_from(alloc: Global, shelf: &mut MemoryShelf) -> Result<(Status, Vec<u8>), AllocError> {
+    let mut output = MemorySink::new(alloc, 1 << 16, MOST, Vec::new(alloc))?;
+    let mut input = MemorySource::new(Vec::new(alloc), MOST, [0].to_vec(alloc)?);
+    let words = words_of(alloc, &["print", "x"])?;
+    let status = run(
+        alloc,
+        &words,
+        &mut input,
+        &mut output,
+        shelf,
+        &mut Counter::new(),
+    );
+    Ok((status, output.taken().to_vec(alloc)?))
+}
+
+fn words_of(alloc: Global, texts: &[&str]) -> Result<Vec<String>, AllocError> {
     let mut words = Vec::new(alloc);
-    words.push(String::from_str(alloc, word)?)?;
+    for text in texts {
+        words.push(String::from_str(alloc, text)?)?;
+    }
     Ok(words)
 }
 
@@ -295,13 +321,22 @@ fn a_script_that_is_none_is_refused(rt: HostRuntime) -> Result<(), Fail> {
 #[test]
 fn a_failure_outside_is_told(rt: HostRuntime) -> Result<(), Fail> {
     let alloc = rt.alloc();
-    let words = one_word(alloc, "print")?;
+    let words = words_of(alloc, &["print"])?;
     let whole = printed(alloc, b"!Hello.".as_slice())?.1;
+    let mut shelf = MemoryShelf::new(alloc, [0].to_vec(alloc)?);
+    let mut steps = Counter::new();
 
     let mut input = MemorySource::new(b"!Hello.".as_slice().to_vec(alloc)?, MOST, Vec::new(alloc));
     let mut output = MemorySink::new(alloc, 1 << 16, 10, [1].to_vec(alloc)?)?;
     assert_eq!(rt;
-        run(alloc, &words, &mut input, &mut output),
+        run(
+            alloc,
+            &words,
+            &mut input,
+            &mut output,
+            &mut shelf,
+            &mut steps
+        ),
         Status::WriteFault
     );
     assert_eq!(rt;
@@ -317,10 +352,60 @@ fn a_failure_outside_is_told(rt: HostRuntime) -> Result<(), Fail> {
     );
     let mut output = MemorySink::new(alloc, 1 << 16, MOST, Vec::new(alloc))?;
     assert_eq!(rt;
-        run(alloc, &words, &mut input, &mut output),
+        run(
+            alloc,
+            &words,
+            &mut input,
+            &mut output,
+            &mut shelf,
+            &mut steps
+        ),
         Status::ReadFault
     );
     assert_eq!(rt; output.taken().len(), 0);
+    Ok(())
+}
+
+#[test]
+fn a_file_prints_as_the_source_does(rt: HostRuntime) -> Result<(), Fail> {
+    let alloc = rt.alloc();
+    let script = b"Title: X\n\n!Hello.\n===\nBOB\nHi.\n".as_slice();
+    let mut shelf = MemoryShelf::new(alloc, Vec::new(alloc));
+    assert_eq!(rt; shelf.store("x", script), Ok(()));
+    let (status, bytes) = printed_from(alloc, &mut shelf)?;
+    assert_eq!(rt; status, Status::Done);
+    assert_eq!(rt; bytes.as_slice(), printed(alloc, script)?.1.as_slice());
+    Ok(())
+}
+
+#[test]
+fn a_file_that_is_no_script_is_told(rt: HostRuntime) -> Result<(), Fail> {
+    let alloc = rt.alloc();
+    let mut empty = MemoryShelf::new(alloc, Vec::new(alloc));
+    assert_eq!(rt;
+        printed_from(alloc, &mut empty)?,
+        (
+            Status::NoFile(String::from_str(alloc, "x")?),
+            Vec::new(alloc)
+        )
+    );
+    let mut failing = MemoryShelf::new(alloc, [0].to_vec(alloc)?);
+    assert_eq!(rt;
+        printed_from(alloc, &mut failing)?,
+        (Status::ShelfFault, Vec::new(alloc))
+    );
+    let mut shelf = MemoryShelf::new(alloc, Vec::new(alloc));
+    assert_eq!(rt; shelf.store("x", b"!a\xff".as_slice()), Ok(()));
+    assert_eq!(rt;
+        printed_from(alloc, &mut shelf)?.0,
+        Status::BadText(TextFault::NotUtf8(2))
+    );
+    let large = vec![in alloc; b'a'; 16_777_217]?;
+    assert_eq!(rt; shelf.store("x", large.as_slice()), Ok(()));
+    assert_eq!(rt;
+        printed_from(alloc, &mut shelf)?.0,
+        Status::BadText(TextFault::TextFull)
+    );
     Ok(())
 }
 
@@ -329,12 +414,27 @@ fn other_words_are_no_form(rt: HostRuntime) -> Result<(), Fail> {
     let alloc = rt.alloc();
     let mut input = MemorySource::new(b"!a".as_slice().to_vec(alloc)?, MOST, Vec::new(alloc));
     let mut output = MemorySink::new(alloc, 1 << 16, MOST, Vec::new(alloc))?;
-    assert_eq!(rt; run(alloc, &[], &mut input, &mut output), Status::Usage);
-    let mut words = one_word(alloc, "print")?;
-    words.push(String::from_str(alloc, "x")?)?;
-    assert_eq!(rt; run(alloc, &words, &mut input, &mut output), Status::Usage);
-    words.push(String::from_str(alloc, "y")?)?;
-    assert_eq!(rt; run(alloc, &words, &mut input, &mut output), Status::Usage);
+    let mut shelf = MemoryShelf::new(alloc, Vec::new(alloc));
+    let mut steps = Counter::new();
+    let cases: [&[&str]; 5] = [
+        &[],
+        &["prin"],
+        &["x", "print"],
+        &["print", "x", "y"],
+        &["Print"],
+    ];
+    for texts in cases {
+        let words = words_of(alloc, texts)?;
+        let status = run(
+            alloc,
+            &words,
+            &mut input,
+            &mut output,
+            &mut shelf,
+            &mut steps,
+        );
+        assert_eq!(rt; status, Status::Usage);
+    }
     assert_eq!(rt; output.taken().len(), 0);
     Ok(())
 }
@@ -348,6 +448,11 @@ fn each_status_has_its_number_and_line(rt: HostRuntime) -> Result<(), Fail> {
             Status::Usage,
             2,
             "fountain: usage: print [FILE], outline FILE, desk FILE, sample N\n",
+        ),
+        (
+            Status::NoFile(String::from_str(alloc, "a b")?),
+            3,
+            "fountain: no file a b\n",
         ),
         (
             Status::BadText(TextFault::NotUtf8(12)),
@@ -366,6 +471,7 @@ fn each_status_has_its_number_and_line(rt: HostRuntime) -> Result<(), Fail> {
         ),
         (Status::ReadFault, 5, "fountain: reading failed\n"),
         (Status::WriteFault, 6, "fountain: writing failed\n"),
+        (Status::ShelfFault, 7, "fountain: a file failed\n"),
         (Status::NoMemory, 9, "fountain: no memory\n"),
     ];
     for (status, code, line) in cases {
