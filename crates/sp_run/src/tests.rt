@@ -293,6 +293,70 @@ fn pages_end_where_they_may(rt: HostRuntime) -> Result<(), Fail> {
     Ok(())
 }
 
+/// Rows of a sheet: some, one so many times, and others.
+fn rows_around<'a>(
+    alloc: Global,
+    before: &[&'a str],
+    row: &'a str,
+    count: usize,
+    behind: &[&'a str],
+) -> Result<Vec<&'a str>, AllocError> {
+    let mut rows = Vec::new(alloc);
+    for it in before {
+        rows.push(*it)?;
+    }
+    for _ in 0..count {
+        rows.push(row)?;
+    }
+    for it in behind {
+        rows.push(*it)?;
+    }
+    Ok(rows)
+}
+
+/// Whether a script of a line so many times between others prints as two sheets with these rows.
+fn prints_two(
+    alloc: Global,
+    script: (&str, &str, usize, &str),
+    first: &[&str],
+    second: &[&str],
+) -> Result<bool, AllocError> {
+    let mut text = script.0.as_bytes().to_vec(alloc)?;
+    text.extend_from_slice(lines(alloc, script.1, script.2)?.as_slice())?;
+    text.extend_from_slice(script.3.as_bytes())?;
+    let mut expected = sheet(alloc, "1", first)?;
+    expected.extend_from_slice(sheet(alloc, "2", second)?.as_slice())?;
+    let (status, bytes) = printed(alloc, text.as_slice())?;
+    Ok(status == Status::Done && bytes.as_slice() == expected.as_slice())
+}
+
+#[test]
+fn a_speech_goes_on_over_pages(rt: HostRuntime) -> Result<(), Fail> {
+    let alloc = rt.alloc();
+    let first = rows_around(alloc, &["[37]BOB"], "[25]and", 52, &["[37](MORE)"])?;
+    let second = rows_around(alloc, &["[37]BOB (CONT'D)"], "[25]and", 7, &[])?;
+    assert!(rt; prints_two(alloc, ("BOB\n", "and", 59, ""), &first, &second)?);
+    let marked = rows_around(alloc, &["[37]BOB (CONT'D)"], "[25]and", 52, &["[37](MORE)"])?;
+    assert!(rt; prints_two(alloc, ("BOB (CONT'D)\n", "and", 59, ""), &marked, &second)?);
+    let above = rows_around(alloc, &[], "[15]a", 45, &["", "[37]BOB"])?;
+    let first = rows_around(alloc, &above, "[25]One.", 6, &["[37](MORE)"])?;
+    let second = rows_around(alloc, &["[37]BOB (CONT'D)"], "[25]One.", 6, &[])?;
+    let speech = "\nBOB\nOne.\nOne.\nOne.\nOne.\nOne.\nOne.\nOne.\nOne.\nOne.\nOne.\nOne.\nOne.\n";
+    assert!(rt; prints_two(alloc, ("", "!a", 45, speech), &first, &second)?);
+    Ok(())
+}
+
+#[test]
+fn a_heading_stays_with_what_follows(rt: HostRuntime) -> Result<(), Fail> {
+    let alloc = rt.alloc();
+    let first = rows_around(alloc, &[], "[15]a", 50, &[])?;
+    assert!(rt; prints_two(alloc, ("", "!a", 50, "\n.H\n\n!b\n"), &first, &["[15]H", "", "[15]b"])?);
+    let first = rows_around(alloc, &[], "[15]a", 51, &[])?;
+    let second = ["[15]a", "[15]a", "", "[68]CUT TO:"];
+    assert!(rt; prints_two(alloc, ("", "!a", 53, "\n> CUT TO:\n"), &first, &second)?);
+    Ok(())
+}
+
 #[test]
 fn a_script_that_is_none_is_refused(rt: HostRuntime) -> Result<(), Fail> {
     let alloc = rt.alloc();
