@@ -73,6 +73,14 @@ pub(crate) fn heading_count(elements: &[Element], place: usize) -> usize
     count
 }
 
+/// The empty rows before a row.
+fn lead_of(row: &PlacedRow<'_>) -> usize
+    ensures value { result ≡ row.now.shape.lead }
+    ensures bound { result ≤ 255 }
+{
+    row.shape.lead as usize
+}
+
 /// How many rows the rows from one place to before another are with their leads.
 pub(crate) fn mark_count(elements: &[Element], from: usize, to: usize) -> usize
     requires within { to ≤ length (rows_in elements.now) }
@@ -89,7 +97,7 @@ pub(crate) fn mark_count(elements: &[Element], from: usize, to: usize) -> usize
         let Some(row) = rows.next() else {
             break;
         };
-        count += row.shape.lead as usize + 1;
+        count += lead_of(&row) + 1;
     }
     count
 }
