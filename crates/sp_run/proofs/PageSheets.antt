@@ -1,5 +1,5 @@
 -- The sheet of a page, by the elements that are left.
-use Rattle.std.proofs.Common.{◌≡◌, ℕ, ◌+◌, ◌-◌, ◌<◌, ◌≤◌, Bool, None, List, [], ◌∷◌, ◌++◌, length, map, get_or, ap, ap₂, sym, ◌∙◌, subst, arith}
+use Rattle.std.proofs.Common.{◌≡◌, ℕ, ◌+◌, ◌-◌, ◌<◌, ◌≤◌, Bool, None, List, [], ◌∷◌, ◌++◌, length, map, ap, ap₂, sym, ◌∙◌, arith}
 use Rattle.std.specs.Prelude.{All, fold, max, slice_range}
 use Rattle.std.proofs.lemmas.List.{get_or_append_left}
 use Rattle.std.proofs.lemmas.List.Elements.{All-head}
@@ -8,7 +8,7 @@ use Rattle.std.proofs.lemmas.List.{length-map}
 use Rattle.spec_pages.specs.Rows.{Row}
 use Rattle.spec_desk.specs.Layout.{ElementOf, AreIndexed, row_at, placed_rows, rows_in}
 use Rattle.spec_desk.specs.Bodies.{row_of, body_rows}
-use Rattle.spec_desk.specs.Sheets.{Sheet, page_label, greatest_mark, page_sheet}
+use Rattle.spec_desk.specs.Sheets.{page_label, greatest_mark, page_sheet}
 use Rattle.spec_desk.proofs.IndexLaws.{placed_rows-indexed}
 use Rattle.spec_desk.proofs.BodyLaws.{body_rows-behind}
 use Rattle.sp_run.specs.LaidOut.{mark_of}

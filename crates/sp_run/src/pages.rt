@@ -167,7 +167,17 @@ fn write_pages<O: Sink, S: Steps>(
         rest = rest_from(rest, from);
         number += 1;
         sheet.clear();
-        add_sheet(&mut sheet, alloc, lines, &rest, from, to, &part.marks[from..to], labelled, number)?;
+        add_sheet(
+            &mut sheet,
+            alloc,
+            lines,
+            &rest,
+            from,
+            to,
+            &part.marks[from..to],
+            labelled,
+            number,
+        )?;
         write_whole(output, sheet.taken())?;
         from = to;
     }

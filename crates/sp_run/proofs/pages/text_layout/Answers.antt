@@ -1,11 +1,11 @@
-use Rattle.std.proofs.Common.{◌≡◌, ℕ, ◌+◌, ◌≤◌, List, length, ap, ◌∙◌, subst}
+use Rattle.std.proofs.Common.{ℕ, ◌+◌, ◌≤◌, List, length, ◌∙◌, subst}
 use Rattle.std.specs.Prelude.{Ok, Err, All, IfOk}
 use Rattle.std.specs.declared.result.Result.{Result}
 use Rattle.spec_text.specs.Lines.{line_texts}
 use Rattle.spec_script.specs.Stanzas.{PlacedBlock}
 use Rattle.spec_script.specs.Elements.{elements_in}
 use Rattle.spec_desk.specs.Cells.{RowShows}
-use Rattle.spec_desk.specs.Layout.{Layout, layout_from, layout_of, rows_in}
+use Rattle.spec_desk.specs.Layout.{layout_from, layout_of, rows_in}
 use Rattle.sp_run.specs.LaidOut.{LaidOut, IsLaidOut}
 use Rattle.sp_run.proofs.LaidRows.{titles-show, body-shows, rows-few, stops-within}
 use Rattle.sp_run.proofs.pages.text_layout.Goals as goal
