@@ -5,3 +5,6 @@ pub mod LinesShown
 pub mod PartsLent
 pub mod MarkLaws
 pub mod CueLaws
+pub mod PrintedLabels
+pub mod HeaderLaws
+pub mod ProgressLaws
