@@ -61,9 +61,9 @@ header-if label round false some =
     let is = printed.round round in
     let above : nat_lt 0 round ≡ true = lt-ltb 0 round (positive round some) in
     sym (
-      ap (λ b. cells_bytes 0 ((cond b (fixed_cell 15 name ∷ []) [] ++ label_cells label) ++ []) ++ 10 ∷ []) above
-      ∙ ap (λ xs. xs ++ 10 ∷ []) (fixed-cells 0 15 name (label_cells label ++ []) is.some is.printable ∙ ap (λ xs. (spaces 15 ++ name) ++ xs) (label-cells (15 + length name) label))
-      ∙ append_assoc (spaces 15 ++ name) (label_bytes (15 + length name) label) (10 ∷ []))
+    ap (λ b. cells_bytes 0 ((cond b (fixed_cell 15 name ∷ []) [] ++ label_cells label) ++ []) ++ 10 ∷ []) above
+    ∙ ap (λ xs. xs ++ 10 ∷ []) (fixed-cells 0 15 name (label_cells label ++ []) is.some is.printable ∙ ap (λ xs. (spaces 15 ++ name) ++ xs) (label-cells (15 + length name) label))
+    ∙ append_assoc (spaces 15 ++ name) (label_bytes (15 + length name) label) (10 ∷ []))
   where
     positive : (n : ℕ) → (n == 0) ≡ false → 0 < n
     positive n other = omega (arith, ne n other)

@@ -8,3 +8,7 @@ pub mod CueLaws
 pub mod PrintedLabels
 pub mod HeaderLaws
 pub mod ProgressLaws
+pub mod EndLaws
+pub mod NearLaws
+pub mod BodyLaws
+pub mod CellsEnd
