@@ -5,3 +5,10 @@ pub mod LinesShown
 pub mod PartsLent
 pub mod MarkLaws
 pub mod CueLaws
+pub mod PrintedLabels
+pub mod HeaderLaws
+pub mod ProgressLaws
+pub mod EndLaws
+pub mod NearLaws
+pub mod BodyLaws
+pub mod CellsEnd

@@ -1,6 +1,8 @@
 -- Lists step by step, by places.
-use Rattle.std.proofs.Common.{◌≡◌, ℕ, zero, suc, ◌+◌, ◌-◌, ◌≤◌, ◌<◌, Some, List, [], ◌∷◌, ◌++◌, length, take, drop, get_or, slice_get, replicate, ap, sym, ◌∙◌, refl, arith}
+use Rattle.std.proofs.Common.{◌≡◌, ℕ, zero, suc, ◌+◌, ◌-◌, ◌≤◌, ◌<◌, Option, Some, None, List, [], ◌∷◌, ◌++◌, length, take, drop, get_or, slice_get, replicate, ap, sym, ◌∙◌, refl, arith}
+use Rattle.std.specs.Prelude.{MatchOption, option_map}
 use Rattle.std.proofs.lemmas.List.{length-drop, drop_more}
+use Rattle.std.proofs.lemmas.Option.{slice_get_past, slice_get-get_or}
 
 -- The first of what is left behind a place is the element there.
 pub record StepsAt {X : Type 0} (xs : List X) (i : ℕ) (x : X) (rest : List X) : Type 0 where
@@ -46,3 +48,10 @@ pub slice_get-replicate : {X : Type 0} (n k : ℕ) (x : X) → k < n → slice_g
 slice_get-replicate zero k x inside = absurd (omega (arith, inside))
 slice_get-replicate (suc n) zero x inside = refl
 slice_get-replicate (suc n) (suc k) x inside = slice_get-replicate n k x (omega (arith, inside))
+
+-- The first of what is left, where there is something left.
+pub head-of : {X Y : Type 0} (f : Y → X) (xs : List X) (i : ℕ) (rest : List X) (r : Option Y) → MatchOption r (drop i xs ≡ []) (λ y. drop i xs ≡ f y ∷ rest) → option_map f r ≡ slice_get xs i
+head-of f xs i rest None none = sym (slice_get_past xs i (drop-none xs i none))
+head-of f xs i rest (Some y) some =
+    let step = drop-step xs i (f y) rest some in
+    sym (slice_get-get_or xs i (f y) step.inside ∙ ap Some (step.is (f y)))

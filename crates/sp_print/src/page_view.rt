@@ -25,14 +25,17 @@ pub struct PageView<'a> {
 }
 
 impl<'a> Model for PageView<'a> {
-    ghost use Rattle.std.specs.Option.{option_map};
+    ghost use Rattle.std.specs.Option.{ForSome, option_map};
     ghost use Rattle.spec_desk.specs.Sheets.{Sheet};
     ghost use Rattle.sp_print.specs.Lent.{label_of};
+    ghost use Rattle.sp_print.specs.PageOf.{IsPage, rows_of};
     ghost use Rattle.sp_print.specs.Views.{rows_or_omitted};
 
     ghost Value = { Sheet };
 
-    ghost view = { λ p. record { label = option_map label_of p.label; round = p.round; rows = rows_or_omitted p.rows } };
+    ghost view = { λ p. record { label = option_map label_of p.label; round = p.round; rows = rows_or_omitted (option_map rows_of p.rows) } };
+
+    ghost invariant = { λ p. ForSome p.rows IsPage };
 }
 
 impl<'a> PageView<'a> {

@@ -4,9 +4,8 @@ ghost use Rattle.sp_kit.specs.Outside.{Writes};
 ghost use Rattle.spec_pages.specs.Clusters.{columns_of};
 ghost use Rattle.spec_desk.specs.Cells.{gap, untabbed, shown_bytes, slice, row_line};
 ghost use Rattle.sp_print.specs.Lent.{IsShort, text_of, view_of};
-ghost use Rattle.sp_print.specs.Views.{views_of};
 ghost use Rattle.sp_print.specs.Started.{progress};
-ghost use Rattle.sp_print.specs.Progress.{behind_view, gap_before, is_begun, view_bytes, views_bytes};
+ghost use Rattle.sp_print.specs.Progress.{behind_view, gap_before, star_views, view_bytes, views_bytes};
 
 use crate::label_columns::label_columns;
 use crate::row_view::RowView;
@@ -119,6 +118,16 @@ fn star<'a>() -> CellView<'a>
     }
 }
 
+/// Writes the star of a row that has one.
+fn write_star<O: Sink>(sink: &mut O, at: Written, has_star: bool) -> Result<(), Failed>
+    ensures { Writes O.taken O.faults sink.old sink.new (views_bytes (progress at) (star_views has_star)) result }
+{
+    if has_star {
+        return write_view(sink, at, star());
+    }
+    Ok(())
+}
+
 /// Writes a row, ended.
 pub(crate) fn write_row<O: Sink>(sink: &mut O, row: &RowView<'_>) -> Result<(), Failed>
     ensures { Writes O.taken O.faults sink.old sink.new (row_line row.now) result }
@@ -132,8 +141,6 @@ pub(crate) fn write_row<O: Sink>(sink: &mut O, row: &RowView<'_>) -> Result<(), 
         write_view(sink, at, view)?;
         at = behind_view(at, view);
     }
-    if row.star() {
-        write_view(sink, at, star())?;
-    }
+    write_star(sink, at, row.star())?;
     write_whole(sink, b"\n")
 }

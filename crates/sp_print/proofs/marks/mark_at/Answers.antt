@@ -7,8 +7,8 @@ use Rattle.sp_print.proofs.Places.{drop-step, drop-none}
 use Rattle.sp_print.proofs.MarkLaws.{marks_from-more, marks_from-none, mark-in_lead, mark-at_row, mark-past}
 use Rattle.sp_print.proofs.marks.mark_at.Goals as goal
 
-pub returns-then-left-lead : goal.returns-then-left-lead
-returns-then-left-lead c =
+pub returns-then-left-lead-clause-mark : goal.returns-then-left-lead-clause-mark
+returns-then-left-lead-clause-mark c =
     let rows = rows_in c.args.elements.now in
     let place = c.loop-place.place in
     let to = c.args.to in
@@ -17,8 +17,8 @@ returns-then-left-lead c =
     sym (mark-in_lead rows place row (marks_from rows (place + 1) (to - (place + 1))) c.loop-place.left (step.is _) c.if-left-lead.true)
     ∙ sym (ap (λ ms. slice_get ms c.loop-place.left) (marks_from-more rows place to c.loop-place-test.true)) ∙ c.loop-place.invariant.mark
 
-pub returns-then-left-eq0 : goal.returns-then-left-eq0
-returns-then-left-eq0 c =
+pub returns-then-left-eq0-clause-mark : goal.returns-then-left-eq0-clause-mark
+returns-then-left-eq0-clause-mark c =
     let rows = rows_in c.args.elements.now in
     let place = c.loop-place.place in
     let to = c.args.to in

@@ -41,10 +41,11 @@ loop-tab-preserved g c =
     let tab = c.in-Some.tab in
     let (inside, is) = untabbed-tab rest tab c.in-Some.ensures.place in
     let behind = drop (tab + 1) rest in
-    let size = length-drop (tab + 1) rest in
-    (done ++ (take tab rest ++ spaces 4),
-    tab-more done (take tab rest) behind rest _ _ is (take_all (length rest - (tab + 1)) behind (omega (arith, size))) split,
-    writes_then wrote (writes_then c.in_ok-write_whole.ensures c.in_ok-write_spaces.ensures))
+    let size = length-drop (tab + 1) rest in (
+      done ++ (take tab rest ++ spaces 4),
+      tab-more done (take tab rest) behind rest _ _ is (take_all (length rest - (tab + 1)) behind (omega (arith, size))) split,
+      writes_then wrote (writes_then c.in_ok-write_whole.ensures c.in_ok-write_spaces.ensures),
+    )
 
 pub returns : goal.returns
 returns g c =
