@@ -1,12 +1,15 @@
 //! The pages of a script, written sheet by sheet.
-ghost use Rattle.std.specs.Prelude.{◌≡◌, ℕ, ◌+◌, ◌<◌, ◌≤◌, List, [], ◌++◌, true, false, map, length, nat_lt, find, fold, max, slice_get, slice_range, unwrap_or, All, IfOk, OnOk, ◌-◌};
+ghost use Rattle.std.specs.Prelude.{◌≡◌, ℕ, ◌+◌, ◌<◌, ◌≤◌, List, [], ◌++◌, None, true, false, map, length, nat_lt, find, fold, max, slice_get, slice_range, unwrap_or, All, IfOk, OnOk, ◌-◌};
 ghost use Rattle.std.specs.List.{flat_map};
+ghost use Rattle.std.specs.Option.{option_map};
 ghost use Rattle.spec_text.specs.Lines.{line_texts};
 ghost use Rattle.spec_pages.specs.Rows.{Row as RowValue};
 ghost use Rattle.spec_desk.specs.Cells.{RowShows};
+ghost use Rattle.spec_desk.specs.Bodies.{body_rows};
 ghost use Rattle.spec_desk.specs.Layout.{rows_in, layout_of};
 ghost use Rattle.spec_desk.specs.Sheets.{body_shape, uncut, title_shape, page_sheet, sheets_in, sheet_bytes};
 ghost use Rattle.spec_desk.specs.Printing.{sheets_bytes};
+ghost use Rattle.sp_print.specs.Lent.{label_of};
 ghost use Rattle.sp_run.specs.LaidOut.{LaidOut, PartOf, HasRows, IsLaidOut, mark_of};
 ghost use Rattle.sp_run.specs.Rest.{IsRest, StandsFirst};
 ghost use Rattle.sp_run.specs.Written.{IsWritten};
@@ -19,7 +22,7 @@ use crate::status::Status;
 use sp_fill::{RowKind, Shape, fill};
 use sp_kit::{Sink, Steps, write_whole};
 use sp_labels::Label;
-use sp_print::{PageView, SheetLabel, print_sheet};
+use sp_print::{Element, PageView, SheetLabel, print_sheet};
 use sp_text::Lines;
 use std::alloc::{AllocError, Global};
 
@@ -87,6 +90,30 @@ fn first_stop(stops: &[usize], row: usize, end: usize) -> usize
     }
 }
 
+/// Adds the sheet of the page from a row to before another of elements, with this label and round, to what a sink in
+/// memory took.
+fn add_page<'a>(
+    sheet: &mut SheetBytes,
+    lines: &'a Lines,
+    elements: &'a [Element],
+    from: usize,
+    to: usize,
+    label: Option<SheetLabel<'a>>,
+    round: u8,
+) -> Result<(), AllocError>
+    requires order { from < to }
+    requires within { to ≤ length (rows_in elements.now) }
+    requires low { to ≤ 16777216 }
+    requires show { All (RowShows (line_texts lines.now.lines)) (rows_in elements.now) }
+    ensures { OnOk result (sheet.new.taken ≡ sheet.old.taken ++ sheet_bytes (record { label = option_map label_of label.entry; round = round; rows = body_rows (line_texts lines.now.lines) (rows_in elements.now) None round from to })) }
+{
+    let page = PageView::new(lines, elements, None, from, to, label, round);
+    match print_sheet(&page, sheet) {
+        Ok(()) => Ok(()),
+        Err(_) => Err(AllocError),
+    }
+}
+
 /// Adds the sheet of the page from a row to before another, whose rows have these marks, to what a sink in memory took.
 fn add_sheet(
     sheet: &mut SheetBytes,
@@ -119,19 +146,15 @@ fn add_sheet(
     } else {
         None
     };
-    let page = PageView::new(
+    add_page(
+        sheet,
         lines,
         rest.elements,
-        None,
         from - rest.passed,
         to - rest.passed,
         name,
         greatest(marks),
-    );
-    match print_sheet(&page, sheet) {
-        Ok(()) => Ok(()),
-        Err(_) => Err(AllocError),
-    }
+    )
 }
 
 /// Writes the sheets of a part whose rows page ends see like this, with these stops, each sheet whole.
