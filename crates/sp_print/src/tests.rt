@@ -1,5 +1,12 @@
+ghost use Rattle.std.specs.Prelude.{◌≡◌, ◌<◌, ◌≤◌, All, IfOk, OnOk, length, map};
+ghost use Rattle.spec_text.specs.Lines.{IsText, line_texts};
+ghost use Rattle.spec_script.specs.BlockParts.{BlockLies};
+ghost use Rattle.spec_pages.specs.Rows.{Row as RowValue};
+ghost use Rattle.spec_desk.specs.Cells.{RowShows};
+ghost use Rattle.spec_desk.specs.Layout.{rows_in};
+
 use super::*;
-use sp_blocks::read_stanza;
+use sp_blocks::{Block, read_stanza};
 use sp_columns::{Row, single_rows};
 use sp_kit::{Counter, MemorySink};
 use sp_labels::{Label, parse};
@@ -8,7 +15,9 @@ use std::alloc::{AllocError, Global};
 use std::test::Fail;
 
 /// Rows with another mark.
-fn marked(alloc: Global, rows: Vec<Row>, mark: u8) -> Result<Vec<Row>, AllocError> {
+fn marked(alloc: Global, rows: Vec<Row>, mark: u8) -> Result<Vec<Row>, AllocError>
+    ensures { IfOk result (λ made. made.items ≡ map (λ (row : RowValue). record row { mark = mark }) rows.items) }
+{
     let mut made = Vec::new(alloc);
     for row in rows {
         made.push(Row {
@@ -22,29 +31,69 @@ fn marked(alloc: Global, rows: Vec<Row>, mark: u8) -> Result<Vec<Row>, AllocErro
     Ok(made)
 }
 
+/// Adds a block as an element, with this mark.
+fn add_block(
+    elements: &mut Vec<Element>,
+    alloc: Global,
+    lines: &Lines,
+    first: usize,
+    block: &Block,
+    mark: u8,
+) -> Result<(), Fail>
+    requires text { IsText lines.now }
+    requires lies { BlockLies (line_texts lines.now.lines) first block.now }
+    requires show { All (RowShows (line_texts lines.now.lines)) (rows_in elements.old.items) }
+    ensures { OnOk result (All (RowShows (line_texts lines.now.lines)) (rows_in elements.new.items)) }
+{
+    let rows = single_rows(alloc, lines, first, block)?;
+    elements.push(Element {
+        first: first as u64,
+        rows: marked(alloc, rows, mark)?,
+    })?;
+    Ok(())
+}
+
+fn add_blocks(
+    elements: &mut Vec<Element>,
+    alloc: Global,
+    lines: &Lines,
+    first: usize,
+    blocks: &[Block],
+    mark: u8,
+) -> Result<(), Fail>
+    requires text { IsText lines.now }
+    requires lie { All (BlockLies (line_texts lines.now.lines) first) blocks.now }
+    requires show { All (RowShows (line_texts lines.now.lines)) (rows_in elements.old.items) }
+    ensures { OnOk result (All (RowShows (line_texts lines.now.lines)) (rows_in elements.new.items)) }
+{
+    for block in blocks {
+        add_block(elements, alloc, lines, first, block, mark)?;
+    }
+    Ok(())
+}
+
 /// The elements of a script without dual dialogue, with this mark.
-fn elements_of(alloc: Global, lines: &Lines, mark: u8) -> Result<Vec<Element>, Fail> {
+fn elements_of(alloc: Global, lines: &Lines, mark: u8) -> Result<Vec<Element>, Fail>
+    ensures { IfOk result (λ elements. All (RowShows (line_texts lines.now.lines)) (rows_in elements.items)) }
+{
+    let count = lines.len();
     let mut elements = Vec::new(alloc);
     let mut first = 0;
-    while first < lines.len() {
+    while first < count {
         let stanza = read_stanza(alloc, lines, first, &mut Counter::new())?;
-        for block in &stanza.blocks {
-            let rows = single_rows(alloc, lines, first, block)?;
-            elements.push(Element {
-                first: first as u64,
-                rows: marked(alloc, rows, mark)?,
-            })?;
-        }
+        add_blocks(&mut elements, alloc, lines, first, &stanza.blocks, mark)?;
         first += stanza.lines as usize;
     }
     Ok(elements)
 }
 
-/// How many rows elements have.
-fn row_count(elements: &[Element]) -> usize {
-    let mut count = 0;
+/// How many rows elements have, or fewer.
+fn row_count(elements: &[Element]) -> usize
+    ensures { result ≤ length (rows_in elements.now) }
+{
+    let mut count = 0usize;
     for element in elements {
-        count += element.rows.len();
+        count = count.saturating_add(element.rows.len());
     }
     count
 }
