@@ -1,7 +1,7 @@
 -- Counts of columns that stand still tell the same gaps.
-use Rattle.std.proofs.Common.{◌≡◌, ℕ, ◌+◌, ◌-◌, ◌^◌, ◌<◌, ◌≤◌, ◌&&◌, Bool, true, false, not, cond, min, List, [], ◌∷◌, ◌++◌, inl, inr, refl, ap, ap₂, sym, ◌∙◌, arith}
-use Rattle.std.specs.Prelude.{codes, nat_lt}
-use Rattle.std.proofs.lemmas.Bool.{cases_lt, lt-ltb, le-ltb}
+use Rattle.std.proofs.Common.{◌≡◌, ℕ, ◌+◌, ◌-◌, ◌^◌, ◌<◌, ◌≤◌, ◌&&◌, Bool, true, false, not, cond, min, [], ◌++◌, inl, inr, refl, ap, ap₂, sym, ◌∙◌, arith}
+use Rattle.std.specs.Prelude.{codes}
+use Rattle.std.proofs.lemmas.Bool.{cases_lt, le-ltb}
 use Rattle.spec_pages.specs.Clusters.{columns_of}
 use Rattle.spec_desk.specs.Cells.{gap, shown_bytes, slice, spaces, untabbed}
 use Rattle.sp_print.specs.Views.{ViewOf}

@@ -1,8 +1,8 @@
-use Rattle.std.proofs.Common.{◌≡◌, ℕ, ◌+◌, ◌-◌, ◌^◌, ◌<◌, ◌≤◌, false, List, [], ◌∷◌, ◌++◌, drop, length, slice_get, Some, append_assoc, append-nil, refl, ap, sym, ◌∙◌, arith}
+use Rattle.std.proofs.Common.{◌≡◌, ℕ, ◌+◌, ◌^◌, ◌<◌, ◌≤◌, false, List, [], ◌∷◌, ◌++◌, drop, length, slice_get, Some, append_assoc, refl, ap, sym, ◌∙◌, arith}
 use Rattle.std.proofs.lemmas.List.{drop_more, drop_all}
 use Rattle.std.proofs.lemmas.Option.{slice_get_within, get_or_from_slice_get}
 use Rattle.sp_kit.proofs.Writing.{writes_as, writes_nothing, writes_then, writes_failed}
-use Rattle.spec_desk.specs.Cells.{ShownRow, row_bytes, row_line}
+use Rattle.spec_desk.specs.Cells.{ShownRow, row_line}
 use Rattle.sp_print.specs.Lent.{view_of}
 use Rattle.sp_print.specs.Views.{ViewOf, views_of}
 use Rattle.sp_print.specs.Progress.{Progress, behind_view, star_views, view_bytes, views_bytes}
