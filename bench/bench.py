@@ -1,9 +1,8 @@
 """Times `print` on scripts of 1, 2, 4, 8 and 16 MiB, beside `fold -s -w 60 FILE | pr -l 57` on the same file in the same run,
 and on scripts of 25,000 to 200,000 lines that a careless reader is slow on.
 
-For each kind of script and each size it prints the time of `print`, MB/s, the peak memory over the size of the input (where
-it is above what the measuring process takes itself), how much longer it took than at half the size, and the ratio to
-`fold | pr`. Each time is the least of several runs.
+For each kind of script and each size it prints the time of `print`, MB/s, the peak memory over the size of the input, how
+much longer it took than at half the size, and the ratio to `fold | pr`. Each time is the least of several runs.
 
     python3 bench/bench.py [--kind NAME] [--runs N] [--most MIB]
 """
@@ -13,7 +12,6 @@ import os
 import pathlib
 import random
 import subprocess
-import sys
 import tempfile
 import time
 
@@ -109,15 +107,23 @@ def least(command, path, runs):
     return min(times)
 
 
+def resident_peak(process):
+    """The most memory that a process has held so far, in bytes; 0 once it has ended."""
+    try:
+        status = pathlib.Path(f"/proc/{process.pid}/status").read_text()
+    except OSError:
+        return 0
+    return next((int(line.split()[1]) * 1024 for line in status.splitlines() if line.startswith("VmHWM")), 0)
+
+
 def peak_memory(path):
-    """The peak memory of one `print` in bytes, measured in a process of its own. It is never below that process's own."""
-    script = (
-        "import resource, subprocess, sys\n"
-        "with open(sys.argv[2], 'rb') as script:\n"
-        "    subprocess.run([sys.argv[1], 'print'], stdin=script, stdout=subprocess.DEVNULL, check=True)\n"
-        "print(resource.getrusage(resource.RUSAGE_CHILDREN).ru_maxrss * 1024)\n"
-    )
-    return int(subprocess.run([sys.executable, "-c", script, str(PROGRAM), str(path)], check=True, capture_output=True).stdout)
+    """The peak memory of one `print` in bytes: asked for before each piece of its output is read."""
+    peak = 0
+    with open(path, "rb") as script:
+        with subprocess.Popen([PROGRAM, "print"], stdin=script, stdout=subprocess.PIPE) as process:
+            while process.stdout.read1(1 << 16):
+                peak = max(peak, resident_peak(process))
+    return peak
 
 
 def main():
@@ -142,9 +148,6 @@ def growth(before, seconds):
 
 def time_sizes(folder, kinds, options):
     """Times scripts by their size, and prints a row for each."""
-    empty = folder / "empty"
-    empty.write_bytes(b"")
-    floor = peak_memory(empty) * 1.1
     print(f"{'kind':10} {'MiB':>4} {'print s':>9} {'MB/s':>7} {'memory':>7} {'growth':>7} {'/ fold|pr':>9}")
     for kind in kinds:
         before = None
@@ -156,9 +159,8 @@ def time_sizes(folder, kinds, options):
             seconds = least(PRINT, path, options.runs)
             other = least('fold -s -w 60 "$FILE" | pr -l 57 > /dev/null', path, options.runs)
             count = path.stat().st_size
-            peak = peak_memory(path)
-            memory = f"{peak / count:7.2f}" if peak > floor else "      -"
-            print(f"{kind:10} {size:4} {seconds:9.4f} {count / 1e6 / seconds:7.1f} {memory} {growth(before, seconds)} {seconds / other:9.2f}", flush=True)
+            memory = peak_memory(path) / count
+            print(f"{kind:10} {size:4} {seconds:9.4f} {count / 1e6 / seconds:7.1f} {memory:7.2f} {growth(before, seconds)} {seconds / other:9.2f}", flush=True)
             before = seconds
             path.unlink()
 

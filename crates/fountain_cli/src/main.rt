@@ -1,8 +1,11 @@
-//! `fountain`: the program over the standard streams.
+//! `fountain`: the program over the standard streams and the files of the system.
 #![tactic(auto)]
 
+mod files;
 mod streams;
 
+use files::FileShelf;
+use sp_kit::Counter;
 use sp_run::{Status, fault_line, run};
 use std::process::ExitCode;
 use std::{env, io};
@@ -31,7 +34,16 @@ fn main(rt: HostRuntime) -> ExitCode {
         Ok(words) => {
             let mut input = Input::new(rt.stdin());
             let mut output = Output::new(rt.stdout());
-            run(rt.alloc(), &words, &mut input, &mut output)
+            let mut shelf = FileShelf::new(rt.alloc(), &rt);
+            let mut steps = Counter::new();
+            run(
+                rt.alloc(),
+                &words,
+                &mut input,
+                &mut output,
+                &mut shelf,
+                &mut steps,
+            )
         }
         Err(error) => refused(&error),
     };
@@ -39,3 +51,6 @@ fn main(rt: HostRuntime) -> ExitCode {
     let _ = fault_line(&status, &mut Output::new(rt.stderr()));
     ExitCode::from(status.code())
 }
+
+#[cfg(test)]
+mod tests;

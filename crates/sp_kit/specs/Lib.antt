@@ -1,3 +1,4 @@
 pub mod Causes
 pub mod Outside
+pub mod Files
 pub mod Memory

@@ -1,5 +1,11 @@
 -- What the objects in memory hold (docs/RULES.md, "The program").
-use Rattle.std.specs.Prelude.{ℕ, List}
+use Rattle.std.specs.Prelude.{ℕ, List, map, string_bytes, bytes_eq}
+use Rattle.std.specs.declared.option.Option.{Option}
+use Rattle.std.specs.declared.string.String.{String}
+use Rattle.std.specs.declared.vec.Vec.{Vec}
+use Rattle.std.specs.declared.alloc.Global.{Global}
+use Rattle.std.specs.BTreeMap.{BTreeMap}
+use Rattle.std.specs.Map.{lookup}
 
 -- A source in memory: the bytes that are left, the most bytes of one call, the numbers of the calls that fail,
 -- the number of the next call, and the count of faults.
@@ -16,6 +22,22 @@ pub record Taking : Type 0 where
   pub taken : List ℕ
   pub room : ℕ
   pub piece : ℕ
+  pub fails : List ℕ
+  pub call : ℕ
+  pub faults : ℕ
+
+-- The files of a map, each with its name, in the order of the names.
+abbrev pub files_of : BTreeMap (String Global) (Vec ℕ Global) → List (List ℕ × List ℕ)
+files_of names = map (λ e. (string_bytes e.0, e.1.items)) names.entries
+
+-- The bytes under a name among these files, where there are some.
+abbrev pub found_in : List (List ℕ × List ℕ) → List ℕ → Option (List ℕ)
+found_in files name = lookup (bytes_eq name) files
+
+-- A shelf in memory: its files, each with its name, the numbers of the calls that fail, the number of the next call, and
+-- the count of faults.
+pub record Holding : Type 0 where
+  pub files : List (List ℕ × List ℕ)
   pub fails : List ℕ
   pub call : ℕ
   pub faults : ℕ

@@ -52,3 +52,30 @@ fn a_counter_counts_each_step_apart(rt: HostRuntime) -> Result<(), Fail> {
     assert_eq!(rt; counter.fills(), 1);
     Ok(())
 }
+
+#[test]
+fn a_shelf_gives_what_was_stored_and_fails_the_listed_calls(rt: HostRuntime) -> Result<(), Fail> {
+    let alloc = rt.alloc();
+    let mut shelf = MemoryShelf::new(alloc, [2, 4].to_vec(alloc)?);
+    assert_eq!(rt; shelf.fetch("a", 9), Ok(Fetched::Absent));
+    assert_eq!(rt; shelf.store("a", b"one".as_slice()), Ok(()));
+    assert_eq!(rt; shelf.fetch("a", 9), Err(ShelfFault::Failed));
+    assert_eq!(rt;
+        shelf.fetch("a", 3),
+        Ok(Fetched::Bytes(bytes_of(alloc, "one")?))
+    );
+    assert_eq!(rt;
+        shelf.store("a", b"two".as_slice()),
+        Err(ShelfFault::Failed)
+    );
+    assert_eq!(rt; shelf.store("b", b"".as_slice()), Ok(()));
+    assert_eq!(rt; shelf.store("a", b"three".as_slice()), Ok(()));
+    assert_eq!(rt; shelf.fetch("a", 4), Ok(Fetched::Longer));
+    assert_eq!(rt;
+        shelf.fetch("a", 5),
+        Ok(Fetched::Bytes(bytes_of(alloc, "three")?))
+    );
+    assert_eq!(rt; shelf.fetch("b", 0), Ok(Fetched::Bytes(Vec::new(alloc))));
+    assert_eq!(rt; shelf.fetch("A", 9), Ok(Fetched::Absent));
+    Ok(())
+}

@@ -53,3 +53,17 @@ behind_view-near told at next view near low is = by (is_empty_view view) is
 pub star-near : (told at : Progress) (star : Bool) → IsNear told at → views_bytes told (star_views star) ≡ views_bytes at (star_views star)
 star-near told at true near = ap (λ xs. xs ++ []) (view_bytes-near told at (record { column = 80; first = true; style = 0; text = slice (codes "*") }) near (omega arith))
 star-near told at false near = refl
+
+-- No part is left, or the row stands as far.
+abbrev pub NearOrDone : Progress → Progress → List ViewOf → Type 0
+NearOrDone told at [] = Unit {0}
+NearOrDone told at (view ∷ views) = IsNear told at
+
+pub near-any : (told at : Progress) (views : List ViewOf) → IsNear told at → NearOrDone told at views
+near-any told at [] near = tt
+near-any told at (view ∷ views) near = near
+
+-- The same star is written, where there is one.
+pub star-done : (told at : Progress) (star : Bool) → NearOrDone told at (star_views star) → views_bytes told (star_views star) ≡ views_bytes at (star_views star)
+star-done told at true near = star-near told at true near
+star-done told at false near = refl

@@ -55,7 +55,6 @@ impl<'a> PageView<'a> {
         requires within { to ≤ length (rows_in elements.now) }
         requires few { to ≤ 16777216 }
         requires show { All (RowShows (line_texts lines.now.lines)) (rows_in elements.now) }
-        requires named { round ≤ 99 }
         ensures { result ≡ record { label = option_map label_of label.entry; round = round; rows = body_rows (line_texts lines.now.lines) (rows_in elements.now) (option_copied numbers.entry) round from to } }
     {
         PageView {

@@ -1,36 +1,47 @@
 //! The pages of a script, written sheet by sheet.
-ghost use Rattle.std.specs.Prelude.{◌≡◌, ℕ, ◌<◌, ◌≤◌, [], true, false, map, length, nat_lt, find, slice_get, unwrap_or, All, IfOk};
+ghost use Rattle.std.specs.Prelude.{◌≡◌, ℕ, ◌+◌, ◌<◌, ◌≤◌, List, [], ◌++◌, None, true, false, map, length, nat_lt, find, fold, max, slice_get, slice_range, unwrap_or, All, IfOk, OnOk, ◌-◌};
 ghost use Rattle.std.specs.List.{flat_map};
+ghost use Rattle.std.specs.Option.{option_map};
 ghost use Rattle.spec_text.specs.Lines.{line_texts};
-ghost use Rattle.spec_desk.specs.Layout.{Layout as LayoutValue, layout_of};
-ghost use Rattle.spec_desk.specs.Sheets.{RowShows, body_shape, title_shape, sheets_in, sheet_bytes};
+ghost use Rattle.spec_pages.specs.Rows.{Row as RowValue};
+ghost use Rattle.spec_desk.specs.Cells.{RowShows};
+ghost use Rattle.spec_desk.specs.Bodies.{body_rows};
+ghost use Rattle.spec_desk.specs.Layout.{rows_in, layout_of};
+ghost use Rattle.spec_desk.specs.Sheets.{body_shape, uncut, title_shape, page_sheet, sheets_in, sheet_bytes};
 ghost use Rattle.spec_desk.specs.Printing.{sheets_bytes};
+ghost use Rattle.sp_print.specs.Lent.{label_of};
+ghost use Rattle.sp_run.specs.LaidOut.{LaidOut, PartOf, HasRows, IsLaidOut, mark_of};
+ghost use Rattle.sp_run.specs.Rest.{IsRest, StandsFirst};
 ghost use Rattle.sp_run.specs.Written.{IsWritten};
 
 use crate::blocks::read_blocks;
-use crate::layout::{Layout, PlacedRow, lay_out};
-use crate::sheets::add_sheet;
+use crate::gathering::SheetBytes;
+use crate::layout::{Layout, Part, lay_out};
+use crate::rest::{Rest, rest_from};
 use crate::status::Status;
 use sp_fill::{RowKind, Shape, fill};
-use sp_kit::{Counter, Sink, write_whole};
+use sp_kit::{Sink, Steps, write_whole};
+use sp_labels::Label;
+use sp_print::{Element, PageView, SheetLabel, print_sheet};
 use sp_text::Lines;
 use std::alloc::{AllocError, Global};
 
-/// A body row as page ends see it: until speeches are cut with a word at their cut, all are action.
-fn body_shape(row: &PlacedRow) -> Shape
-    ensures { result ≡ body_shape row.now }
+/// What page ends see of the rows of a title page with these shapes: no page ends before one unless it is full.
+fn title_shapes(alloc: Global, shapes: &[Shape]) -> Result<Vec<Shape>, AllocError>
+    ensures { IfOk result (λ made. made.items ≡ map uncut shapes.now) }
 {
-    let mut shape = row.row.shape;
-    shape.kind = RowKind::Action;
-    shape
+    let mut made = Vec::with_capacity(alloc, shapes.len())?;
+    for shape in shapes {
+        made.push(uncut(shape))?;
+    }
+    Ok(made)
 }
 
-/// A row of a title page as page ends see it: no page ends before it unless it is full.
-fn title_shape(row: &PlacedRow) -> Shape
-    ensures { result ≡ title_shape row.now }
+fn uncut(shape: &Shape) -> Shape
+    ensures { result ≡ uncut shape.now }
 {
     Shape {
-        lead: row.row.shape.lead,
+        lead: shape.lead,
         kind: RowKind::Action,
         index: 1,
         rest: 0,
@@ -38,26 +49,15 @@ fn title_shape(row: &PlacedRow) -> Shape
     }
 }
 
-/// What page ends see of body rows.
-fn body_shapes(alloc: Global, rows: &[PlacedRow]) -> Result<Vec<Shape>, AllocError>
-    ensures { IfOk result (λ shapes. shapes.items ≡ map body_shape rows.now) }
+/// The greatest of marks, or 0.
+fn greatest(marks: &[u8]) -> u8
+    ensures { result ≡ fold max 0 marks.now }
 {
-    let mut shapes = Vec::with_capacity(alloc, rows.len())?;
-    for row in rows {
-        shapes.push(body_shape(row))?;
+    let mut greatest = 0u8;
+    for mark in marks {
+        greatest = greatest.max(*mark);
     }
-    Ok(shapes)
-}
-
-/// What page ends see of the rows of a title page.
-fn title_shapes(alloc: Global, rows: &[PlacedRow]) -> Result<Vec<Shape>, AllocError>
-    ensures { IfOk result (λ shapes. shapes.items ≡ map title_shape rows.now) }
-{
-    let mut shapes = Vec::with_capacity(alloc, rows.len())?;
-    for row in rows {
-        shapes.push(title_shape(row))?;
-    }
-    Ok(shapes)
+    greatest
 }
 
 /// The stops from the first one on that is above the row. For the row and each later one, the first stop above it is
@@ -90,85 +90,180 @@ fn first_stop(stops: &[usize], row: usize, end: usize) -> usize
     }
 }
 
-/// Writes the sheets of rows that page ends see like this, with these stops, each sheet whole.
-fn write_pages<O: Sink>(
+/// Adds the sheet of the page from a row to before another of elements, with this label and round, to what a sink in
+/// memory took.
+fn add_page<'a>(
+    sheet: &mut SheetBytes,
+    lines: &'a Lines,
+    elements: &'a [Element],
+    from: usize,
+    to: usize,
+    label: Option<SheetLabel<'a>>,
+    round: u8,
+) -> Result<(), AllocError>
+    requires order { from < to }
+    requires within { to ≤ length (rows_in elements.now) }
+    requires low { to ≤ 16777216 }
+    requires show { All (RowShows (line_texts lines.now.lines)) (rows_in elements.now) }
+    ensures { OnOk result (sheet.new.taken ≡ sheet.old.taken ++ sheet_bytes (record { label = option_map label_of label.entry; round = round; rows = body_rows (line_texts lines.now.lines) (rows_in elements.now) None round from to })) }
+{
+    let page = PageView::new(lines, elements, None, from, to, label, round);
+    match print_sheet(&page, sheet) {
+        Ok(()) => Ok(()),
+        Err(_) => Err(AllocError),
+    }
+}
+
+/// Adds the sheet of the page from a row to before another, whose rows have these marks, to what a sink in memory took.
+fn add_sheet(
+    sheet: &mut SheetBytes,
     alloc: Global,
     lines: &Lines,
-    rows: &[PlacedRow],
+    rest: &Rest<'_>,
+    from: usize,
+    to: usize,
+    marks: &[u8],
+    labelled: bool,
+    number: u32,
+) -> Result<(), AllocError>
+    requires order { from < to }
+    requires passed { rest.now.passed ≤ from }
+    requires within { to ≤ rest.now.passed + length (rows_in rest.now.elements) }
+    requires low { to ≤ 16777216 }
+    requires first { StandsFirst rest.now.elements (from - rest.now.passed) }
+    requires show { All (RowShows (line_texts lines.now.lines)) (rows_in rest.now.elements) }
+    ensures { OnOk result ((rows : List RowValue) → IsRest rows rest.now → marks.now ≡ map mark_of (slice_range rows from to) → sheet.new.taken ≡ sheet.old.taken ++ sheet_bytes (page_sheet (line_texts lines.now.lines) rows labelled number (from, to))) }
+{
+    let label = Label {
+        number,
+        path: Vec::new(alloc),
+    };
+    let name = if labelled {
+        Some(SheetLabel {
+            first: &label,
+            last: &label,
+        })
+    } else {
+        None
+    };
+    add_page(
+        sheet,
+        lines,
+        rest.elements,
+        from - rest.passed,
+        to - rest.passed,
+        name,
+        greatest(marks),
+    )
+}
+
+/// Writes the sheets of a part whose rows page ends see like this, with these stops, each sheet whole.
+fn write_pages<O: Sink, S: Steps>(
+    alloc: Global,
+    lines: &Lines,
+    part: &Part,
     labelled: bool,
     shapes: &[Shape],
     stops: &[usize],
     output: &mut O,
+    steps: &mut S,
 ) -> Result<(), Status>
-    requires shapes { length shapes.now ≡ length rows.now }
-    requires within { All (λ (stop : ℕ). stop ≤ length rows.now) stops.now }
-    requires show { All (RowShows (line_texts lines.now.lines)) rows.now }
-    ensures { IsWritten O.taken O.faults output.old output.new (flat_map sheet_bytes (sheets_in (line_texts lines.now.lines) rows.now labelled shapes.now stops.now)) result }
+    requires part { HasRows (rows_in part.now.elements) part.now }
+    requires shapes { length shapes.now ≡ length (rows_in part.now.elements) }
+    requires few { length (rows_in part.now.elements) ≤ 16777216 }
+    requires within { All (λ (stop : ℕ). stop ≤ length shapes.now) stops.now }
+    requires show { All (RowShows (line_texts lines.now.lines)) (rows_in part.now.elements) }
+    ensures { IsWritten O.taken O.faults output.old output.new (flat_map sheet_bytes (sheets_in (line_texts lines.now.lines) (rows_in part.now.elements) labelled shapes.now stops.now)) result }
 {
-    let mut steps = Counter::new();
-    let mut sheet = Vec::new(alloc);
+    let mut sheet = SheetBytes::new(alloc);
     let mut number = 0;
     let mut ahead = stops;
+    let mut rest = Rest {
+        elements: &part.elements,
+        passed: 0,
+    };
     let mut from = 0;
     while from < shapes.len() {
         ahead = stops_above(ahead, from);
         let stop = first_stop(ahead, from, shapes.len());
-        let to = fill(shapes, from, stop, &mut steps);
+        let to = fill(shapes, from, stop, steps);
+        rest = rest_from(rest, from);
         number += 1;
         sheet.clear();
-        add_sheet(&mut sheet, lines, &rows[from..to], labelled, number)?;
-        write_whole(output, &sheet)?;
+        add_sheet(
+            &mut sheet,
+            alloc,
+            lines,
+            &rest,
+            from,
+            to,
+            &part.marks[from..to],
+            labelled,
+            number,
+        )?;
+        write_whole(output, sheet.taken())?;
         from = to;
     }
     Ok(())
 }
 
 /// Writes the sheets of a title page.
-fn write_titles<O: Sink>(
+fn write_titles<O: Sink, S: Steps>(
     alloc: Global,
     lines: &Lines,
-    rows: &[PlacedRow],
+    titles: &Part,
     output: &mut O,
+    steps: &mut S,
 ) -> Result<(), Status>
-    requires { All (RowShows (line_texts lines.now.lines)) rows.now }
-    ensures { IsWritten O.taken O.faults output.old output.new (flat_map sheet_bytes (sheets_in (line_texts lines.now.lines) rows.now false (map title_shape rows.now) [])) result }
+    requires part { HasRows (rows_in titles.now.elements) titles.now }
+    requires few { length (rows_in titles.now.elements) ≤ 16777216 }
+    requires show { All (RowShows (line_texts lines.now.lines)) (rows_in titles.now.elements) }
+    ensures { IsWritten O.taken O.faults output.old output.new (flat_map sheet_bytes (sheets_in (line_texts lines.now.lines) (rows_in titles.now.elements) false (map title_shape (rows_in titles.now.elements)) [])) result }
 {
-    let shapes = title_shapes(alloc, rows)?;
-    write_pages(alloc, lines, rows, false, &shapes, &[], output)
+    let shapes = title_shapes(alloc, &titles.shapes)?;
+    write_pages(alloc, lines, titles, false, &shapes, &[], output, steps)
 }
 
 /// Writes the sheets of a body with these stops.
-fn write_body<O: Sink>(
+fn write_body<O: Sink, S: Steps>(
     alloc: Global,
     lines: &Lines,
-    rows: &[PlacedRow],
+    body: &Part,
     stops: &[usize],
     output: &mut O,
+    steps: &mut S,
 ) -> Result<(), Status>
-    requires within { All (λ (stop : ℕ). stop ≤ length rows.now) stops.now }
-    requires show { All (RowShows (line_texts lines.now.lines)) rows.now }
-    ensures { IsWritten O.taken O.faults output.old output.new (flat_map sheet_bytes (sheets_in (line_texts lines.now.lines) rows.now true (map body_shape rows.now) stops.now)) result }
+    requires part { HasRows (rows_in body.now.elements) body.now }
+    requires few { length (rows_in body.now.elements) ≤ 16777216 }
+    requires within { All (λ (stop : ℕ). stop ≤ length (rows_in body.now.elements)) stops.now }
+    requires show { All (RowShows (line_texts lines.now.lines)) (rows_in body.now.elements) }
+    ensures { IsWritten O.taken O.faults output.old output.new (flat_map sheet_bytes (sheets_in (line_texts lines.now.lines) (rows_in body.now.elements) true (map body_shape (rows_in body.now.elements)) stops.now)) result }
 {
-    let shapes = body_shapes(alloc, rows)?;
-    write_pages(alloc, lines, rows, true, &shapes, stops, output)
+    write_pages(alloc, lines, body, true, &body.shapes, stops, output, steps)
 }
 
 /// The layout of a text.
-fn text_layout(alloc: Global, lines: &Lines) -> Result<Layout, AllocError>
-    ensures layout { IfOk result (λ layout. layout ≡ layout_of lines.now.lines) }
-    ensures titles { IfOk result (λ (layout : LayoutValue). All (RowShows (line_texts lines.now.lines)) layout.titles) }
-    ensures rows { IfOk result (λ (layout : LayoutValue). All (RowShows (line_texts lines.now.lines)) layout.rows) }
-    ensures within { IfOk result (λ (layout : LayoutValue). All (λ (stop : ℕ). stop ≤ length layout.rows) layout.stops) }
+fn text_layout<S: Steps>(alloc: Global, lines: &Lines, steps: &mut S) -> Result<Layout, AllocError>
+    ensures layout { IfOk result (IsLaidOut (layout_of lines.now.lines)) }
+    ensures titles { IfOk result (λ (layout : LaidOut). All (RowShows (line_texts lines.now.lines)) (rows_in layout.titles.elements)) }
+    ensures body { IfOk result (λ (layout : LaidOut). All (RowShows (line_texts lines.now.lines)) (rows_in layout.body.elements)) }
+    ensures few { IfOk result (λ (layout : LaidOut). length (rows_in layout.titles.elements) + length (rows_in layout.body.elements) ≤ 16777216) }
+    ensures within { IfOk result (λ (layout : LaidOut). All (λ (stop : ℕ). stop ≤ length (rows_in layout.body.elements)) layout.stops) }
 {
-    let blocks = read_blocks(alloc, lines, &mut Counter::new())?;
+    let blocks = read_blocks(alloc, lines, steps)?;
     lay_out(alloc, lines, &blocks)
 }
 
 /// Writes the sheets of a text: those of its title page, then its pages.
-pub fn write_sheets<O: Sink>(alloc: Global, lines: &Lines, output: &mut O) -> Result<(), Status>
+pub fn write_sheets<O: Sink, S: Steps>(
+    alloc: Global,
+    lines: &Lines,
+    output: &mut O,
+    steps: &mut S,
+) -> Result<(), Status>
     ensures { IsWritten O.taken O.faults output.old output.new (sheets_bytes lines.now.lines) result }
 {
-    let layout = text_layout(alloc, lines)?;
-    write_titles(alloc, lines, &layout.titles, output)?;
-    write_body(alloc, lines, &layout.rows, &layout.stops, output)
+    let layout = text_layout(alloc, lines, steps)?;
+    write_titles(alloc, lines, &layout.titles, output, steps)?;
+    write_body(alloc, lines, &layout.body, &layout.stops, output, steps)
 }

@@ -85,9 +85,13 @@ sheets_in texts rows labelled shapes stops = sheets_from texts rows labelled 1 (
 abbrev pub body_shape : Row → Shape
 body_shape row = row.shape
 
--- A row of a title page as page ends see it: no page ends before it unless it is full.
+-- A row as the middle of one element of action: no page ends before it unless it is full.
+abbrev pub uncut : Shape → Shape
+uncut shape = record { lead = shape.lead; kind = Action; index = 1; rest = 0; sentence_end = false }
+
+-- A row of a title page as page ends see it.
 abbrev pub title_shape : Row → Shape
-title_shape row = record { lead = row.shape.lead; kind = Action; index = 1; rest = 0; sentence_end = false }
+title_shape row = uncut row.shape
 
 -- The sheets of a text: those of its title page, then its pages, labelled 1, 2, ..
 abbrev pub sheets_of : List (List ℕ) → Layout → List Sheet

@@ -1,15 +1,13 @@
-use Rattle.std.proofs.Common.{◌≡◌, ℕ, ◌≤◌, List, length, ap, sym, ◌∙◌, subst, arith}
+use Rattle.std.proofs.Common.{ℕ, ◌+◌, ◌≤◌, List, length, ◌∙◌, subst}
 use Rattle.std.specs.Prelude.{Ok, Err, All, IfOk}
 use Rattle.std.specs.declared.result.Result.{Result}
-use Rattle.std.specs.Str.{IsUtf8}
-use Rattle.std.proofs.lemmas.List.Elements.{All-map}
-use Rattle.spec_text.specs.Lines.{LineState, TextState, IsText, line_texts}
+use Rattle.spec_text.specs.Lines.{line_texts}
 use Rattle.spec_script.specs.Stanzas.{PlacedBlock}
 use Rattle.spec_script.specs.Elements.{elements_in}
-use Rattle.spec_desk.specs.Layout.{Layout, layout_from, layout_of}
-use Rattle.spec_desk.specs.Sheets.{RowShows}
-use Rattle.spec_desk.proofs.LayoutLaws.{layout_of-show, layout_of-within}
-use Rattle.sp_run.proofs.LineTexts.{length-texts}
+use Rattle.spec_desk.specs.Cells.{RowShows}
+use Rattle.spec_desk.specs.Layout.{layout_from, layout_of, rows_in}
+use Rattle.sp_run.specs.LaidOut.{LaidOut, IsLaidOut}
+use Rattle.sp_run.proofs.LaidRows.{titles-show, body-shows, rows-few, stops-within}
 use Rattle.sp_run.proofs.pages.text_layout.Goals as goal
 
 -- What follows from what an answer is.
@@ -17,32 +15,29 @@ if-ok : {T E : Type 0} (P Q : T → Type 0) (r : Result T E) → ((x : T) → P 
 if-ok P Q (Ok x) f p = f x p
 if-ok P Q (Err e) f p = tt
 
--- The rows of a text show parts of its lines.
-rows-show : (text : TextState) → IsText text → All (RowShows (line_texts text.lines)) (layout_of text.lines).titles × All (RowShows (line_texts text.lines)) (layout_of text.lines).rows
-rows-show text is =
-    let count = length-texts text.lines in
-    layout_of-show text.lines (All-map IsUtf8 (λ (l : LineState). l.text) text.lines (λ k d h. (is.clean k d h).utf8)) (omega (arith, count, is.count))
+pub returns-clause-layout : goal.returns-clause-layout
+returns-clause-layout g c =
+    let lines = c.args.lines.now.lines in
+    let blocks = c.deref.ensures.value ∙ c.in_ok-blocks.ensures.blocks in
+    if-ok (IsLaidOut (layout_from lines 0 (elements_in c.deref.result.now))) (IsLaidOut (layout_of lines)) c.lay_out.result
+    (λ l laid. subst (λ (bs : List PlacedBlock). IsLaidOut (layout_from lines 0 (elements_in bs)) l) blocks laid) c.lay_out.ensures
 
 pub returns-clause-titles : goal.returns-clause-titles
-returns-clause-titles c =
-    let lines = c.args.lines.now.lines in
-    let blocks = c.deref.ensures.value ∙ c.in_ok-blocks.ensures.blocks in
-    if-ok (λ (l : Layout). l ≡ layout_from lines 0 (elements_in c.deref.result.now)) (λ (l : Layout). All (RowShows (line_texts lines)) l.titles) c.lay_out.result
-    (λ l made. subst (λ (m : Layout). All (RowShows (line_texts lines)) m.titles) (sym (made ∙ ap (λ (bs : List PlacedBlock). layout_from lines 0 (elements_in bs)) blocks))
-    (rows-show c.args.lines.now c.in_ok-blocks.ensures.text).0) c.lay_out.ensures
+returns-clause-titles g c =
+    if-ok (IsLaidOut (layout_of c.args.lines.now.lines)) (λ (l : LaidOut). All (RowShows (line_texts c.args.lines.now.lines)) (rows_in l.titles.elements)) c.lay_out.result
+    (λ l laid. titles-show c.args.lines.now l c.in_ok-blocks.ensures.text laid) (returns-clause-layout g c)
 
-pub returns-clause-rows : goal.returns-clause-rows
-returns-clause-rows c =
-    let lines = c.args.lines.now.lines in
-    let blocks = c.deref.ensures.value ∙ c.in_ok-blocks.ensures.blocks in
-    if-ok (λ (l : Layout). l ≡ layout_from lines 0 (elements_in c.deref.result.now)) (λ (l : Layout). All (RowShows (line_texts lines)) l.rows) c.lay_out.result
-    (λ l made. subst (λ (m : Layout). All (RowShows (line_texts lines)) m.rows) (sym (made ∙ ap (λ (bs : List PlacedBlock). layout_from lines 0 (elements_in bs)) blocks))
-    (rows-show c.args.lines.now c.in_ok-blocks.ensures.text).1) c.lay_out.ensures
+pub returns-clause-body : goal.returns-clause-body
+returns-clause-body g c =
+    if-ok (IsLaidOut (layout_of c.args.lines.now.lines)) (λ (l : LaidOut). All (RowShows (line_texts c.args.lines.now.lines)) (rows_in l.body.elements)) c.lay_out.result
+    (λ l laid. body-shows c.args.lines.now l c.in_ok-blocks.ensures.text laid) (returns-clause-layout g c)
+
+pub returns-clause-few : goal.returns-clause-few
+returns-clause-few g c =
+    if-ok (IsLaidOut (layout_of c.args.lines.now.lines)) (λ (l : LaidOut). length (rows_in l.titles.elements) + length (rows_in l.body.elements) ≤ 16777216) c.lay_out.result
+    (λ l laid. rows-few c.args.lines.now l c.in_ok-blocks.ensures.text laid) (returns-clause-layout g c)
 
 pub returns-clause-within : goal.returns-clause-within
-returns-clause-within c =
-    let lines = c.args.lines.now.lines in
-    let blocks = c.deref.ensures.value ∙ c.in_ok-blocks.ensures.blocks in
-    if-ok (λ (l : Layout). l ≡ layout_from lines 0 (elements_in c.deref.result.now)) (λ (l : Layout). All (λ (stop : ℕ). stop ≤ length l.rows) l.stops) c.lay_out.result
-    (λ l made. subst (λ (m : Layout). All (λ (stop : ℕ). stop ≤ length m.rows) m.stops) (sym (made ∙ ap (λ (bs : List PlacedBlock). layout_from lines 0 (elements_in bs)) blocks))
-    (layout_of-within lines)) c.lay_out.ensures
+returns-clause-within g c =
+    if-ok (IsLaidOut (layout_of c.args.lines.now.lines)) (λ (l : LaidOut). All (λ (stop : ℕ). stop ≤ length (rows_in l.body.elements)) l.stops) c.lay_out.result
+    (λ l laid. stops-within c.args.lines.now.lines l laid) (returns-clause-layout g c)

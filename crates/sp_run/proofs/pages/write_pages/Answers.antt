@@ -1,13 +1,19 @@
-use Rattle.std.proofs.Common.{◌≡◌, ℕ, ◌+◌, List, [], ◌++◌, length, ap, sym, ◌∙◌, subst, arith}
-use Rattle.std.specs.Prelude.{nat_lt, find, unwrap_or}
+use Rattle.std.proofs.Common.{◌≡◌, ℕ, ◌+◌, ◌-◌, List, [], ◌++◌, length, map, take, drop, ap, sym, ◌∙◌, subst, arith}
+use Rattle.std.specs.Prelude.{nat_lt, find, slice_range, unwrap_or}
+use Rattle.std.proofs.lemmas.List.{take-map, drop-map}
 use Rattle.std.specs.Io.KnownBytes.{Appends}
 use Rattle.spec_text.specs.Lines.{line_texts}
 use Rattle.spec_pages.specs.declared.Shape.{Shape}
 use Rattle.spec_pages.specs.Pages.{next_page, page_end}
+use Rattle.spec_pages.specs.Rows.{Row}
+use Rattle.spec_desk.specs.Cells.{RowShows}
+use Rattle.spec_desk.specs.Layout.{rows_in}
 use Rattle.spec_desk.specs.Sheets.{page_sheet, sheet_bytes}
 use Rattle.sp_kit.specs.Causes.{Rose}
 use Rattle.sp_kit.specs.Outside.{AppendsPrefix}
 use Rattle.sp_run.specs.declared.status.Status.TheVariants as statuses
+use Rattle.sp_run.specs.LaidOut.{PartOf, mark_of}
+use Rattle.sp_run.proofs.RestLaws.{rest-length, rest-all}
 use Rattle.sp_run.proofs.WrittenParts.{as_error}
 use Rattle.sp_run.proofs.PagesLeft.{left-next, left-prefix, left-part, left-last}
 use Rattle.sp_run.proofs.pages.write_pages.Goals as goal
@@ -21,6 +27,25 @@ next-is : (shapes : List Shape) (stops ahead above : List ℕ) (from stop to : �
     → find (λ s. nat_lt from s) above ≡ find (λ s. nat_lt from s) ahead → find (λ s. nat_lt from s) ahead ≡ find (λ s. nat_lt from s) stops → to ≡ next_page shapes stops from
 next-is shapes stops ahead above from stop to is value later so_far = is ∙ ap (page_end shapes from) (value ∙ ap (λ o. unwrap_or o (length shapes)) (later ∙ so_far))
 
+-- The marks of the rows of a page.
+marks-are : (rows : List Row) (marks slice : List ℕ) (part : PartOf) (from to : ℕ) → slice ≡ marks → marks ≡ part.marks → part.marks ≡ map mark_of rows
+    → slice_range slice from to ≡ map mark_of (slice_range rows from to)
+marks-are rows marks slice part from to same inside is =
+    ap (λ (those : List ℕ). slice_range those from to) (same ∙ inside ∙ is)
+    ∙ ap (take (to - from)) (drop-map mark_of from rows)
+    ∙ take-map mark_of (to - from) (drop from rows)
+
+pub add_sheet-requires-clause-within : goal.add_sheet-requires-clause-within
+add_sheet-requires-clause-within g c =
+    let rest = c.rest_from-rest.ensures.rest (rows_in c.args.part.now.elements) c.loop-from.invariant.rest in
+    let size = rest-length (rows_in c.args.part.now.elements) c.rest_from-rest.result rest in
+    omega (arith, size, c.fill-to.ensures.below, c.first_stop-stop.ensures.within, c.requires.shapes)
+
+pub add_sheet-requires-clause-show : goal.add_sheet-requires-clause-show
+add_sheet-requires-clause-show g c =
+    rest-all (RowShows (line_texts c.args.lines.now.lines)) (rows_in c.args.part.now.elements) c.rest_from-rest.result
+    (c.rest_from-rest.ensures.rest (rows_in c.args.part.now.elements) c.loop-from.invariant.rest) c.requires.show
+
 pub returns-in_err-add_sheet : goal.returns-in_err-add_sheet
 returns-in_err-add_sheet g c =
     as_error g.O.Sink.taken g.O.Sink.faults c.args.output.now c.loop-from.output _ statuses.NoMemory c.from_residual.result c.from_residual.ensures.1
@@ -32,9 +57,12 @@ returns-in_err-write_whole g c =
     next-is c.args.shapes.now c.args.stops.now c.loop-from.ahead.now c.stops_above-ahead.result.now c.loop-from.from c.first_stop-stop.result c.fill-to.result
     c.fill-to.ensures.value c.first_stop-stop.ensures.value (c.stops_above-ahead.ensures.later c.loop-from.from (omega arith)) (c.loop-from.invariant.ahead c.loop-from.from (omega arith)) in
     let texts = line_texts c.args.lines.now.lines in
-    let rows = c.args.rows.now in
+    let rows = rows_in c.args.part.now.elements in
     let whole = sheet_bytes (page_sheet texts rows c.args.labelled (c.loop-from.number + 1) (c.loop-from.from, c.fill-to.result)) in
-    let same = sheet-is c.add_sheet.new.bytes.items c.clear.new.self.items c.deref.result.now whole c.in_ok-add_sheet.ensures c.clear.ensures.items c.deref.ensures.value in
+    let marks = marks-are rows c.part.inside.marks.items c.deref-in-loop-from.result.now c.args.part.now c.loop-from.from c.fill-to.result
+    c.deref-in-loop-from.ensures.value (ap (λ (part : PartOf). part.marks) c.part.view_is) c.requires.part.marks in
+    let wrote = c.in_ok-add_sheet.ensures rows (c.rest_from-rest.ensures.rest rows c.loop-from.invariant.rest) marks in
+    let same = sheet-is c.add_sheet.new.sheet.taken c.clear.new.self.taken c.taken.result.now whole wrote c.clear.ensures c.taken.ensures in
     as_error g.O.Sink.taken g.O.Sink.faults c.args.output.now c.write_whole.new.sink _ statuses.WriteFault c.from_residual-in_err-write_whole.result c.from_residual-in_err-write_whole.ensures.1
     (record {
       wrote = left-part _ _ _ texts rows c.args.labelled c.args.shapes.now c.args.stops.now c.loop-from.number c.loop-from.from c.fill-to.result c.loop-from.invariant.left
@@ -49,9 +77,13 @@ loop-from-preserved g c =
     next-is c.args.shapes.now c.args.stops.now c.loop-from.ahead.now c.stops_above-ahead.result.now c.loop-from.from c.first_stop-stop.result c.fill-to.result
     c.fill-to.ensures.value c.first_stop-stop.ensures.value (c.stops_above-ahead.ensures.later c.loop-from.from (omega arith)) (c.loop-from.invariant.ahead c.loop-from.from (omega arith)) in
     let texts = line_texts c.args.lines.now.lines in
-    let rows = c.args.rows.now in
+    let rows = rows_in c.args.part.now.elements in
     let whole = sheet_bytes (page_sheet texts rows c.args.labelled (c.loop-from.number + 1) (c.loop-from.from, c.fill-to.result)) in
-    let same = sheet-is c.add_sheet.new.bytes.items c.clear.new.self.items c.deref.result.now whole c.in_ok-add_sheet.ensures c.clear.ensures.items c.deref.ensures.value in
+    let rest = c.rest_from-rest.ensures.rest rows c.loop-from.invariant.rest in
+    let marks = marks-are rows c.part.inside.marks.items c.deref-in-loop-from.result.now c.args.part.now c.loop-from.from c.fill-to.result
+    c.deref-in-loop-from.ensures.value (ap (λ (part : PartOf). part.marks) c.part.view_is) c.requires.part.marks in
+    let wrote = c.in_ok-add_sheet.ensures rows rest marks in
+    let same = sheet-is c.add_sheet.new.sheet.taken c.clear.new.self.taken c.taken.result.now whole wrote c.clear.ensures c.taken.ensures in
     record {
       low = omega (arith, c.fill-to.ensures.below, c.first_stop-stop.ensures.within);
       few = omega (arith, c.fill-to.ensures.above, c.loop-from.invariant.few);
@@ -60,6 +92,8 @@ loop-from-preserved g c =
           c.stops_above-ahead.ensures.later r (omega (arith, above, c.fill-to.ensures.above))
           ∙ c.loop-from.invariant.ahead r (omega (arith, above, c.fill-to.ensures.above));
       within = c.stops_above-ahead.ensures.within (length c.args.shapes.now) c.loop-from.invariant.within;
+      rest = rest;
+      passed = omega (arith, c.rest_from-rest.ensures.passed, c.fill-to.ensures.above);
       left = left-next _ _ _ texts rows c.args.labelled c.args.shapes.now c.args.stops.now c.loop-from.number c.loop-from.from c.fill-to.result c.loop-from.invariant.left
           (omega arith) page c.fill-to.ensures.above (omega (arith, c.fill-to.ensures.below, c.first_stop-stop.ensures.within))
           (subst (Appends (g.O.Sink.taken c.loop-from.output) (g.O.Sink.taken c.write_whole.new.sink)) (sym same) c.in_ok-write_whole.ensures.ok);

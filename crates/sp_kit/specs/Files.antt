@@ -1,0 +1,43 @@
+-- What a shelf holds, and what its calls may answer and leave (docs/RULES.md, "The program").
+use Rattle.std.specs.Prelude.{◌≡◌, ◌≢◌, ℕ, ◌<◌, ◌≤◌, List, length, Ok, Err, Some, None, IsSomeAnd}
+use Rattle.std.specs.declared.option.Option.{Option}
+use Rattle.std.specs.declared.result.Result.{Result}
+use Rattle.sp_kit.specs.Causes.{Rose}
+use Rattle.sp_kit.specs.declared.shelf.Fetched.{Fetched}
+use Rattle.sp_kit.specs.declared.shelf.Fetched.TheVariants as fetched
+use Rattle.sp_kit.specs.declared.shelf.ShelfFault.{ShelfFault}
+use Rattle.sp_kit.specs.declared.shelf.ShelfFault.TheVariants as shelf_faults
+
+-- The bytes under each name that there is.
+abbrev pub Files : Type 0
+Files = List ℕ → Option (List ℕ)
+
+-- What a fetch of at most so many bytes answers where this stands under the name. A fault says nothing of it.
+abbrev pub FetchGives : Option (List ℕ) → ℕ → Result Fetched ShelfFault → Type 0
+FetchGives found most (Ok fetched.Absent) = found ≡ None
+FetchGives found most (Ok (fetched.Bytes bytes)) = found ≡ Some bytes.items
+FetchGives found most (Ok fetched.Longer) = IsSomeAnd found (λ bytes. most < length bytes)
+FetchGives found most (Err fault) = Unit {0}
+
+-- No more bytes were fetched than were asked for.
+abbrev pub FetchesAtMost : ℕ → Result Fetched ShelfFault → Type 0
+FetchesAtMost most (Ok (fetched.Bytes bytes)) = length bytes.items ≤ most
+FetchesAtMost most _ = Unit {0}
+
+-- All names but this one have what they had.
+abbrev pub KeepsOthers : Files → Files → List ℕ → Type 0
+KeepsOthers old new name = (other : List ℕ) → other ≢ name → new other ≡ old other
+
+-- What a store of these bytes under a name leaves, where what the shelf holds is known.
+abbrev pub StoreLeaves : Option Files → Option Files → List ℕ → List ℕ → Result (Unit {0}) ShelfFault → Type 0
+StoreLeaves None new name bytes result = Unit {0}
+StoreLeaves (Some old) None name bytes result = ⊥
+StoreLeaves (Some old) (Some new) name bytes (Ok done) = (new name ≡ Some bytes) × KeepsOthers old new name
+StoreLeaves (Some old) (Some new) name bytes (Err shelf_faults.Failed) = KeepsOthers old new name
+StoreLeaves (Some old) (Some new) name bytes (Err shelf_faults.NoMemory) = new ≡ old
+
+-- A count of faults rises with a failure, and stays with every other answer.
+abbrev pub HasShelfCause : {T : Type 0} → ℕ → ℕ → Result T ShelfFault → Type 0
+HasShelfCause before now (Ok answer) = now ≡ before
+HasShelfCause before now (Err shelf_faults.Failed) = (before ≤ now) × Rose before now
+HasShelfCause before now (Err shelf_faults.NoMemory) = now ≡ before

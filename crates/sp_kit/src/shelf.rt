@@ -1,0 +1,60 @@
+ghost use Rattle.std.specs.Prelude.{◌≡◌, ℕ, List, IfSome};
+ghost use Rattle.std.specs.declared.option.Option.{Option};
+ghost use Rattle.sp_kit.specs.Files.{FetchGives, FetchesAtMost, StoreLeaves, HasShelfCause};
+
+use std::alloc::AllocError;
+
+/// What a fetch found under a name.
+#[derive(Debug, PartialEq, Eq, Drop)]
+pub enum Fetched {
+    /// There is no such name.
+    Absent,
+    /// The bytes under the name, as many as were asked for at most.
+    Bytes(Vec<u8>),
+    /// There are more bytes under the name than were asked for.
+    Longer,
+}
+
+/// Why a call of a shelf did nothing or only a part.
+#[derive(Debug, Clone, Copy, PartialEq, Eq, Drop)]
+pub enum ShelfFault {
+    /// The call failed. The shelf's count of faults tells it too.
+    Failed,
+    /// There is no memory, which is no fault of the shelf.
+    NoMemory,
+}
+
+impl From<AllocError> for ShelfFault {
+    ghost use Rattle.std.specs.Prelude.{◌≡◌};
+    ghost use Rattle.sp_kit.specs.declared.shelf.ShelfFault.TheVariants as shelf_faults;
+
+    ghost from_gives = { λ _ fault. fault ≡ shelf_faults.NoMemory };
+
+    fn from(_error: AllocError) -> ShelfFault {
+        ShelfFault::NoMemory
+    }
+}
+
+/// Files by name. Its two meanings are what stands under each name, where that is known, and a count of faults, which
+/// never falls (docs/RULES.md, "The program").
+pub trait Shelf {
+    ghost files: { Self → Option (List ℕ → Option (List ℕ)) };
+
+    ghost faults: { Self → ℕ };
+
+    /// Gives the bytes under a name, at most `most` of them. `Absent` comes exactly where there is no such name, `Longer`
+    /// exactly where there are more bytes, and `Failed` only where the count of faults rose in this call. What stands under
+    /// the names stays, whatever is answered.
+    fn fetch(&mut self, name: &str, most: usize) -> Result<Fetched, ShelfFault>
+        ensures bound { FetchesAtMost most result }
+        ensures gives { IfSome (files self.old) (λ held. FetchGives (held name.now) most result) }
+        ensures kept { files self.new ≡ files self.old }
+        ensures cause { HasShelfCause (faults self.old) (faults self.new) result };
+
+    /// Puts the bytes under a name, in place of what stood there. `Failed` comes only where the count of faults rose in
+    /// this call; then it is open what stands under that name. After `NoMemory` nothing has changed. All other names stay
+    /// as they were.
+    fn store(&mut self, name: &str, bytes: &[u8]) -> Result<(), ShelfFault>
+        ensures leaves { StoreLeaves (files self.old) (files self.new) name.now bytes.now result }
+        ensures cause { HasShelfCause (faults self.old) (faults self.new) result };
+}
