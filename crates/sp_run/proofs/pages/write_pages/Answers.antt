@@ -75,7 +75,7 @@ returns-in_err-write_whole g c =
     let named = c.sheet_label.ensures (c.loop-from.number + 1) c.plain_label-label.ensures in
     let wrote = page-gathered texts rows inside _ _ _ _ c.args.labelled (c.loop-from.number + 1) c.greatest.result c.loop-from.from c.fill-to.result
     c.in_ok-add_page.ensures named c.greatest.ensures marks is passed c.fill-to.ensures.above first in
-    let same = sheet-is c.add_page.new.sheet.taken c.clear.new.self.taken c.taken.result.now whole wrote c.clear.ensures c.taken.ensures in
+    let same = sheet-is c.add_page.new.sheet.taken c.clear.new.self.taken c.taken.result.now whole wrote c.clear.ensures.taken c.taken.ensures in
     as_error g.O.Sink.taken g.O.Sink.faults c.args.output.now c.write_whole.new.sink _ statuses.WriteFault c.from_residual-in_err-write_whole.result c.from_residual-in_err-write_whole.ensures.1
     (record {
       wrote = left-part _ _ _ texts rows c.args.labelled c.args.shapes.now c.args.stops.now c.loop-from.number c.loop-from.from c.fill-to.result c.loop-from.invariant.left
@@ -103,7 +103,7 @@ loop-from-preserved g c =
     let named = c.sheet_label.ensures (c.loop-from.number + 1) c.plain_label-label.ensures in
     let wrote = page-gathered texts rows inside _ _ _ _ c.args.labelled (c.loop-from.number + 1) c.greatest.result c.loop-from.from c.fill-to.result
     c.in_ok-add_page.ensures named c.greatest.ensures marks is passed c.fill-to.ensures.above first in
-    let same = sheet-is c.add_page.new.sheet.taken c.clear.new.self.taken c.taken.result.now whole wrote c.clear.ensures c.taken.ensures in
+    let same = sheet-is c.add_page.new.sheet.taken c.clear.new.self.taken c.taken.result.now whole wrote c.clear.ensures.taken c.taken.ensures in
     record {
       low = omega (arith, c.fill-to.ensures.below, c.first_stop-stop.ensures.within);
       few = omega (arith, c.fill-to.ensures.above, c.loop-from.invariant.few);
