@@ -4,10 +4,11 @@ ghost use Rattle.std.specs.List.{flat_map};
 ghost use Rattle.std.specs.Option.{option_map};
 ghost use Rattle.spec_text.specs.Lines.{line_texts};
 ghost use Rattle.spec_pages.specs.Rows.{Row as RowValue};
+ghost use Rattle.spec_labels.specs.Labels.{plain_label};
 ghost use Rattle.spec_desk.specs.Cells.{RowShows};
 ghost use Rattle.spec_desk.specs.Bodies.{body_rows};
 ghost use Rattle.spec_desk.specs.Layout.{rows_in, layout_of};
-ghost use Rattle.spec_desk.specs.Sheets.{body_shape, uncut, title_shape, page_sheet, sheets_in, sheet_bytes};
+ghost use Rattle.spec_desk.specs.Sheets.{body_shape, uncut, title_shape, page_label, sheets_in, sheet_bytes};
 ghost use Rattle.spec_desk.specs.Printing.{sheets_bytes};
 ghost use Rattle.sp_print.specs.Lent.{label_of};
 ghost use Rattle.sp_run.specs.LaidOut.{LaidOut, PartOf, HasRows, IsLaidOut, mark_of};
@@ -114,47 +115,28 @@ fn add_page<'a>(
     }
 }
 
-/// Adds the sheet of the page from a row to before another, whose rows have these marks, to what a sink in memory took.
-fn add_sheet(
-    sheet: &mut SheetBytes,
-    alloc: Global,
-    lines: &Lines,
-    rest: &Rest<'_>,
-    from: usize,
-    to: usize,
-    marks: &[u8],
-    labelled: bool,
-    number: u32,
-) -> Result<(), AllocError>
-    requires order { from < to }
-    requires passed { rest.now.passed ≤ from }
-    requires within { to ≤ rest.now.passed + length (rows_in rest.now.elements) }
-    requires low { to ≤ 16777216 }
-    requires first { StandsFirst rest.now.elements (from - rest.now.passed) }
-    requires show { All (RowShows (line_texts lines.now.lines)) (rows_in rest.now.elements) }
-    ensures { OnOk result ((rows : List RowValue) → IsRest rows rest.now → marks.now ≡ map mark_of (slice_range rows from to) → sheet.new.taken ≡ sheet.old.taken ++ sheet_bytes (page_sheet (line_texts lines.now.lines) rows labelled number (from, to))) }
+/// The label of the page with this number.
+fn plain_label(alloc: Global, number: u32) -> Label
+    ensures { result ≡ plain_label number }
 {
-    let label = Label {
+    Label {
         number,
         path: Vec::new(alloc),
-    };
-    let name = if labelled {
+    }
+}
+
+/// A label as a sheet has it, where its pages are labelled.
+fn sheet_label<'a>(labelled: bool, label: &'a Label) -> Option<SheetLabel<'a>>
+    ensures { (number : ℕ) → label.now ≡ plain_label number → option_map label_of result ≡ page_label labelled number }
+{
+    if labelled {
         Some(SheetLabel {
-            first: &label,
-            last: &label,
+            first: label,
+            last: label,
         })
     } else {
         None
-    };
-    add_page(
-        sheet,
-        lines,
-        rest.elements,
-        from - rest.passed,
-        to - rest.passed,
-        name,
-        greatest(marks),
-    )
+    }
 }
 
 /// Writes the sheets of a part whose rows page ends see like this, with these stops, each sheet whole.
@@ -190,16 +172,15 @@ fn write_pages<O: Sink, S: Steps>(
         rest = rest_from(rest, from);
         number += 1;
         sheet.clear();
-        add_sheet(
+        let label = plain_label(alloc, number);
+        add_page(
             &mut sheet,
-            alloc,
             lines,
-            &rest,
-            from,
-            to,
-            &part.marks[from..to],
-            labelled,
-            number,
+            rest.elements,
+            from - rest.passed,
+            to - rest.passed,
+            sheet_label(labelled, &label),
+            greatest(&part.marks[from..to]),
         )?;
         write_whole(output, sheet.taken())?;
         from = to;

@@ -1,8 +1,8 @@
-use Rattle.std.proofs.Common.{◌≡◌, List, ◌∷◌, ◌++◌, [], map, ap, sym, ◌∙◌, subst}
+use Rattle.std.proofs.Common.{List, map, sym, subst}
 use Rattle.std.specs.Prelude.{All}
 use Rattle.spec_text.specs.Lines.{line_texts}
 use Rattle.spec_script.specs.Stanzas.{PlacedBlock}
-use Rattle.spec_pages.specs.Rows.{Row, single_rows}
+use Rattle.spec_pages.specs.Rows.{Row}
 use Rattle.spec_desk.proofs.LayoutLaws.{block-shows}
 use Rattle.spec_desk.specs.Cells.{RowShows}
 use Rattle.spec_desk.specs.Layout.{ElementOf, row_at, rows_in}

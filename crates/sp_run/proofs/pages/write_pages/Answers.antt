@@ -1,4 +1,4 @@
-use Rattle.std.proofs.Common.{◌≡◌, ℕ, ◌+◌, ◌-◌, List, [], ◌++◌, length, map, take, drop, ap, sym, ◌∙◌, subst, arith}
+use Rattle.std.proofs.Common.{◌≡◌, ℕ, ◌+◌, ◌-◌, ◌≤◌, List, [], ◌++◌, length, map, take, drop, ap, sym, ◌∙◌, subst, arith}
 use Rattle.std.specs.Prelude.{nat_lt, find, slice_range, unwrap_or}
 use Rattle.std.proofs.lemmas.List.{take-map, drop-map}
 use Rattle.std.specs.Io.KnownBytes.{Appends}
@@ -13,6 +13,8 @@ use Rattle.sp_kit.specs.Causes.{Rose}
 use Rattle.sp_kit.specs.Outside.{AppendsPrefix}
 use Rattle.sp_run.specs.declared.status.Status.TheVariants as statuses
 use Rattle.sp_run.specs.LaidOut.{PartOf, mark_of}
+use Rattle.sp_run.specs.Rest.{RestOf, IsRest, StandsFirst}
+use Rattle.sp_run.proofs.PageSheets.{page-gathered}
 use Rattle.sp_run.proofs.RestLaws.{rest-length, rest-all}
 use Rattle.sp_run.proofs.WrittenParts.{as_error}
 use Rattle.sp_run.proofs.PagesLeft.{left-next, left-prefix, left-part, left-last}
@@ -35,19 +37,22 @@ marks-are rows marks slice part from to same inside is =
     ∙ ap (take (to - from)) (drop-map mark_of from rows)
     ∙ take-map mark_of (to - from) (drop from rows)
 
-pub add_sheet-requires-clause-within : goal.add_sheet-requires-clause-within
-add_sheet-requires-clause-within g c =
-    let rest = c.rest_from-rest.ensures.rest (rows_in c.args.part.now.elements) c.loop-from.invariant.rest in
-    let size = rest-length (rows_in c.args.part.now.elements) c.rest_from-rest.result rest in
+pub add_page-requires-clause-within : goal.add_page-requires-clause-within
+add_page-requires-clause-within g c =
+    let rows = rows_in c.args.part.now.elements in
+    let inside : RestOf = record { elements = c.rest.inside.elements.now; passed = c.rest.inside.passed } in
+    let rest = subst (IsRest rows) (sym c.rest.view_is) (c.rest_from-rest.ensures.rest rows c.loop-from.invariant.rest) in
+    let size = rest-length rows inside rest in
     omega (arith, size, c.fill-to.ensures.below, c.first_stop-stop.ensures.within, c.requires.shapes)
 
-pub add_sheet-requires-clause-show : goal.add_sheet-requires-clause-show
-add_sheet-requires-clause-show g c =
-    rest-all (RowShows (line_texts c.args.lines.now.lines)) (rows_in c.args.part.now.elements) c.rest_from-rest.result
-    (c.rest_from-rest.ensures.rest (rows_in c.args.part.now.elements) c.loop-from.invariant.rest) c.requires.show
+pub add_page-requires-clause-show : goal.add_page-requires-clause-show
+add_page-requires-clause-show g c =
+    let rows = rows_in c.args.part.now.elements in
+    rest-all (RowShows (line_texts c.args.lines.now.lines)) rows (record { elements = c.rest.inside.elements.now; passed = c.rest.inside.passed })
+    (subst (IsRest rows) (sym c.rest.view_is) (c.rest_from-rest.ensures.rest rows c.loop-from.invariant.rest)) c.requires.show
 
-pub returns-in_err-add_sheet : goal.returns-in_err-add_sheet
-returns-in_err-add_sheet g c =
+pub returns-in_err-add_page : goal.returns-in_err-add_page
+returns-in_err-add_page g c =
     as_error g.O.Sink.taken g.O.Sink.faults c.args.output.now c.loop-from.output _ statuses.NoMemory c.from_residual.result c.from_residual.ensures.1
     (record { wrote = left-prefix _ _ _ _ _ _ _ _ _ c.loop-from.invariant.left; kept = c.loop-from.invariant.kept })
 
@@ -61,8 +66,16 @@ returns-in_err-write_whole g c =
     let whole = sheet_bytes (page_sheet texts rows c.args.labelled (c.loop-from.number + 1) (c.loop-from.from, c.fill-to.result)) in
     let marks = marks-are rows c.part.inside.marks.items c.deref-in-loop-from.result.now c.args.part.now c.loop-from.from c.fill-to.result
     c.deref-in-loop-from.ensures.value (ap (λ (part : PartOf). part.marks) c.part.view_is) c.requires.part.marks in
-    let wrote = c.in_ok-add_sheet.ensures rows (c.rest_from-rest.ensures.rest rows c.loop-from.invariant.rest) marks in
-    let same = sheet-is c.add_sheet.new.sheet.taken c.clear.new.self.taken c.taken.result.now whole wrote c.clear.ensures c.taken.ensures in
+    let rest = c.rest_from-rest.ensures.rest rows c.loop-from.invariant.rest in
+    let inside : RestOf = record { elements = c.rest.inside.elements.now; passed = c.rest.inside.passed } in
+    let is = subst (IsRest rows) (sym c.rest.view_is) rest in
+    let passed : inside.passed ≤ c.loop-from.from = subst (λ (r : RestOf). r.passed ≤ c.loop-from.from) (sym c.rest.view_is) c.rest_from-rest.ensures.passed in
+    let first : StandsFirst inside.elements (c.loop-from.from - inside.passed) =
+    subst (λ (r : RestOf). StandsFirst r.elements (c.loop-from.from - r.passed)) (sym c.rest.view_is) c.rest_from-rest.ensures.first in
+    let named = c.sheet_label.ensures (c.loop-from.number + 1) c.plain_label-label.ensures in
+    let wrote = page-gathered texts rows inside _ _ _ _ c.args.labelled (c.loop-from.number + 1) c.greatest.result c.loop-from.from c.fill-to.result
+    c.in_ok-add_page.ensures named c.greatest.ensures marks is passed c.fill-to.ensures.above first in
+    let same = sheet-is c.add_page.new.sheet.taken c.clear.new.self.taken c.taken.result.now whole wrote c.clear.ensures.taken c.taken.ensures in
     as_error g.O.Sink.taken g.O.Sink.faults c.args.output.now c.write_whole.new.sink _ statuses.WriteFault c.from_residual-in_err-write_whole.result c.from_residual-in_err-write_whole.ensures.1
     (record {
       wrote = left-part _ _ _ texts rows c.args.labelled c.args.shapes.now c.args.stops.now c.loop-from.number c.loop-from.from c.fill-to.result c.loop-from.invariant.left
@@ -82,8 +95,15 @@ loop-from-preserved g c =
     let rest = c.rest_from-rest.ensures.rest rows c.loop-from.invariant.rest in
     let marks = marks-are rows c.part.inside.marks.items c.deref-in-loop-from.result.now c.args.part.now c.loop-from.from c.fill-to.result
     c.deref-in-loop-from.ensures.value (ap (λ (part : PartOf). part.marks) c.part.view_is) c.requires.part.marks in
-    let wrote = c.in_ok-add_sheet.ensures rows rest marks in
-    let same = sheet-is c.add_sheet.new.sheet.taken c.clear.new.self.taken c.taken.result.now whole wrote c.clear.ensures c.taken.ensures in
+    let inside : RestOf = record { elements = c.rest.inside.elements.now; passed = c.rest.inside.passed } in
+    let is = subst (IsRest rows) (sym c.rest.view_is) rest in
+    let passed : inside.passed ≤ c.loop-from.from = subst (λ (r : RestOf). r.passed ≤ c.loop-from.from) (sym c.rest.view_is) c.rest_from-rest.ensures.passed in
+    let first : StandsFirst inside.elements (c.loop-from.from - inside.passed) =
+    subst (λ (r : RestOf). StandsFirst r.elements (c.loop-from.from - r.passed)) (sym c.rest.view_is) c.rest_from-rest.ensures.first in
+    let named = c.sheet_label.ensures (c.loop-from.number + 1) c.plain_label-label.ensures in
+    let wrote = page-gathered texts rows inside _ _ _ _ c.args.labelled (c.loop-from.number + 1) c.greatest.result c.loop-from.from c.fill-to.result
+    c.in_ok-add_page.ensures named c.greatest.ensures marks is passed c.fill-to.ensures.above first in
+    let same = sheet-is c.add_page.new.sheet.taken c.clear.new.self.taken c.taken.result.now whole wrote c.clear.ensures.taken c.taken.ensures in
     record {
       low = omega (arith, c.fill-to.ensures.below, c.first_stop-stop.ensures.within);
       few = omega (arith, c.fill-to.ensures.above, c.loop-from.invariant.few);
