@@ -1,12 +1,14 @@
 //! Files as a shelf. It tells no content, and counts a fault at each error but those of a missing file and of want of
 //! memory.
-ghost use Rattle.std.specs.Prelude.{◌≡◌, ◌≤◌};
+ghost use Rattle.std.specs.Prelude.{◌≡◌, ◌≤◌, Some, Ok, IfSome, IfOk, OnOk};
+ghost use Rattle.std.specs.Io.KnownBytes.{Appends};
 ghost use Rattle.sp_kit.specs.Causes.{Rose};
+ghost use Rattle.sp_kit.specs.Files.{FetchesAtMost, FetchGives};
 
 use sp_kit::{Fetched, Shelf, ShelfFault};
 use std::alloc::Global;
 use std::fs;
-use std::io::{ErrorKind, Read, Write};
+use std::io::{self, ErrorKind, Read, Write};
 use std::rt::Files;
 
 /// The files of the system, each under its path.
@@ -37,12 +39,32 @@ fn failed(faults: &mut u64) -> ShelfFault
     ShelfFault::Failed
 }
 
+/// The bytes of a file, all of them, or that there are more than `most`. It reads at most one byte more.
+fn read_file<R: Read + Drop>(file: R, alloc: Global, most: usize) -> io::Result<Fetched>
+    ensures bound { IfOk result (λ fetched. FetchesAtMost most (Ok fetched)) }
+    ensures gives { IfOk result (λ fetched. IfSome (R.remaining file) (λ bytes. FetchGives (Some bytes) most (Ok fetched))) }
+{
+    let mut bytes = Vec::new(alloc);
+    file.take((most as u64).saturating_add(1))
+        .read_to_end(&mut bytes)?;
+    if bytes.len() > most {
+        Ok(Fetched::Longer)
+    } else {
+        Ok(Fetched::Bytes(bytes))
+    }
+}
+
+/// Writes all of the bytes to a file.
+fn write_file<W: Write>(file: &mut W, bytes: &[u8]) -> io::Result<()>
+    ensures { OnOk result (Appends (W.contents file.old) (W.contents file.new) bytes.now) }
+{
+    file.write_all(bytes)
+}
+
 impl<'a, R: Files> Shelf for FileShelf<'a, R> {
     ghost use Rattle.std.specs.declared.option.Option.TheVariants.{None};
 
-    ghost files = { λ _. None };
-
-    ghost faults = { λ s. s.faults };
+    ghost state = { λ s. record { files = None; faults = s.faults } };
 
     /// Reads at most one byte more than `most`.
     fn fetch(&mut self, name: &str, most: usize) -> Result<Fetched, ShelfFault> {
@@ -56,13 +78,8 @@ impl<'a, R: Files> Shelf for FileShelf<'a, R> {
                 };
             }
         };
-        let mut bytes = Vec::new(self.alloc);
-        match file
-            .take((most as u64).saturating_add(1))
-            .read_to_end(&mut bytes)
-        {
-            Ok(_) if bytes.len() > most => Ok(Fetched::Longer),
-            Ok(_) => Ok(Fetched::Bytes(bytes)),
+        match read_file(file, self.alloc, most) {
+            Ok(fetched) => Ok(fetched),
             Err(error) if error.kind() == ErrorKind::OutOfMemory => Err(ShelfFault::NoMemory),
             Err(_) => Err(failed(&mut self.faults)),
         }
@@ -77,7 +94,7 @@ impl<'a, R: Files> Shelf for FileShelf<'a, R> {
             }
             Err(_) => return Err(failed(&mut self.faults)),
         };
-        match file.write_all(bytes) {
+        match write_file(&mut file, bytes) {
             Ok(()) => Ok(()),
             Err(_) => Err(failed(&mut self.faults)),
         }

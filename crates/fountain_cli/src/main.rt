@@ -4,8 +4,15 @@
 mod files;
 mod streams;
 
+ghost use Rattle.std.specs.Prelude.{◌≡◌};
+ghost use Rattle.std.specs.declared.result.Result.{Result};
+ghost use Rattle.std.specs.Process.{exit_status};
+ghost use Rattle.sp_kit.specs.Outside.{Writes};
+ghost use Rattle.sp_kit.specs.declared.outside.Failed.{Failed};
+ghost use Rattle.sp_run.specs.Statuses.{code_of, line_of};
+
 use files::FileShelf;
-use sp_kit::Counter;
+use sp_kit::{Counter, Sink};
 use sp_run::{Status, fault_line, run};
 use std::process::ExitCode;
 use std::{env, io};
@@ -29,6 +36,15 @@ fn refused(error: &io::Error) -> Status {
     }
 }
 
+/// Tells how a run ended: its line to a sink, its number as the exit status. Where the sink fails, the number alone tells.
+fn tell<O: Sink>(status: &Status, errors: &mut O) -> ExitCode
+    ensures code { exit_status result ≡ code_of status.now }
+    ensures line { (told : Result (Unit {0}) Failed) × Writes (O.state errors.old) (O.state errors.new) (line_of status.now) told }
+{
+    let _ = fault_line(status, errors);
+    ExitCode::from(status.code())
+}
+
 fn main(rt: HostRuntime) -> ExitCode {
     let status = match words(&rt) {
         Ok(words) => {
@@ -47,9 +63,7 @@ fn main(rt: HostRuntime) -> ExitCode {
         }
         Err(error) => refused(&error),
     };
-    // Where standard error fails too, the exit status alone tells.
-    let _ = fault_line(&status, &mut Output::new(rt.stderr()));
-    ExitCode::from(status.code())
+    tell(&status, &mut Output::new(rt.stderr()))
 }
 
 #[cfg(test)]

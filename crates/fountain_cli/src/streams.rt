@@ -1,4 +1,4 @@
-//! The standard streams as a source and as sinks. They tell no content, and count a fault at each error.
+//! Streams as a source and as sinks. They tell what their streams tell, and count a fault at each error.
 ghost use Rattle.std.specs.Prelude.{◌≡◌};
 
 use sp_kit::{Failed, Sink, Source};
@@ -18,11 +18,7 @@ impl<R: Read + Drop> Input<R> {
 }
 
 impl<R: Read + Drop> Source for Input<R> {
-    ghost use Rattle.std.specs.declared.option.Option.TheVariants.{None};
-
-    ghost left = { λ _. None };
-
-    ghost faults = { λ s. s.faults };
+    ghost state = { λ s. record { unread = R.remaining s.stream; faults = s.faults } };
 
     fn read(&mut self, buf: &mut [u8]) -> Result<usize, Failed> {
         match self.stream.read(buf) {
@@ -49,11 +45,7 @@ impl<W: Write + Drop> Output<W> {
 }
 
 impl<W: Write + Drop> Sink for Output<W> {
-    ghost use Rattle.std.specs.declared.option.Option.TheVariants.{None};
-
-    ghost taken = { λ _. None };
-
-    ghost faults = { λ s. s.faults };
+    ghost state = { λ s. record { taken = W.contents s.stream; faults = s.faults } };
 
     fn write(&mut self, piece: &[u8]) -> Result<usize, Failed> {
         match self.stream.write(piece) {

@@ -1,5 +1,5 @@
 use super::*;
-use sp_kit::{MemorySink, MemorySource};
+use sp_kit::{MemorySink, MemorySource, Source};
 use std::alloc::{AllocError, Global};
 use std::test::Fail;
 use std::{fs, process};
@@ -44,5 +44,20 @@ fn a_file_is_printed_by_its_name(rt: HostRuntime) -> Result<(), Fail> {
     assert_eq!(rt; bytes.as_slice(), sheet.as_bytes());
     assert_eq!(rt; printed(&rt, folder_name)?.0, Status::ShelfFault);
     assert_eq!(rt; printed(&rt, "a\0b")?.0, Status::ShelfFault);
+    Ok(())
+}
+
+#[test]
+fn streams_pass_on_their_bytes(rt: HostRuntime) -> Result<(), Fail> {
+    let alloc = rt.alloc();
+    let mut input = Input::new(b"!Hello.".as_slice());
+    let mut buf = [0u8; 5];
+    assert_eq!(rt; input.read(&mut buf), Ok(5));
+    assert_eq!(rt; buf.as_slice(), b"!Hell".as_slice());
+    assert_eq!(rt; input.read(&mut buf), Ok(2));
+    assert_eq!(rt; input.read(&mut buf), Ok(0));
+    let mut said = Vec::new(alloc);
+    tell(&Status::ReadFault, &mut Output::new(&mut said));
+    assert_eq!(rt; said.as_slice(), b"fountain: reading failed\n".as_slice());
     Ok(())
 }

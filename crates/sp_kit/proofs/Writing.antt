@@ -8,7 +8,7 @@ use Rattle.std.proofs.KnownBytes.{Appends-nil, Appends-trans}
 use Rattle.std.proofs.Math.Seq.{take-append-add, take-length}
 use Rattle.std.proofs.lemmas.List.{take-append-le, take_min}
 use Rattle.sp_kit.specs.Causes.{HasCause, Rose}
-use Rattle.sp_kit.specs.Outside.{AppendsPrefix, Writes}
+use Rattle.sp_kit.specs.Outside.{SinkState, AppendsPrefix, Writes}
 
 -- A prefix of the front is a prefix of the whole.
 pub AppendsPrefix-front : (a b : Option (List ℕ)) (xs ys : List ℕ) → AppendsPrefix a b xs → AppendsPrefix a b (xs ++ ys)
@@ -32,25 +32,24 @@ HasCause-then a b c x (Err e) first next =
     record { later = omega (arith, first.later, next.later); failed = subst (λ n. Rose n c) same next.failed; kept = tt }
 
 -- What nothing was asked of.
-pub writes_nothing : {S T E : Type 0} (taken : S → Option (List ℕ)) (faults : S → ℕ) (s : S) (x : T) → Writes {S = S} {T = T} {E = E} taken faults s s [] (Ok x)
-writes_nothing taken faults s x = record { ok = Appends-nil (taken s); err = tt; cause = record { later = omega arith; failed = tt; kept = refl } }
+pub writes_nothing : {T E : Type 0} (s : SinkState) (x : T) → Writes {T = T} {E = E} s s [] (Ok x)
+writes_nothing s x = record { ok = Appends-nil s.taken; err = tt; cause = record { later = omega arith; failed = tt; kept = refl } }
 
 -- The same bytes by an equation.
-pub writes_as : {S T E : Type 0} {taken : S → Option (List ℕ)} {faults : S → ℕ} {old new : S} {xs ys : List ℕ} {r : Result T E}
-    → xs ≡ ys → Writes taken faults old new xs r → Writes taken faults old new ys r
-writes_as {taken = taken} {faults = faults} {old = old} {new = new} {r = r} e wrote = subst (λ bytes. Writes taken faults old new bytes r) e wrote
+pub writes_as : {T E : Type 0} {old new : SinkState} {xs ys : List ℕ} {r : Result T E} → xs ≡ ys → Writes old new xs r → Writes old new ys r
+writes_as {old = old} {new = new} {r = r} e wrote = subst (λ bytes. Writes old new bytes r) e wrote
 
 -- A write after one that was answered Ok.
-pub writes_then : {S T U E F : Type 0} {taken : S → Option (List ℕ)} {faults : S → ℕ} {a b c : S} {xs ys : List ℕ} {x : T} {r : Result U E}
-    → Writes {S = S} {T = T} {E = F} taken faults a b xs (Ok x) → Writes taken faults b c ys r → Writes taken faults a c (xs ++ ys) r
-writes_then {taken = taken} {faults = faults} {a = a} {b = b} {c = c} {xs = xs} {ys = ys} {x = x} {r = Ok y} first next =
-    record { ok = Appends-trans (taken a) (taken b) (taken c) xs ys first.ok next.ok; err = tt; cause = HasCause-then (faults a) (faults b) (faults c) x (Ok y) first.cause next.cause }
-writes_then {taken = taken} {faults = faults} {a = a} {b = b} {c = c} {xs = xs} {ys = ys} {x = x} {r = Err e} first next =
-    record { ok = tt; err = AppendsPrefix-then (taken a) (taken b) (taken c) xs ys first.ok next.err; cause = HasCause-then (faults a) (faults b) (faults c) x (Err e) first.cause next.cause }
+pub writes_then : {T U E F : Type 0} {a b c : SinkState} {xs ys : List ℕ} {x : T} {r : Result U E}
+    → Writes {T = T} {E = F} a b xs (Ok x) → Writes b c ys r → Writes a c (xs ++ ys) r
+writes_then {a = a} {b = b} {c = c} {xs = xs} {ys = ys} {x = x} {r = Ok y} first next =
+    record { ok = Appends-trans a.taken b.taken c.taken xs ys first.ok next.ok; err = tt; cause = HasCause-then a.faults b.faults c.faults x (Ok y) first.cause next.cause }
+writes_then {a = a} {b = b} {c = c} {xs = xs} {ys = ys} {x = x} {r = Err e} first next =
+    record { ok = tt; err = AppendsPrefix-then a.taken b.taken c.taken xs ys first.ok next.err; cause = HasCause-then a.faults b.faults c.faults x (Err e) first.cause next.cause }
 
 -- The exit of a write that failed, where more was to follow.
-pub writes_failed : {S T U E F : Type 0} {taken : S → Option (List ℕ)} {faults : S → ℕ} {a b : S} {xs : List ℕ} {e : E} {r : Result U F} (ys : List ℕ)
-    → Writes {S = S} {T = T} {E = E} taken faults a b xs (Err e) → IsErr r → Writes taken faults a b (xs ++ ys) r
+pub writes_failed : {T U E F : Type 0} {a b : SinkState} {xs : List ℕ} {e : E} {r : Result U F} (ys : List ℕ)
+    → Writes {T = T} {E = E} a b xs (Err e) → IsErr r → Writes a b (xs ++ ys) r
 writes_failed {r = Ok y} ys first failed = cc
-writes_failed {taken = taken} {faults = faults} {a = a} {b = b} {xs = xs} {r = Err e} ys first failed =
-    record { ok = tt; err = AppendsPrefix-front (taken a) (taken b) xs ys first.err; cause = record { later = first.cause.later; failed = first.cause.failed; kept = tt } }
+writes_failed {a = a} {b = b} {xs = xs} {r = Err e} ys first failed =
+    record { ok = tt; err = AppendsPrefix-front a.taken b.taken xs ys first.err; cause = record { later = first.cause.later; failed = first.cause.failed; kept = tt } }

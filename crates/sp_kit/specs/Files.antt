@@ -12,6 +12,11 @@ use Rattle.sp_kit.specs.declared.shelf.ShelfFault.TheVariants as shelf_faults
 abbrev pub Files : Type 0
 Files = List ℕ → Option (List ℕ)
 
+-- A shelf: what stands under each name, where that is known, and its count of faults.
+pub record ShelfState : Type 0 where
+  pub files : Option Files
+  pub faults : ℕ
+
 -- What a fetch of at most so many bytes answers where this stands under the name. A fault says nothing of it.
 abbrev pub FetchGives : Option (List ℕ) → ℕ → Result Fetched ShelfFault → Type 0
 FetchGives found most (Ok fetched.Absent) = found ≡ None

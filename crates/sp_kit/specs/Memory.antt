@@ -7,10 +7,10 @@ use Rattle.std.specs.declared.alloc.Global.{Global}
 use Rattle.std.specs.BTreeMap.{BTreeMap}
 use Rattle.std.specs.Map.{lookup}
 
--- A source in memory: the bytes that are left, the most bytes of one call, the numbers of the calls that fail,
+-- A source in memory: the bytes that weren't read yet, the most bytes of one call, the numbers of the calls that fail,
 -- the number of the next call, and the count of faults.
-pub record Giving : Type 0 where
-  pub left : List ℕ
+pub record MemorySourceState : Type 0 where
+  pub unread : List ℕ
   pub piece : ℕ
   pub fails : List ℕ
   pub call : ℕ
@@ -18,7 +18,7 @@ pub record Giving : Type 0 where
 
 -- A sink in memory: the bytes that it took, how many it has room for, the most bytes of one call, the numbers of the
 -- calls that fail, the number of the next call, and the count of faults.
-pub record Taking : Type 0 where
+pub record MemorySinkState : Type 0 where
   pub taken : List ℕ
   pub room : ℕ
   pub piece : ℕ
@@ -36,7 +36,7 @@ found_in files name = lookup (bytes_eq name) files
 
 -- A shelf in memory: its files, each with its name, the numbers of the calls that fail, the number of the next call, and
 -- the count of faults.
-pub record Holding : Type 0 where
+pub record MemoryShelfState : Type 0 where
   pub files : List (List ℕ × List ℕ)
   pub fails : List ℕ
   pub call : ℕ

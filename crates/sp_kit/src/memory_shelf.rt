@@ -1,6 +1,6 @@
 ghost use Rattle.std.specs.Prelude.{◌≡◌, ◌≤◌, ◌↔◌, [], Some, Contains, IsTrue, MatchOption, OnOk, OnErr};
 ghost use Rattle.std.specs.Bool.{MatchBool};
-ghost use Rattle.sp_kit.specs.Causes.{Rose, one_more};
+ghost use Rattle.sp_kit.specs.Causes.{one_more};
 ghost use Rattle.sp_kit.specs.Files.{FetchGives, FetchesAtMost, KeepsOthers, StoreLeaves, HasShelfCause};
 ghost use Rattle.sp_kit.specs.Memory.{files_of, found_in};
 
@@ -20,9 +20,9 @@ pub struct MemoryShelf {
 }
 
 impl Model for MemoryShelf {
-    ghost use Rattle.sp_kit.specs.Memory.{Holding, files_of};
+    ghost use Rattle.sp_kit.specs.Memory.{MemoryShelfState, files_of};
 
-    ghost Value = { Holding };
+    ghost Value = { MemoryShelfState };
 
     ghost view = { λ s. record { files = files_of s.files; fails = s.fails.items; call = s.call; faults = s.faults } };
 }
@@ -46,7 +46,7 @@ impl MemoryShelf {
     fn fails_now(&mut self) -> bool
         ensures listed { IsTrue result ↔ Contains self.old.fails self.old.call }
         ensures call { self.new.call ≡ one_more self.old.call }
-        ensures cause { MatchBool result ((self.old.faults ≤ self.new.faults) × Rose self.old.faults self.new.faults) (self.new.faults ≡ self.old.faults) }
+        ensures cause { MatchBool result ((self.old.faults ≤ self.new.faults) × (self.new.faults ≡ one_more self.old.faults)) (self.new.faults ≡ self.old.faults) }
         ensures kept { (self.new.files ≡ self.old.files) × (self.new.fails ≡ self.old.fails) }
     {
         let is_listed = self.fails.contains(&self.call);
@@ -89,16 +89,15 @@ impl Shelf for MemoryShelf {
     ghost use Rattle.std.specs.declared.option.Option.TheVariants.{Some};
     ghost use Rattle.sp_kit.specs.Memory.{found_in};
 
-    ghost files = { λ s. Some (found_in s.files) };
+    ghost state = { λ s. record { files = Some (found_in s.files); faults = s.faults } };
 
-    ghost faults = { λ s. s.faults };
-
-    /// Gives the bytes under the name, and fails exactly the listed calls.
+    /// Gives the bytes under the name, and fails exactly the listed calls. A failure counts one fault.
     fn fetch(&mut self, name: &str, most: usize) -> Result<Fetched, ShelfFault>
         ensures bound { FetchesAtMost most result }
         ensures gives { FetchGives (found_in self.old.files name.now) most result }
         ensures kept { self.new.files ≡ self.old.files }
         ensures cause { HasShelfCause self.old.faults self.new.faults result }
+        ensures one_fault { result ≡ Err ShelfFault.Failed → self.new.faults ≡ one_more self.old.faults }
         ensures fails { (result ≡ Err ShelfFault.Failed) ↔ Contains self.old.fails self.old.call }
         ensures call { self.new.call ≡ one_more self.old.call }
         ensures plan { self.new.fails ≡ self.old.fails }
@@ -113,10 +112,11 @@ impl Shelf for MemoryShelf {
         }
     }
 
-    /// Puts the bytes under the name, and fails exactly the listed calls, which change no file.
+    /// Puts the bytes under the name, and fails exactly the listed calls, which change no file and count one fault each.
     fn store(&mut self, name: &str, bytes: &[u8]) -> Result<(), ShelfFault>
         ensures leaves { StoreLeaves (Some (found_in self.old.files)) (Some (found_in self.new.files)) name.now bytes.now result }
         ensures cause { HasShelfCause self.old.faults self.new.faults result }
+        ensures one_fault { result ≡ Err ShelfFault.Failed → self.new.faults ≡ one_more self.old.faults }
         ensures fails { (result ≡ Err ShelfFault.Failed) ↔ Contains self.old.fails self.old.call }
         ensures call { self.new.call ≡ one_more self.old.call }
         ensures plan { self.new.fails ≡ self.old.fails }

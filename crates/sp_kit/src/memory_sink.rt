@@ -1,4 +1,4 @@
-ghost use Rattle.std.specs.Prelude.{◌≡◌, ℕ, ◌-◌, ◌<◌, ◌≤◌, ◌↔◌, ◌⊎◌, List, [], length, min, Contains, IsErr, IfOk};
+ghost use Rattle.std.specs.Prelude.{◌≡◌, ℕ, ◌-◌, ◌<◌, ◌≤◌, ◌↔◌, ◌⊎◌, List, [], length, min, Contains, IsErr, IfOk, OnErr};
 ghost use Rattle.std.specs.Io.{WritesAtMost};
 ghost use Rattle.std.specs.Io.KnownBytes.{WriteAppends};
 ghost use Rattle.sp_kit.specs.Causes.{HasCause, one_more};
@@ -20,9 +20,9 @@ pub struct MemorySink {
 
 impl Model for MemorySink {
     ghost use Rattle.std.specs.Prelude.{◌≤◌, ◌<◌, vec_len, vec_capacity};
-    ghost use Rattle.sp_kit.specs.Memory.{Taking};
+    ghost use Rattle.sp_kit.specs.Memory.{MemorySinkState};
 
-    ghost Value = { Taking };
+    ghost Value = { MemorySinkState };
 
     ghost view = { λ s. record { taken = s.bytes.items; room = s.room; piece = s.piece; fails = s.fails.items; call = s.call; faults = s.faults } };
 
@@ -63,17 +63,16 @@ impl MemorySink {
 impl Sink for MemorySink {
     ghost use Rattle.std.specs.declared.option.Option.TheVariants.{Some};
 
-    ghost taken = { λ s. Some s.taken };
-
-    ghost faults = { λ s. s.faults };
+    ghost state = { λ s. record { taken = Some s.taken; faults = s.faults } };
 
     /// Takes as many bytes as the piece and the room allow, and fails exactly the listed calls and every call once it is
-    /// full.
+    /// full. A failure counts one fault.
     fn write(&mut self, piece: &[u8]) -> Result<usize, Failed>
         ensures bound { WritesAtMost result piece.now }
         ensures bytes { WriteAppends (Some self.old.taken) (Some self.new.taken) result piece.now }
         ensures progress { 0 < length piece.now → IfOk result (λ n. 0 < n) }
         ensures cause { HasCause self.old.faults self.new.faults result }
+        ensures one_fault { OnErr result (self.new.faults ≡ one_more self.old.faults) }
         ensures fails { IsErr result ↔ (Contains self.old.fails self.old.call ⊎ (self.old.room ≤ length self.old.taken)) }
         ensures count { IfOk result (λ n. n ≡ min (min self.old.piece (length piece.now)) (self.old.room - length self.old.taken)) }
         ensures call { self.new.call ≡ one_more self.old.call }

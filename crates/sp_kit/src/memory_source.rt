@@ -1,4 +1,4 @@
-ghost use Rattle.std.specs.Prelude.{◌≡◌, ℕ, ◌<◌, ◌↔◌, List, length, min, Contains, IsErr, IfOk};
+ghost use Rattle.std.specs.Prelude.{◌≡◌, ℕ, ◌<◌, ◌↔◌, List, length, min, Contains, IsErr, IfOk, OnErr};
 ghost use Rattle.std.specs.Io.{ReadsAtMost};
 ghost use Rattle.std.specs.Io.KnownBytes.{ReadConsumes};
 ghost use Rattle.sp_kit.specs.Causes.{HasCause, one_more};
@@ -19,11 +19,11 @@ pub struct MemorySource {
 
 impl Model for MemorySource {
     ghost use Rattle.std.specs.Prelude.{◌≤◌, ◌<◌, drop, vec_len};
-    ghost use Rattle.sp_kit.specs.Memory.{Giving};
+    ghost use Rattle.sp_kit.specs.Memory.{MemorySourceState};
 
-    ghost Value = { Giving };
+    ghost Value = { MemorySourceState };
 
-    ghost view = { λ s. record { left = drop s.at s.bytes.items; piece = s.piece; fails = s.fails.items; call = s.call; faults = s.faults } };
+    ghost view = { λ s. record { unread = drop s.at s.bytes.items; piece = s.piece; fails = s.fails.items; call = s.call; faults = s.faults } };
 
     ghost invariant = { λ s. (s.at ≤ vec_len s.bytes) × (0 < s.piece) };
 }
@@ -33,7 +33,7 @@ impl MemorySource {
     /// calls count from 0. Takes no memory.
     pub fn new(bytes: Vec<u8>, piece: usize, fails: Vec<u64>) -> MemorySource
         requires { 0 < piece }
-        ensures { result ≡ record { left = bytes.items; piece = piece; fails = fails.items; call = 0; faults = 0 } }
+        ensures { result ≡ record { unread = bytes.items; piece = piece; fails = fails.items; call = 0; faults = 0 } }
     {
         MemorySource {
             bytes,
@@ -49,17 +49,17 @@ impl MemorySource {
 impl Source for MemorySource {
     ghost use Rattle.std.specs.declared.option.Option.TheVariants.{Some};
 
-    ghost left = { λ s. Some s.left };
+    ghost state = { λ s. record { unread = Some s.unread; faults = s.faults } };
 
-    ghost faults = { λ s. s.faults };
-
-    /// Gives as many bytes as the piece, the buffer and what is left allow, and fails exactly the listed calls.
+    /// Gives as many bytes as the piece, the buffer and what is unread allow, and fails exactly the listed calls. A failure
+    /// counts one fault.
     fn read(&mut self, buf: &mut [u8]) -> Result<usize, Failed>
         ensures bound { ReadsAtMost result buf.new }
-        ensures bytes { ReadConsumes (Some self.old.left) (Some self.new.left) result buf.new }
+        ensures bytes { ReadConsumes (Some self.old.unread) (Some self.new.unread) result buf.new }
         ensures cause { HasCause self.old.faults self.new.faults result }
+        ensures one_fault { OnErr result (self.new.faults ≡ one_more self.old.faults) }
         ensures fails { IsErr result ↔ Contains self.old.fails self.old.call }
-        ensures count { IfOk result (λ n. n ≡ min (min self.old.piece (length self.old.left)) (length buf.old)) }
+        ensures count { IfOk result (λ n. n ≡ min (min self.old.piece (length self.old.unread)) (length buf.old)) }
         ensures call { self.new.call ≡ one_more self.old.call }
         ensures plan { (self.new.piece ≡ self.old.piece) × (self.new.fails ≡ self.old.fails) }
     {
@@ -69,9 +69,9 @@ impl Source for MemorySource {
             self.faults = self.faults.saturating_add(1);
             return Err(Failed);
         }
-        let left = &self.bytes[self.at..];
-        let count = self.piece.min(left.len()).min(buf.len());
-        buf[..count].copy_from_slice(&left[..count]);
+        let unread = &self.bytes[self.at..];
+        let count = self.piece.min(unread.len()).min(buf.len());
+        buf[..count].copy_from_slice(&unread[..count]);
         self.at += count;
         Ok(count)
     }

@@ -1,6 +1,5 @@
-ghost use Rattle.std.specs.Prelude.{◌≡◌, ℕ, List, IfSome};
-ghost use Rattle.std.specs.declared.option.Option.{Option};
-ghost use Rattle.sp_kit.specs.Files.{FetchGives, FetchesAtMost, StoreLeaves, HasShelfCause};
+ghost use Rattle.std.specs.Prelude.{◌≡◌, IfSome};
+ghost use Rattle.sp_kit.specs.Files.{ShelfState, FetchGives, FetchesAtMost, StoreLeaves, HasShelfCause};
 
 use std::alloc::AllocError;
 
@@ -35,26 +34,24 @@ impl From<AllocError> for ShelfFault {
     }
 }
 
-/// Files by name. Its two meanings are what stands under each name, where that is known, and a count of faults, which
+/// Files by name. What can be told of it is what stands under each name, where that is known, and a count of faults, which
 /// never falls (docs/RULES.md, "The program").
 pub trait Shelf {
-    ghost files: { Self → Option (List ℕ → Option (List ℕ)) };
-
-    ghost faults: { Self → ℕ };
+    ghost state: { Self → ShelfState };
 
     /// Gives the bytes under a name, at most `most` of them. `Absent` comes exactly where there is no such name, `Longer`
     /// exactly where there are more bytes, and `Failed` only where the count of faults rose in this call. What stands under
     /// the names stays, whatever is answered.
     fn fetch(&mut self, name: &str, most: usize) -> Result<Fetched, ShelfFault>
         ensures bound { FetchesAtMost most result }
-        ensures gives { IfSome (files self.old) (λ held. FetchGives (held name.now) most result) }
-        ensures kept { files self.new ≡ files self.old }
-        ensures cause { HasShelfCause (faults self.old) (faults self.new) result };
+        ensures gives { IfSome (state self.old).files (λ held. FetchGives (held name.now) most result) }
+        ensures kept { (state self.new).files ≡ (state self.old).files }
+        ensures cause { HasShelfCause (state self.old).faults (state self.new).faults result };
 
     /// Puts the bytes under a name, in place of what stood there. `Failed` comes only where the count of faults rose in
     /// this call; then it is open what stands under that name. After `NoMemory` nothing has changed. All other names stay
     /// as they were.
     fn store(&mut self, name: &str, bytes: &[u8]) -> Result<(), ShelfFault>
-        ensures leaves { StoreLeaves (files self.old) (files self.new) name.now bytes.now result }
-        ensures cause { HasShelfCause (faults self.old) (faults self.new) result };
+        ensures leaves { StoreLeaves (state self.old).files (state self.new).files name.now bytes.now result }
+        ensures cause { HasShelfCause (state self.old).faults (state self.new).faults result };
 }

@@ -5,8 +5,8 @@ use Rattle.sp_kit.proofs.outside.write_whole.Given as goal
 -- Some bytes are done: the sink took them, and no fault was counted.
 abbrev pub invariant-loop-rest : goal.invariant-loop-rest
 invariant-loop-rest g l =
-    (done : List ℕ) × (l.piece ≡ done ++ l.rest) × Appends (g.O.Sink.taken l.fn.sink) (g.O.Sink.taken l.sink) done
-    × (g.O.Sink.faults l.sink ≡ g.O.Sink.faults l.fn.sink)
+    (done : List ℕ) × (l.piece ≡ done ++ l.rest) × Appends (g.O.Sink.state l.fn.sink).taken (g.O.Sink.state l.sink).taken done
+    × ((g.O.Sink.state l.sink).faults ≡ (g.O.Sink.state l.fn.sink).faults)
 
 abbrev pub decreases-loop-rest : goal.decreases-loop-rest
 decreases-loop-rest g l = length l.rest

@@ -2,19 +2,19 @@ use Rattle.std.proofs.Common.{◌≡◌, ℕ, ◌+◌, ◌-◌, ◌≤◌, ◌<�
 use Rattle.std.proofs.lemmas.List.{take_at, take_rest, take-append-drop, drop-drop, drop_all, length-take-le}
 use Rattle.sp_kit.proofs.memory_source.MemorySourceSource.read.Goals as goal
 
--- What was copied and what stays are what was left.
-left-copied : (bytes buf part : List ℕ) (at count : ℕ) → part ≡ take count (drop at bytes) → count ≤ length (drop at bytes)
+-- What was copied and what stays are what was unread.
+unread-copied : (bytes buf part : List ℕ) (at count : ℕ) → part ≡ take count (drop at bytes) → count ≤ length (drop at bytes)
     → drop at bytes ≡ take count (part ++ drop count buf) ++ drop (at + count) bytes
-left-copied bytes buf part at count is low =
+unread-copied bytes buf part at count is low =
     let len : length part ≡ count = ap length is ∙ length-take-le count (drop at bytes) low in
     sym (ap (λ xs. xs ++ drop (at + count) bytes) (take_at part (drop count buf) count len ∙ is)
     ∙ ap (λ xs. take count (drop at bytes) ++ xs) (sym (drop-drop count at bytes))
     ∙ take-append-drop count (drop at bytes))
 
--- Where nothing was copied into a buffer that has room, nothing is left.
-left-none : (bytes buf part : List ℕ) (at count piece : ℕ) → length part ≡ count → 0 < piece → count ≡ min (min piece (length (drop at bytes))) (length buf)
+-- Where nothing was copied into a buffer that has room, nothing is unread.
+unread-none : (bytes buf part : List ℕ) (at count piece : ℕ) → length part ≡ count → 0 < piece → count ≡ min (min piece (length (drop at bytes))) (length buf)
     → count ≡ 0 → 0 < length (part ++ drop count buf) → drop (at + count) bytes ≡ []
-left-none bytes buf part at count piece len some is none room =
+unread-none bytes buf part at count piece len some is none room =
     drop_all (at + count) bytes
     (let a = length-append part (drop count buf) in
     let b = length-drop count buf in
@@ -32,6 +32,6 @@ returns-clause-bytes c =
     let low : c.min-count.result ≤ length (drop c.self.inside.at c.self.inside.bytes.items) = omega (arith, size) in
     let len : length c.copy_from_slice.new.self ≡ c.min-count.result =
     ap length part ∙ length-take-le c.min-count.result (drop c.self.inside.at c.self.inside.bytes.items) low in (
-      sym (ap (λ v. v.left) c.self.view_is) ∙ left-copied c.self.inside.bytes.items c.args.buf.now c.copy_from_slice.new.self c.self.inside.at c.min-count.result part low,
-      left-none c.self.inside.bytes.items c.args.buf.now c.copy_from_slice.new.self c.self.inside.at c.min-count.result c.self.inside.piece len c.self.invariant.1 size,
+      sym (ap (λ v. v.unread) c.self.view_is) ∙ unread-copied c.self.inside.bytes.items c.args.buf.now c.copy_from_slice.new.self c.self.inside.at c.min-count.result part low,
+      unread-none c.self.inside.bytes.items c.args.buf.now c.copy_from_slice.new.self c.self.inside.at c.min-count.result c.self.inside.piece len c.self.invariant.1 size,
     )
