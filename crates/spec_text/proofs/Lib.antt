@@ -1,4 +1,12 @@
+pub mod EditLaws
+pub mod EditedLaws
+pub mod EditRows
+pub mod ExchangeLaws
 pub mod LineLaws
 pub mod LineRows
+pub mod PairLaws
 pub mod TextLaws
 pub mod PartsLaws
+pub mod RelabelLaws
+pub mod ListLaws
+pub mod TakenEdits
