@@ -60,6 +60,14 @@ pub record AreSceneRecords (records : List SceneRecordOf) : Type 0 where
   pub rising : AllPairs (λ (one other : SceneRecordOf). Below one.label other.label) records
   pub distinct : AllPairs (λ (one other : SceneRecordOf). one.line ≢ other.line) records
 
+-- The numbers of records pass this limit by no more than there are records.
+pub record AreWithin (limit : ℕ) (records : List SceneRecordOf) : Type 0 where
+  pub low : All (λ (it : SceneRecordOf). it.label.number ≤ limit + length records) records
+
+-- A record's label is below that of another.
+abbrev pub is_before : SceneRecordOf → SceneRecordOf → Bool
+is_before one other = is_lt (label_cmp one.label other.label)
+
 -- Without records a heading has its written number, where that is a label, or else the number of the label before it plus 1.
 abbrev pub numbers_after : ℕ → List HeadingOf → List LabelOf
 numbers_after before [] = []

@@ -2,7 +2,7 @@
 //! definitions and code both speak of are declared here.
 #![tactic(auto)]
 
-/// The key of a row: its line's id, and its number among the rows of that line's element (docs/RULES.md, "Page records").
+/// The key of a row: its line's id, and its number among the rows of that line (docs/RULES.md, "Page records").
 #[derive(Debug, Clone, Copy, PartialEq, Eq, Drop)]
 pub struct RowKey {
     pub line: u64,

@@ -1,13 +1,11 @@
 -- Where pages end (docs/RULES.md, "Pages").
-use Rattle.std.specs.Prelude.{ℕ, zero, suc, ◌+◌, ◌-◌, Bool, true, false, ◌&&◌, ◌||◌, not, ◌==◌, nat_lt, nat_le, if◌then◌else◌, List, [], ◌∷◌, length, slice_get, slice_range, sum_by, find, Option, Some, None, unwrap_or}
+use Rattle.std.specs.Prelude.{ℕ, ◌+◌, ◌-◌, Bool, true, false, ◌&&◌, ◌||◌, not, ◌==◌, nat_lt, nat_le, if◌then◌else◌, List, length, slice_get, slice_range, sum_by, Option, Some, None}
+use Rattle.spec_pages.specs.declared.Paper.{Paper}
+use Rattle.spec_pages.specs.declared.Paper.TheVariants.{Letter, A4}
 use Rattle.spec_pages.specs.declared.RowKind.{RowKind}
 use Rattle.spec_pages.specs.declared.RowKind.TheVariants.{Heading, Action, Cue, Parenthetical, Dialogue, Sung, Lyric, Transition}
 use Rattle.spec_pages.specs.declared.Shape.{Shape}
-use Rattle.spec_pages.specs.Greatest.{greatest}
-
--- Rows on a page.
-abbrev pub page_limit : ℕ
-page_limit = 54
+use Rattle.spec_pages.specs.Heights.{Heights, fits, ends, end_of, next_stop, starts_behind, starts_of}
 
 -- The row stands in a speech of its own.
 abbrev pub is_speech : RowKind → Bool
@@ -39,6 +37,10 @@ are_paragraph _ _ = false
 abbrev pub continues_speech : Shape → Bool
 continues_speech row = is_speech row.kind && nat_lt 0 row.index
 
+-- A row behind which its speech goes on.
+abbrev pub goes_on : Shape → Bool
+goes_on row = is_speech row.kind && nat_lt 0 row.rest
+
 -- A page may end between these two rows.
 abbrev pub may_part : Shape → Shape → Bool
 may_part above below =
@@ -67,31 +69,39 @@ carried (Some row) = if continues_speech row then 1 else 0
 abbrev pub height_of : List Shape → ℕ → ℕ → ℕ
 height_of shapes p q = (q - p) + sum_by lead_of (slice_range shapes (p + 1) q) + carried (slice_get shapes p) + carried (slice_get shapes q)
 
--- The page from row p to before row q isn't empty and isn't too high.
-abbrev pub fits_page : List Shape → ℕ → ℕ → Bool
-fits_page shapes p q = nat_lt p q && nat_le (height_of shapes p q) page_limit
+-- The rows of a text as pages ask for them.
+abbrev pub text_heights : List Shape → Heights
+text_heights shapes = record { height = height_of shapes; legal = is_legal shapes }
+
+-- The page from row p to before row q isn't empty and isn't too high, where a page has at most so many rows.
+abbrev pub fits_page : ℕ → List Shape → ℕ → ℕ → Bool
+fits_page limit shapes p q = fits limit (text_heights shapes) p q
 
 -- The page from row p may end before row q, where it has to end before row stop.
-abbrev pub ends_page : List Shape → ℕ → ℕ → ℕ → Bool
-ends_page shapes p stop q = fits_page shapes p q && (is_legal shapes q || (q == stop))
+abbrev pub ends_page : ℕ → List Shape → ℕ → ℕ → ℕ → Bool
+ends_page limit shapes p stop q = ends limit (text_heights shapes) p stop q
 
 -- The end of the page from row p: the greatest place up to the stop where it may end, else the greatest where it fits.
-abbrev pub page_end : List Shape → ℕ → ℕ → ℕ
-page_end shapes p stop = unwrap_or (greatest (ends_page shapes p stop) (stop + 1)) (unwrap_or (greatest (fits_page shapes p) (stop + 1)) (p + 1))
+abbrev pub page_end : ℕ → List Shape → ℕ → ℕ → ℕ
+page_end limit shapes p stop = end_of limit (text_heights shapes) p stop
 
 -- The first stop above row p, or the end of the rows.
 abbrev pub stop_above : List Shape → List ℕ → ℕ → ℕ
-stop_above shapes stops p = unwrap_or (find (λ stop. nat_lt p stop) stops) (length shapes)
+stop_above shapes stops p = next_stop (length shapes) stops p
 
 -- The row after the page from row p.
-abbrev pub next_page : List Shape → List ℕ → ℕ → ℕ
-next_page shapes stops p = page_end shapes p (stop_above shapes stops p)
+abbrev pub next_page : ℕ → List Shape → List ℕ → ℕ → ℕ
+next_page limit shapes stops p = page_end limit shapes p (stop_above shapes stops p)
 
 -- The page starts from row p on, of at most so many pages.
-abbrev pub starts_from : List Shape → List ℕ → ℕ → ℕ → List ℕ
-starts_from shapes stops zero p = []
-starts_from shapes stops (suc pages) p = if nat_lt p (length shapes) then p ∷ starts_from shapes stops pages (next_page shapes stops p) else []
+abbrev pub starts_from : ℕ → List Shape → List ℕ → ℕ → ℕ → List ℕ
+starts_from limit shapes stops pages p = starts_behind limit (text_heights shapes) (length shapes) stops pages p
 
--- The first row of each page. There are no more pages than rows.
-abbrev pub page_starts : List Shape → List ℕ → List ℕ
-page_starts shapes stops = starts_from shapes stops (length shapes) 0
+-- The first row of each page.
+abbrev pub page_starts : ℕ → List Shape → List ℕ → List ℕ
+page_starts limit shapes stops = starts_of limit (text_heights shapes) (length shapes) stops
+
+-- How many body rows a page of the paper has.
+abbrev pub rows_on : Paper → ℕ
+rows_on Letter = 54
+rows_on A4 = 58

@@ -57,3 +57,16 @@ pub enum Side {
     Left,
     Right,
 }
+
+/// The paper that pages are printed on (docs/RULES.md, "Pages").
+#[derive(Debug, Clone, Copy, PartialEq, Eq, Drop)]
+pub enum Paper {
+    Letter,
+    A4,
+}
+
+/// The column of a scene number before its heading (docs/RULES.md, "Elements").
+pub const NUMBER_BEFORE: u32 = 7;
+
+/// The column of a scene number behind its heading (docs/RULES.md, "Elements").
+pub const NUMBER_BEHIND: u32 = 76;

@@ -1,20 +1,15 @@
 -- Elements are pairs of dual dialogue and single blocks, taken one after another.
-use Rattle.std.proofs.Common.{◌≡◌, Bool, true, false, not, ◌&&◌, cond, List, [], ◌∷◌, ap, ◌∙◌, refl}
+use Rattle.std.proofs.Common.{◌≡◌, Bool, true, false, not, ◌&&◌, List, ◌∷◌, refl}
 use Rattle.spec_script.specs.declared.Kind.{Kind}
 use Rattle.spec_script.specs.declared.Kind.TheVariants as kinds
-use Rattle.spec_script.specs.LongestRuns.{Group, members, in_front}
 use Rattle.spec_script.specs.Stanzas.{PlacedBlock}
 use Rattle.spec_script.specs.Elements.{is_speech_kind, is_dual, alone, pair, elements_in}
+use Rattle.spec_script.proofs.RunSteps.{longest_runs-alone, longest_runs-pair}
 
 -- What the parts of a test are.
 both : (a b : Bool) → (a && b) ≡ true → (a ≡ true) × (b ≡ true)
 both true b h = (refl, h)
 both false b h = cc
-
--- A block that doesn't join the first of those behind it is an element by itself.
-alone-front : (block : PlacedBlock) (groups : List (Group PlacedBlock)) → ((g : Group PlacedBlock) → is_dual block g.first ≡ false) → in_front is_dual block groups ≡ alone block ∷ groups
-alone-front block [] apart = refl
-alone-front block (g ∷ groups) apart = ap (λ t. cond t (record { first = block; more = members g } ∷ groups) (alone block ∷ g ∷ groups)) (apart g)
 
 -- A right half joins no block behind it.
 right-apart : (speech caret other rest : Bool) → caret ≡ true → (speech && not caret && other && rest) ≡ false
@@ -32,26 +27,17 @@ dual-parts a b c d dual =
 dual-caret : (left right : PlacedBlock) → is_dual left right ≡ true → right.block.caret ≡ true
 dual-caret left right dual = (dual-parts (is_speech_kind left.block.kind) (not left.block.caret) (is_speech_kind right.block.kind) right.block.caret dual).1
 
+pub dual-last : (left right : PlacedBlock) → is_dual left right ≡ true → (block : PlacedBlock) → is_dual right block ≡ false
+dual-last left right dual block =
+    right-apart (is_speech_kind right.block.kind) right.block.caret (is_speech_kind block.block.kind) block.block.caret (dual-caret left right dual)
+
 -- The first two blocks are dual dialogue.
 pub elements_in-pair : (left right : PlacedBlock) (blocks : List PlacedBlock) → is_dual left right ≡ true → elements_in (left ∷ right ∷ blocks) ≡ pair left right ∷ elements_in blocks
-elements_in-pair left right blocks dual =
-    let caret = dual-caret left right dual in
-    let here = alone-front right (elements_in blocks) (λ g. right-apart (is_speech_kind right.block.kind) right.block.caret (is_speech_kind g.first.block.kind) g.first.block.caret caret) in
-    ap (in_front is_dual left) here
-    ∙ ap (λ t. cond t (pair left right ∷ elements_in blocks) (alone left ∷ alone right ∷ elements_in blocks)) dual
+elements_in-pair left right blocks dual = longest_runs-pair is_dual left right blocks dual (dual-last left right dual)
 
 -- The first two are not.
-next-front : (block next : PlacedBlock) (groups : List (Group PlacedBlock)) → is_dual block next ≡ false → in_front is_dual block (in_front is_dual next groups) ≡ alone block ∷ in_front is_dual next groups
-next-front block next [] apart = ap (λ t. cond t (pair block next ∷ []) (alone block ∷ alone next ∷ [])) apart
-next-front block next (g ∷ groups) apart = next-if (is_dual next g.first)
-  where
-    next-if : (t : Bool) → in_front is_dual block (cond t (record { first = next; more = members g } ∷ groups) (alone next ∷ g ∷ groups))
-        ≡ alone block ∷ cond t (record { first = next; more = members g } ∷ groups) (alone next ∷ g ∷ groups)
-    next-if true = ap (λ t. cond t (record { first = block; more = next ∷ members g } ∷ groups) (alone block ∷ record { first = next; more = members g } ∷ groups)) apart
-    next-if false = ap (λ t. cond t (pair block next ∷ g ∷ groups) (alone block ∷ alone next ∷ g ∷ groups)) apart
-
 pub elements_in-alone : (block next : PlacedBlock) (blocks : List PlacedBlock) → is_dual block next ≡ false → elements_in (block ∷ next ∷ blocks) ≡ alone block ∷ elements_in (next ∷ blocks)
-elements_in-alone block next blocks apart = next-front block next (elements_in blocks) apart
+elements_in-alone block next blocks apart = longest_runs-alone is_dual block next blocks apart
 
 -- A pair begins with a speech.
 pub dual-speech : (left right : PlacedBlock) → is_dual left right ≡ true → left.block.kind ≡ kinds.Speech

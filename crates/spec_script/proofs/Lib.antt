@@ -32,3 +32,5 @@ pub mod PlainLaws
 pub mod BlockPlaces
 pub mod RunPlaces
 pub mod ElementLaws
+pub mod RunSteps
+pub mod SpeechParts

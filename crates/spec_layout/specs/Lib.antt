@@ -1,0 +1,4 @@
+pub mod Cells
+pub mod Speakers
+pub mod Layout
+pub mod Shown

@@ -1,0 +1,7 @@
+pub mod LockKeeps
+pub mod RecordOrder
+pub mod PageKeeps
+pub mod WholeStates
+pub mod MachineLaws
+pub mod LabelLaw
+pub mod DeskLaws

@@ -1,0 +1,6 @@
+pub mod Machine
+pub mod KeptMemories
+pub mod LabelPromises
+pub mod Refusals
+pub mod Blocks
+pub mod Answers

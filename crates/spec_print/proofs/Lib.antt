@@ -1,0 +1,3 @@
+pub mod PageHeights
+pub mod PageParts
+pub mod PrintRows

@@ -1,0 +1,5 @@
+pub mod RowBytes
+pub mod PageRows
+pub mod PageTexts
+pub mod Rounds
+pub mod Sheets

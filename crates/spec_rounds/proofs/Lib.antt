@@ -1,0 +1,11 @@
+pub mod OnePages
+pub mod OpenSheets
+pub mod PageSheets
+pub mod RecordsOpen
+pub mod NewSheets
+pub mod OpenStarts
+pub mod OpenPages
+pub mod SinglePages
+pub mod RoundLaw
+pub mod OpeningLaw
+pub mod SheetsLow

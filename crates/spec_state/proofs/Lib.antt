@@ -1,0 +1,12 @@
+pub mod HeadingLaws
+pub mod StateKeys
+pub mod SoundLaws
+pub mod SceneKeeps
+pub mod EditKeeps
+pub mod RowMarks
+pub mod RulesLaws
+pub mod StateLaws
+pub mod SavedStates
+pub mod SheetHeights
+pub mod SheetGets
+pub mod OpenedLaws

@@ -1,0 +1,12 @@
+pub mod State
+pub mod Headings
+pub mod StateSheets
+pub mod Printing
+pub mod Openings
+pub mod SameRows
+pub mod Changes
+pub mod Keeping
+pub mod KeptStates
+pub mod SavedStates
+pub mod SoundStates
+pub mod StateLabels
