@@ -1,0 +1,5 @@
+pub mod BufferLaws
+pub mod ReadLaws
+pub mod WaitLaws
+pub mod HandedLaws
+pub mod SessionLaws

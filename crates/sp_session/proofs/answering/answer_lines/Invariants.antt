@@ -1,0 +1,14 @@
+use Rattle.std.proofs.Common.{ℕ, ◌-◌, List}
+use Rattle.spec_session.specs.CommandLines.{command_count_limit}
+use Rattle.sp_session.proofs.HandedLaws.{Handed}
+use Rattle.sp_session.proofs.SessionLaws.{Answering}
+use Rattle.sp_session.proofs.answering.answer_lines.Given as goal
+
+-- Some lines were handed out, and all of them answered.
+abbrev pub invariant-loop-responder : goal.invariant-loop-responder
+invariant-loop-responder g l =
+    (lines : List (List ℕ)) × Handed (g.I.Source.state l.fn.input) (g.I.Source.state l.input) lines l.lines
+    × Answering g.R.Responder.answers (g.O.Sink.state l.fn.output) (g.O.Sink.state l.output) l.fn.responder l.responder lines
+
+abbrev pub decreases-loop-responder : goal.decreases-loop-responder
+decreases-loop-responder g l = command_count_limit - l.lines.count

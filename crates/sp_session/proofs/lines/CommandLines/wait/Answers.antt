@@ -1,0 +1,13 @@
+use Rattle.std.proofs.Common.{refl}
+use Rattle.sp_session.proofs.WaitLaws.{waits, goes-over}
+use Rattle.sp_session.proofs.lines.CommandLines.wait.Goals as goal
+
+pub loop-self-init : goal.loop-self-init
+loop-self-init g c = waits (g.I.Source.state c.args.input.now) c.args.self.now c.requires.plain c.requires.room c.requires.budget
+
+pub returns-then-is_over : goal.returns-then-is_over
+returns-then-is_over g c =
+    let (bytes, gave, pends) = c.in-Ok-true.ensures.read in
+    let (full, some) = c.if-is_over.ensures.over.0 refl in
+    goes-over (g.I.Source.state c.args.input.now) (g.I.Source.state c.loop-self.input) (g.I.Source.state c.read.new.input) c.args.self.now c.loop-self.self c.read.new.self
+    bytes c.in-Ok-true.field-0 c.loop-self.invariant gave pends c.in-Ok-true.ensures.budget full some

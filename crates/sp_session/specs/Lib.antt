@@ -1,0 +1,5 @@
+pub mod CutState
+pub mod Buffered
+pub mod Reading
+pub mod Cutting
+pub mod Answering

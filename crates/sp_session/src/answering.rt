@@ -1,0 +1,97 @@
+ghost use Rattle.std.specs.Prelude.{◌≡◌, IfSome};
+ghost use Rattle.spec_session.specs.CommandLines.{KeepsLimits};
+ghost use Rattle.spec_session.specs.Sessions.{streams, SessionEnds, Tells, Settles, AnswersAll, FailedNothing};
+ghost use Rattle.sp_session.specs.Answering.{AnswersLine, end_of};
+
+use crate::lines::{CommandLines, LineStop, NextLine};
+use crate::responder::Responder;
+use sp_kit::{Sink, Source, write_whole};
+use spec_session::SessionEnd;
+use std::alloc::Global;
+
+/// Answers the command lines of the source in order, each as soon as it is whole, and writes each reply whole before it
+/// goes on. A session ends at the first of what `SessionEnd` tells (docs/RULES.md, "Sessions"). `ReadFault` and
+/// `WriteFault` come only where that count of faults rose in this call, `CommandLong` and `InputFull` exactly where a
+/// line or their number passes its limit, and at most one byte past a limit is read.
+pub fn session<R: Responder, I: Source, O: Sink>(
+    alloc: Global,
+    responder: &mut R,
+    input: &mut I,
+    output: &mut O,
+) -> SessionEnd
+    ensures ends { SessionEnds R.answers R.stops (streams (I.state input.old) (O.state output.old)) (streams (I.state input.new) (O.state output.new))
+        responder.old responder.new result }
+
+    // What the end tells of the whole input, where the source tells it.
+    ensures tells { IfSome (I.state input.old).unread (λ all. Tells all result) }
+
+    // Where nothing outside fails, it is the end that the input asks for: Done exactly where the limits are kept.
+    ensures settles { FailedNothing (streams (I.state input.old) (O.state output.old)) (streams (I.state input.new) (O.state output.new))
+        → IfSome (I.state input.old).unread (λ all. Settles all result) }
+    ensures complete { FailedNothing (streams (I.state input.old) (O.state output.old)) (streams (I.state input.new) (O.state output.new))
+        → IfSome (I.state input.old).unread (λ all. KeepsLimits all → AnswersAll result) }
+{
+    answer_lines(alloc, responder, input, output)
+}
+
+/// Answers line after line until the session ends.
+fn answer_lines<R: Responder, I: Source, O: Sink>(
+    alloc: Global,
+    responder: &mut R,
+    input: &mut I,
+    output: &mut O,
+) -> SessionEnd
+    ensures { SessionEnds R.answers R.stops (streams (I.state input.old) (O.state output.old)) (streams (I.state input.new) (O.state output.new))
+        responder.old responder.new result }
+{
+    let mut lines = match CommandLines::new(alloc) {
+        Ok(lines) => lines,
+        Err(_) => return SessionEnd::NoMemory,
+    };
+    loop {
+        match lines.next(input) {
+            Ok(NextLine::Whole) => {
+                if let Err(end) = answer_line(responder, lines.line(), output) {
+                    return end;
+                }
+            }
+            Ok(NextLine::Last) => {
+                if let Err(end) = answer_line(responder, lines.line(), output) {
+                    return end;
+                }
+                return SessionEnd::Done;
+            }
+            Ok(NextLine::End) => return SessionEnd::Done,
+            Err(stop) => return end_of(stop),
+        }
+    }
+}
+
+/// Answers one line and writes the reply whole.
+fn answer_line<R: Responder, O: Sink>(
+    responder: &mut R,
+    line: &[u8],
+    output: &mut O,
+) -> Result<(), SessionEnd>
+    ensures { AnswersLine R.answers R.stops (O.state output.old) (O.state output.new) responder.old responder.new line.now result }
+{
+    let reply = match responder.answer(line) {
+        Ok(reply) => reply,
+        Err(_) => return Err(SessionEnd::NoMemory),
+    };
+    match write_whole(output, reply.as_slice()) {
+        Ok(()) => Ok(()),
+        Err(_) => Err(SessionEnd::WriteFault),
+    }
+}
+
+/// How a session ends that has no next line.
+fn end_of(stop: LineStop) -> SessionEnd
+    ensures { result ≡ end_of stop }
+{
+    match stop {
+        LineStop::Read => SessionEnd::ReadFault,
+        LineStop::Long(number) => SessionEnd::CommandLong(number),
+        LineStop::TooMany => SessionEnd::InputFull,
+    }
+}
