@@ -1,24 +1,20 @@
 //! The rows of blocks by themselves and of dual dialogue.
-ghost use Rattle.std.specs.Prelude.{◌≡◌, ◌+◌, ◌*◌, ◌^◌, ◌<◌, ◌≤◌, length, max, vec_len, IfOk, OnOk};
+ghost use Rattle.std.specs.Prelude.{◌≡◌, ◌+◌, ◌*◌, ◌^◌, ◌<◌, ◌≤◌, length, map, max, IfOk, OnOk};
 ghost use Rattle.spec_text.specs.Limits.{line_count_limit};
 ghost use Rattle.spec_text.specs.Lines.{line_texts};
 ghost use Rattle.spec_script.specs.BlockParts.{BlockLies};
-ghost use Rattle.spec_pages.specs.Rows.{dual_rows, half_row, joined_row, joined_rows, lead_at, number_cell, number_runs, numbered_cells, shaped_row, shaped_rows, single_rows, with_number};
+ghost use Rattle.spec_pages.specs.Rows.{block_alone, blocks_beside, dual_rows, half_row, is_title, joined_row, joined_rows, lead_at, number_cell, number_runs, numbered_cells, shaped_row, shaped_rows, single_rows, title_row, with_number};
 
 use crate::columns::{first_lead, has_rows};
 use crate::lines::block_rows;
-use crate::values::{Cell, LineRow, Row};
+use crate::speakers::tell_speakers;
+use crate::values::{Cell, Row};
 use sp_blocks::Block;
 use sp_text::Lines;
-use spec_pages::{RowKind, Shape, Side};
-use spec_script::Run;
+use spec_pages::{NUMBER_BEFORE, NUMBER_BEHIND, RowKind, Shape, Side};
+use spec_script::{Kind, Run};
 use spec_text::Span;
 use std::alloc::{AllocError, Global};
-
-/// The columns of a heading's written number.
-const NUMBER_BEFORE: u32 = 7;
-
-const NUMBER_BEHIND: u32 = 76;
 
 /// A written number as runs without a style.
 fn number_runs(alloc: Global, spans: &[Span]) -> Result<Vec<Run>, AllocError>
@@ -35,6 +31,7 @@ fn number_runs(alloc: Global, spans: &[Span]) -> Result<Vec<Run>, AllocError>
     Ok(runs)
 }
 
+/// A heading's written number, at a column.
 fn number_cell(alloc: Global, block: &Block, column: u32) -> Result<Cell, AllocError>
     ensures { IfOk result (λ cell. cell ≡ number_cell block.now column) }
 {
@@ -42,172 +39,176 @@ fn number_cell(alloc: Global, block: &Block, column: u32) -> Result<Cell, AllocE
         column,
         line: block.first,
         runs: number_runs(alloc, &block.number)?,
+        fixed: false,
+        number: true,
     })
 }
 
-/// The cells of a heading's first row, with its written number before and behind them.
-fn numbered_cells(alloc: Global, block: &Block, cells: Vec<Cell>) -> Result<Vec<Cell>, AllocError>
-    ensures { IfOk result (λ numbered. numbered.items ≡ numbered_cells block.now cells.items) }
+/// Puts a written number before and behind the cells of its heading's first row.
+fn number_cells(alloc: Global, block: &Block, cells: &mut Vec<Cell>) -> Result<(), AllocError>
+    ensures { OnOk result (cells.new.items ≡ numbered_cells block.now cells.old.items) }
 {
     if block.number.is_empty() {
-        return Ok(cells);
+        return Ok(());
     }
-    let mut cells = cells;
-    let mut numbered = Vec::with_capacity(alloc, 3)?;
-    numbered.push(number_cell(alloc, block, NUMBER_BEFORE)?)?;
-    numbered.append(&mut cells)?;
-    numbered.push(number_cell(alloc, block, NUMBER_BEHIND)?)?;
-    Ok(numbered)
+    cells.reserve(2)?;
+    cells.insert(0, number_cell(alloc, block, NUMBER_BEFORE)?)?;
+    cells.push(number_cell(alloc, block, NUMBER_BEHIND)?)?;
+    Ok(())
 }
 
-/// The rows of a block, with its written number.
-fn with_number(alloc: Global, block: &Block, rows: Vec<LineRow>) -> Result<Vec<LineRow>, AllocError>
-    ensures { IfOk result (λ numbered. numbered.items ≡ with_number block.now rows.items) }
+/// Puts a written number into the first of the rows.
+fn number_rows(alloc: Global, block: &Block, rows: &mut Vec<Row>) -> Result<(), AllocError>
+    ensures { OnOk result (rows.new.items ≡ with_number block.now rows.old.items) }
 {
-    let mut numbered = Vec::with_capacity(alloc, rows.len())?;
-    for row in rows {
-        if numbered.is_empty() {
-            numbered.push(numbered_row(alloc, block, row)?)?;
-        } else {
-            numbered.push(row)?;
-        }
+    if rows.is_empty() {
+        return Ok(());
     }
-    Ok(numbered)
+    let row = &mut rows[0];
+    number_cells(alloc, block, &mut row.cells)
 }
 
-fn numbered_row(alloc: Global, block: &Block, row: LineRow) -> Result<LineRow, AllocError>
-    ensures { IfOk result (λ r. r ≡ record row { cells = numbered_cells block.now row.cells }) }
+/// The empty rows before a row with so many rows of its element before it, by the lead of its line.
+fn lead_at(lead: u8, index: u32, own: u8) -> u8
+    ensures { result ≡ lead_at lead index own }
 {
-    Ok(LineRow {
-        cells: numbered_cells(alloc, block, row.cells)?,
-        line: row.line,
-        row: row.row,
-        mark: row.mark,
-        kind: row.kind,
-        opens: row.opens,
-        sentence_end: row.sentence_end,
-    })
+    if index == 0 { lead } else { own }
 }
 
-/// The empty rows before a row with so many rows of its element before it.
-fn lead_at(lead: u8, index: u32, row: &LineRow) -> u8
-    ensures { result ≡ lead_at lead index row.now }
+/// Tells a row how many rows of its element stand before it and behind it.
+fn shape_row(row: &mut Row, lead: u8, index: u32, rest: u32)
+    ensures { row.new ≡ shaped_row lead index rest row.old }
 {
-    if index == 0 {
-        return lead;
-    }
-    if row.opens { 1 } else { 0 }
+    row.shape.lead = lead_at(lead, index, row.shape.lead);
+    row.shape.index = index;
+    row.shape.rest = rest;
 }
 
-/// A row with so many rows of its element before it and behind it.
-fn shaped_row(lead: u8, index: u32, rest: u32, row: LineRow) -> Row
-    ensures { result ≡ shaped_row lead index rest row }
+/// Tells the rows of an element their places in it.
+fn shape_rows(rows: &mut [Row], lead: u8)
+    requires { length rows.old < 2 ^ 32 }
+    ensures { rows.new ≡ shaped_rows lead 0 rows.old }
 {
-    Row {
-        shape: Shape {
-            lead: lead_at(lead, index, &row),
-            kind: row.kind,
-            index,
-            rest,
-            sentence_end: row.sentence_end,
-        },
-        line: row.line,
-        row: row.row,
-        mark: row.mark,
-        cells: row.cells,
-    }
-}
-
-/// The rows of an element, each with how many stand before it and behind it.
-fn shaped_rows(alloc: Global, lead: u8, rows: Vec<LineRow>) -> Result<Vec<Row>, AllocError>
-    requires { vec_len rows < 2 ^ 32 }
-    ensures { IfOk result (λ shaped. shaped.items ≡ shaped_rows lead 0 rows.items) }
-{
-    let mut shaped = Vec::with_capacity(alloc, rows.len())?;
     let mut rest = rows.len() as u32;
     let mut index = 0;
-    for row in rows {
+    for row in rows.iter_mut() {
         rest -= 1;
-        shaped.push(shaped_row(lead, index, rest, row))?;
+        shape_row(row, lead, index, rest);
         index += 1;
     }
-    Ok(shaped)
 }
 
-/// The rows of a block by itself (docs/RULES.md, "Elements"). `first` is the place of its stanza's first line, from which
-/// the rows and cells count their lines. The block lies in the lines, as those that `read_stanza` gives there do. The
-/// error is want of memory alone.
-pub fn single_rows(
+fn is_title(kind: Kind) -> bool
+    ensures { result ≡ is_title kind }
+{
+    matches!(kind, Kind::Title)
+}
+
+/// Shows a row of a title page to page ends as the middle of one element.
+fn title_row(row: &mut Row)
+    ensures { row.new ≡ title_row row.old }
+{
+    row.shape = Shape {
+        lead: row.shape.lead,
+        kind: RowKind::Action,
+        index: 1,
+        rest: 0,
+        sentence_end: false,
+    };
+}
+
+fn title_rows(rows: &mut [Row])
+    ensures { rows.new ≡ map title_row rows.old }
+{
+    for row in rows.iter_mut() {
+        title_row(row);
+    }
+}
+
+/// The rows of a block by itself, with its written number.
+fn block_alone(
     alloc: Global,
     lines: &Lines,
     first: usize,
     block: &Block,
 ) -> Result<Vec<Row>, AllocError>
     requires { BlockLies (line_texts lines.now.lines) first block.now }
-    ensures { IfOk result (λ rows. rows.items ≡ single_rows lines.now.lines first block.now) }
+    ensures { IfOk result (λ rows. rows.items ≡ block_alone lines.now.lines first block.now) }
+{
+    let mut rows = block_rows(alloc, lines, first, 0, Side::Alone, block)?;
+    number_rows(alloc, block, &mut rows)?;
+    shape_rows(&mut rows, first_lead(block.kind));
+    Ok(rows)
+}
+
+/// The rows of a block by itself (docs/RULES.md, "Elements"), in order. `first` is the place of its stanza's first line,
+/// from which the rows and cells count their lines. Where a speech is `continued`, its first row has `(CONT'D)` behind
+/// its first cell, the cue. The rows of a title page are laid out as they are cut. The block lies in the lines, as those
+/// that `read_stanza` gives there do. The error is want of memory alone.
+pub fn single_rows(
+    alloc: Global,
+    lines: &Lines,
+    first: usize,
+    block: &Block,
+    continued: bool,
+) -> Result<Vec<Row>, AllocError>
+    requires { BlockLies (line_texts lines.now.lines) first block.now }
+    ensures { IfOk result (λ rows. rows.items ≡ single_rows lines.now.lines first block.now continued) }
 {
     if !has_rows(block.kind) {
         return Ok(Vec::new(alloc));
     }
-    let rows = block_rows(alloc, lines, first, 0, Side::Alone, block)?;
-    let numbered = with_number(alloc, block, rows)?;
-    shaped_rows(alloc, first_lead(block.kind), numbered)
-}
-
-/// A row of dual dialogue with one half.
-fn half_row(row: LineRow) -> LineRow
-    ensures { result ≡ half_row row }
-{
-    LineRow {
-        kind: RowKind::Dual,
-        opens: false,
-        sentence_end: false,
-        line: row.line,
-        row: row.row,
-        mark: row.mark,
-        cells: row.cells,
+    let mut rows = block_alone(alloc, lines, first, block)?;
+    if is_title(block.kind) {
+        title_rows(&mut rows);
+        return Ok(rows);
     }
-}
-
-/// A row of dual dialogue with both halves.
-fn joined_row(left: LineRow, right: LineRow) -> Result<LineRow, AllocError>
-    ensures { IfOk result (λ row. row ≡ joined_row left right) }
-{
-    let mut row = half_row(left);
-    let mut right = right;
-    row.mark = row.mark.max(right.mark);
-    row.cells.append(&mut right.cells)?;
-    Ok(row)
-}
-
-/// The rows of both halves, side by side.
-fn joined_rows(
-    alloc: Global,
-    left: Vec<LineRow>,
-    right: Vec<LineRow>,
-) -> Result<Vec<LineRow>, AllocError>
-    ensures rows { IfOk result (λ rows. rows.items ≡ joined_rows left.items right.items) }
-    ensures few { IfOk result (λ rows. length rows.items ≤ length left.items + length right.items) }
-{
-    let mut rows = Vec::new(alloc);
-    let mut others = right.into_iter();
-    for row in left {
-        match others.next() {
-            Some(other) => rows.push(joined_row(row, other)?)?,
-            None => rows.push(half_row(row))?,
-        }
-    }
-    for row in others {
-        rows.push(half_row(row))?;
-    }
+    tell_speakers(alloc, lines, first, &[continued], &mut rows)?;
     Ok(rows)
 }
 
-/// The rows of two speeches as dual dialogue (docs/RULES.md, "Elements"): the block of the stanza that begins at the line
-/// `first` on the left, from which the rows and cells count their lines, and `second` of the one that begins at
-/// `second_first`, no earlier line, on the right. Both lie in the lines, as those that `read_stanza` gives there do. The error is want of
-/// memory alone.
-pub fn dual_rows(
+/// Makes a row one of dual dialogue, with one half.
+fn half_row(row: &mut Row)
+    ensures { row.new ≡ half_row row.old }
+{
+    row.shape.lead = 0;
+    row.shape.kind = RowKind::Dual;
+    row.shape.sentence_end = false;
+}
+
+/// Makes a row one of dual dialogue, with the other half where there is one.
+fn join_row(row: &mut Row, other: Row) -> Result<(), AllocError>
+    ensures { OnOk result (row.new ≡ joined_row row.old other) }
+{
+    let mut other = other;
+    half_row(row);
+    row.mark = row.mark.max(other.mark);
+    row.cells.append(&mut other.cells)?;
+    Ok(())
+}
+
+/// Puts the rows of a right half beside those of a left one.
+fn join_rows(rows: &mut Vec<Row>, right: Vec<Row>) -> Result<(), AllocError>
+    ensures rows { OnOk result (rows.new.items ≡ joined_rows rows.old.items right.items) }
+    ensures few { OnOk result (length rows.new.items ≤ length rows.old.items + length right.items) }
+{
+    let mut others = right.into_iter();
+    for row in rows.iter_mut() {
+        match others.next() {
+            Some(other) => join_row(row, other)?,
+            None => half_row(row),
+        }
+    }
+    for other in others {
+        let mut row = other;
+        half_row(&mut row);
+        rows.push(row)?;
+    }
+    Ok(())
+}
+
+/// The rows of two speeches side by side.
+fn blocks_beside(
     alloc: Global,
     lines: &Lines,
     first: usize,
@@ -218,10 +219,43 @@ pub fn dual_rows(
     requires left { BlockLies (line_texts lines.now.lines) first block.now }
     requires right { BlockLies (line_texts lines.now.lines) second_first second.now }
     requires order { first ≤ second_first }
-    ensures { IfOk result (λ rows. rows.items ≡ dual_rows lines.now.lines first block.now second_first second.now) }
+    ensures { IfOk result (λ rows. rows.items ≡ blocks_beside lines.now.lines first block.now second_first second.now) }
 {
     let shift = (second_first - first) as u32;
-    let left = block_rows(alloc, lines, first, 0, Side::Left, block)?;
+    let mut rows = block_rows(alloc, lines, first, 0, Side::Left, block)?;
     let right = block_rows(alloc, lines, second_first, shift, Side::Right, second)?;
-    shaped_rows(alloc, 1, joined_rows(alloc, left, right)?)
+    join_rows(&mut rows, right)?;
+    shape_rows(&mut rows, 1);
+    Ok(rows)
+}
+
+/// The rows of two speeches as dual dialogue (docs/RULES.md, "Elements"), in order: the block of the stanza that begins
+/// at the line `first` on the left, from which the rows and cells count their lines, and `second` of the one that begins
+/// at `second_first`, no earlier line, on the right. Where a speech is continued, `(CONT'D)` stands behind its cue: behind
+/// the left one by `continued`, behind the right one by `second_continued`. Both blocks lie in the lines, as those that
+/// `read_stanza` gives there do. The error is want of memory alone.
+pub fn dual_rows(
+    alloc: Global,
+    lines: &Lines,
+    first: usize,
+    block: &Block,
+    continued: bool,
+    second_first: usize,
+    second: &Block,
+    second_continued: bool,
+) -> Result<Vec<Row>, AllocError>
+    requires left { BlockLies (line_texts lines.now.lines) first block.now }
+    requires right { BlockLies (line_texts lines.now.lines) second_first second.now }
+    requires order { first ≤ second_first }
+    ensures { IfOk result (λ rows. rows.items ≡ dual_rows lines.now.lines first block.now continued second_first second.now second_continued) }
+{
+    let mut rows = blocks_beside(alloc, lines, first, block, second_first, second)?;
+    tell_speakers(
+        alloc,
+        lines,
+        first,
+        &[continued, second_continued],
+        &mut rows,
+    )?;
+    Ok(rows)
 }

@@ -5,11 +5,13 @@ mod columns;
 mod elements;
 mod lines;
 mod sentences;
+mod speakers;
 mod values;
 
+pub use columns::width_of;
 pub use elements::{dual_rows, single_rows};
 pub use spec_pages::{RowKind, Shape};
-pub use values::{Cell, Row};
+pub use values::{Cell, Element, Row};
 
 #[cfg(test)]
 mod tests;

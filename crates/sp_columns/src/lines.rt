@@ -1,22 +1,66 @@
-//! The rows of lines, side by side with nothing.
+//! The rows of a block's lines, before their places in their element are known.
 ghost use Rattle.std.specs.Prelude.{◌≡◌, ◌+◌, ◌*◌, ◌^◌, ◌<◌, ◌≤◌, ◌++◌, length, IfOk, OnOk};
-ghost use Rattle.std.specs.List.{flat_map};
 ghost use Rattle.spec_text.specs.Limits.{line_count_limit};
 ghost use Rattle.spec_text.specs.Lines.{line_texts};
 ghost use Rattle.spec_script.specs.BlockParts.{BlockLies, LineLies};
 ghost use Rattle.spec_script.specs.Runs.{RunParts};
 ghost use Rattle.spec_pages.specs.Pages.{is_dialogue};
-ghost use Rattle.spec_pages.specs.Rows.{block_rows, line_row, line_rows, text_rows};
+ghost use Rattle.spec_pages.specs.Rows.{block_rows, line_context, line_row, own_lead, text_rows};
 
 use crate::columns::{column_of, row_kind, width_of};
 use crate::sentences::ends_sentence;
-use crate::values::{Cell, LineRow};
+use crate::values::{Cell, Row};
 use sp_blocks::{Block, BlockLine};
 use sp_measure::{WrapRow, wrap};
 use sp_text::Lines;
-use spec_pages::{RowKind, Side};
+use spec_pages::{RowKind, Shape, Side};
 use spec_script::Kind;
 use std::alloc::{AllocError, Global};
+use std::marker::Model;
+
+/// What the rows of a line have in common: the side and the kind of its block, the line's mark and text, and how many
+/// lines behind the element's first the block's stanza begins.
+#[derive(Drop)]
+struct LineContext<'a> {
+    side: Side,
+    kind: Kind,
+    mark: u8,
+    text: &'a str,
+    shift: u32,
+}
+
+impl<'a> Model for LineContext<'a> {
+    ghost use Rattle.spec_pages.specs.Rows.{LineContext as LineContextValue};
+
+    ghost Value = { LineContextValue };
+
+    ghost view = { λ c. record { side = c.side; kind = c.kind; mark = c.mark; text = c.text.now; shift = c.shift } };
+}
+
+/// The context of a line of a block whose stanza begins at the line `first`.
+fn line_context<'a>(
+    lines: &'a Lines,
+    first: usize,
+    shift: u32,
+    side: Side,
+    kind: Kind,
+    line: &BlockLine,
+) -> LineContext<'a>
+    requires lies { LineLies (line_texts lines.now.lines) first line.now }
+    requires low { length lines.now.lines ≤ line_count_limit }
+    ensures context { result ≡ line_context lines.now.lines first shift side kind line.now }
+    ensures short { length result.text ≤ 4096 }
+    ensures parts { RunParts result.text line.now.runs }
+{
+    let view = lines.line(first + line.offset as usize);
+    LineContext {
+        side,
+        kind,
+        mark: view.mark,
+        text: view.text,
+        shift,
+    }
+}
 
 fn is_dialogue(kind: RowKind) -> bool
     ensures { result ≡ is_dialogue kind }
@@ -24,87 +68,71 @@ fn is_dialogue(kind: RowKind) -> bool
     matches!(kind, RowKind::Dialogue)
 }
 
-/// The row with this number of a line of a block, by the line's mark and text.
+/// The lead of a row of a line by itself.
+fn own_lead(line: &BlockLine, number: u32) -> u8
+    ensures { result ≡ own_lead line.now number }
+{
+    if line.opens && number == 0 { 1 } else { 0 }
+}
+
+/// The row with this number of a line of a block.
 fn line_row(
     alloc: Global,
-    side: Side,
-    kind: Kind,
-    mark: u8,
-    text: &str,
-    shift: u32,
+    context: &LineContext<'_>,
     line: &BlockLine,
     number: u32,
     row: WrapRow,
-) -> Result<LineRow, AllocError>
-    requires fits { shift + line.now.offset < 2 ^ 32 }
-    requires parts { RunParts text.now row.runs }
-    ensures { IfOk result (λ r. r ≡ line_row side kind mark text.now shift line.now number row) }
+) -> Result<Row, AllocError>
+    requires fits { context.now.shift + line.now.offset < 2 ^ 32 }
+    requires parts { RunParts context.now.text row.runs }
+    ensures { IfOk result (λ r. r ≡ line_row context.now line.now number row) }
 {
-    let place = shift + line.offset;
-    let row_kind = row_kind(kind, line.part);
-    let sentence_end = is_dialogue(row_kind) && ends_sentence(text, &row.runs);
+    let place = context.shift + line.offset;
+    let kind = row_kind(context.kind, line.part);
+    let sentence_end = is_dialogue(kind) && ends_sentence(context.text, &row.runs);
     let mut cells = Vec::with_capacity(alloc, 1)?;
     cells.push(Cell {
-        column: column_of(side, kind, line.part, row.width),
+        column: column_of(context.side, context.kind, line.part, row.width),
         line: place,
         runs: row.runs,
+        fixed: false,
+        number: false,
     })?;
-    Ok(LineRow {
+    Ok(Row {
         line: place,
         row: number,
-        mark,
-        kind: row_kind,
-        opens: line.opens && number == 0,
-        sentence_end,
+        mark: context.mark,
+        shape: Shape {
+            lead: own_lead(line, number),
+            kind,
+            index: 0,
+            rest: 0,
+            sentence_end,
+        },
         cells,
     })
 }
 
-/// Adds the rows of a line of a block, by the line's mark and text.
-fn add_text_rows(
-    rows: &mut Vec<LineRow>,
+/// Adds the rows of a line of a block.
+fn add_rows(
     alloc: Global,
-    side: Side,
-    kind: Kind,
-    mark: u8,
-    text: &str,
-    shift: u32,
+    rows: &mut Vec<Row>,
+    context: &LineContext<'_>,
     line: &BlockLine,
 ) -> Result<(), AllocError>
-    requires short { length text.now ≤ 4096 }
-    requires parts { RunParts text.now line.now.runs }
-    requires fits { shift + line.now.offset < 2 ^ 32 }
-    ensures items { OnOk result (rows.new.items ≡ rows.old.items ++ text_rows side kind mark text.now shift line.now) }
+    requires short { length context.now.text ≤ 4096 }
+    requires parts { RunParts context.now.text line.now.runs }
+    requires fits { context.now.shift + line.now.offset < 2 ^ 32 }
+    ensures items { OnOk result (rows.new.items ≡ rows.old.items ++ text_rows context.now line.now) }
     ensures few { OnOk result (length rows.new.items ≤ length rows.old.items + 4096) }
 {
-    let wrapped = wrap(alloc, text, &line.runs, width_of(side, kind, line.part))?;
+    let width = width_of(context.side, context.kind, line.part);
     let mut number = 0;
-    for row in wrapped {
-        rows.push(line_row(alloc, side, kind, mark, text, shift, line, number, row)?)?;
+    for row in wrap(alloc, context.text, &line.runs, width)? {
+        rows.push(line_row(alloc, context, line, number, row)?)?;
         number += 1;
     }
     Ok(())
-}
-
-/// Adds the rows of a line of a block whose stanza begins at the line `first`, `shift` lines behind the element's first.
-fn add_line_rows(
-    rows: &mut Vec<LineRow>,
-    alloc: Global,
-    lines: &Lines,
-    first: usize,
-    shift: u32,
-    side: Side,
-    kind: Kind,
-    line: &BlockLine,
-) -> Result<(), AllocError>
-    requires lies { LineLies (line_texts lines.now.lines) first line.now }
-    requires low { length lines.now.lines ≤ line_count_limit }
-    requires shift { shift ≤ first }
-    ensures items { OnOk result (rows.new.items ≡ rows.old.items ++ line_rows lines.now.lines first shift side kind line.now) }
-    ensures few { OnOk result (length rows.new.items ≤ length rows.old.items + 4096) }
-{
-    let view = lines.line(first + line.offset as usize);
-    add_text_rows(rows, alloc, side, kind, view.mark, view.text, shift, line)
 }
 
 /// The rows of a block whose stanza begins at the line `first`, `shift` lines behind the element's first.
@@ -115,17 +143,16 @@ pub fn block_rows(
     shift: u32,
     side: Side,
     block: &Block,
-) -> Result<Vec<LineRow>, AllocError>
+) -> Result<Vec<Row>, AllocError>
     requires lies { BlockLies (line_texts lines.now.lines) first block.now }
     requires shift { shift ≤ first }
     ensures rows { IfOk result (λ rows. rows.items ≡ block_rows lines.now.lines first shift side block.now) }
     ensures few { IfOk result (λ rows. length rows.items ≤ 4096 * line_count_limit) }
 {
-    let mut rows = Vec::new(alloc);
+    let mut rows = Vec::with_capacity(alloc, block.lines.len())?;
     for line in &block.lines {
-        add_line_rows(
-            &mut rows, alloc, lines, first, shift, side, block.kind, line,
-        )?;
+        let context = line_context(lines, first, shift, side, block.kind, line);
+        add_rows(alloc, &mut rows, &context, line)?;
     }
     Ok(rows)
 }

@@ -1,15 +1,19 @@
-//! Rows and their cells.
-use spec_pages::{RowKind, Shape};
+//! Rows, their cells, and elements.
+use spec_pages::Shape;
 use spec_script::Run;
 use std::marker::Model;
 
-/// A cell: the column that it begins at, its line, counted from the element's first, and the parts of the line that it
-/// shows, by places of bytes.
+/// A cell (docs/RULES.md, "Elements"): the column that it begins at, its line, counted from the element's first, and the parts
+/// of the line that it shows, by places of bytes.
 #[derive(Drop)]
 pub struct Cell {
     pub column: u32,
     pub line: u32,
     pub runs: Vec<Run>,
+    /// The cell has no runs and the text `(CONT'D)`.
+    pub fixed: bool,
+    /// The cell is a heading's written number.
+    pub number: bool,
 }
 
 impl Model for Cell {
@@ -17,7 +21,7 @@ impl Model for Cell {
 
     ghost Value = { CellValue };
 
-    ghost view = { λ c. record { column = c.column; line = c.line; runs = c.runs.items } };
+    ghost view = { λ c. record { column = c.column; line = c.line; runs = c.runs.items; fixed = c.fixed; number = c.number } };
 }
 
 /// A row of an element. Its key is a line, counted from the element's first, and the number of the row in that line.
@@ -28,6 +32,7 @@ pub struct Row {
     /// The round in which the line was last changed; in dual dialogue the later one of its two lines.
     pub mark: u8,
     pub shape: Shape,
+    /// In order of their columns.
     pub cells: Vec<Cell>,
 }
 
@@ -39,22 +44,17 @@ impl Model for Row {
     ghost view = { λ r. record { line = r.line; row = r.row; mark = r.mark; shape = r.shape; cells = r.cells.items } };
 }
 
-/// A row before its place in its element is known. A new key of a title page has a lead of its own.
+/// An element laid out: its rows, and the place of the line from which they count their lines.
 #[derive(Drop)]
-pub struct LineRow {
-    pub line: u32,
-    pub row: u32,
-    pub mark: u8,
-    pub kind: RowKind,
-    pub opens: bool,
-    pub sentence_end: bool,
-    pub cells: Vec<Cell>,
+pub struct Element {
+    pub first: u64,
+    pub rows: Vec<Row>,
 }
 
-impl Model for LineRow {
-    ghost use Rattle.spec_pages.specs.Rows.{LineRow as LineRowValue};
+impl Model for Element {
+    ghost use Rattle.spec_pages.specs.Rows.{ElementOf};
 
-    ghost Value = { LineRowValue };
+    ghost Value = { ElementOf };
 
-    ghost view = { λ r. record { line = r.line; row = r.row; mark = r.mark; kind = r.kind; opens = r.opens; sentence_end = r.sentence_end; cells = r.cells.items } };
+    ghost view = { λ e. record { first = e.first; rows = e.rows.items } };
 }

@@ -5,8 +5,8 @@ mod ends;
 mod rows;
 
 pub use ends::fill;
-pub use rows::{height, legal};
-pub use spec_pages::{RowKind, Shape};
+pub use rows::{continues_speech, goes_on, height, is_speech, legal};
+pub use spec_pages::{Paper, RowKind, Shape};
 
 #[cfg(test)]
 mod tests;

@@ -5,12 +5,14 @@ mod fault;
 mod insertion;
 mod label;
 mod reading;
+mod width;
 mod writing;
 
 pub use fault::LockFault;
 pub use insertion::between;
 pub use label::{Label, compare};
 pub use reading::parse;
+pub use width::columns;
 pub use writing::write;
 
 #[cfg(test)]

@@ -12,14 +12,14 @@ pub(crate) const STEP_LETTERS: &[u8; 24] = b"ABCDEFGHJKLMNPQRSTUVWXYZ";
 /// Writes a label (docs/RULES.md, "Labels"). `Failed` comes only where the sink's count of faults rose in this call, and
 /// then the sink took a prefix. Takes no memory.
 pub fn write<O: Sink>(label: &Label, sink: &mut O) -> Result<(), Failed>
-    ensures { Writes O.taken O.faults sink.old sink.new (label_text label.now) result }
+    ensures { Writes (O.state sink.old) (O.state sink.new) (label_text label.now) result }
 {
     write_number(sink, label.number)?;
     write_steps(sink, &label.path)
 }
 
 fn write_steps<O: Sink>(sink: &mut O, path: &[u32]) -> Result<(), Failed>
-    ensures { Writes O.taken O.faults sink.old sink.new (flat_map step_text path.now) result }
+    ensures { Writes (O.state sink.old) (O.state sink.new) (flat_map step_text path.now) result }
 {
     for step in path {
         write_step(sink, *step)?;
@@ -28,7 +28,7 @@ fn write_steps<O: Sink>(sink: &mut O, path: &[u32]) -> Result<(), Failed>
 }
 
 fn write_step<O: Sink>(sink: &mut O, step: u32) -> Result<(), Failed>
-    ensures { Writes O.taken O.faults sink.old sink.new (step_text step) result }
+    ensures { Writes (O.state sink.old) (O.state sink.new) (step_text step) result }
 {
     match step {
         0 => write_whole(sink, b"."),
@@ -39,7 +39,7 @@ fn write_step<O: Sink>(sink: &mut O, step: u32) -> Result<(), Failed>
 
 /// Writes a step in brackets.
 fn write_far_step<O: Sink>(sink: &mut O, step: u32) -> Result<(), Failed>
-    ensures { Writes O.taken O.faults sink.old sink.new (codes "(" ++ decimal step ++ codes ")") result }
+    ensures { Writes (O.state sink.old) (O.state sink.new) (codes "(" ++ decimal step ++ codes ")") result }
 {
     write_whole(sink, b"(")?;
     write_number(sink, step)?;
@@ -48,7 +48,7 @@ fn write_far_step<O: Sink>(sink: &mut O, step: u32) -> Result<(), Failed>
 
 /// Writes a number in decimal.
 fn write_number<O: Sink>(sink: &mut O, number: u32) -> Result<(), Failed>
-    ensures { Writes O.taken O.faults sink.old sink.new (decimal number) result }
+    ensures { Writes (O.state sink.old) (O.state sink.new) (decimal number) result }
 {
     let mut digits = Buffer::new();
     write_whole(sink, digits.format(number).as_bytes())

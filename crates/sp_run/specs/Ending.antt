@@ -2,21 +2,18 @@
 use Rattle.std.specs.Prelude.{◌≡◌, ℕ, ◌≤◌, ◌⊎◌, List, length, string_bytes, Option, Some, None, Ok, Err}
 use Rattle.std.specs.declared.result.Result.{Result}
 use Rattle.std.specs.Io.KnownBytes.{Appends, Consumes, Keeps}
-use Rattle.spec_text.specs.Lines.{TextState}
-use Rattle.spec_desk.specs.Printing.{Printing, too_long, no_utf8, long_line, printed, printing_of, sheets_bytes}
+use Rattle.spec_text.specs.Lines.{line_texts, read_lines}
+use Rattle.spec_state.specs.State.{opened_state}
+use Rattle.spec_state.specs.Printing.{Printing, too_long, no_utf8, long_line, printed, printed_state, printing_of}
 use Rattle.sp_kit.specs.Causes.{Rose}
-use Rattle.sp_kit.specs.Files.{Files}
-use Rattle.sp_kit.specs.Outside.{AppendsPrefix}
+use Rattle.sp_kit.specs.Files.{ShelfState}
+use Rattle.sp_kit.specs.Outside.{SourceState, SinkState, AppendsPrefix}
+use Rattle.sp_text.specs.Gap.{LinesState}
 use Rattle.sp_text.specs.declared.fault.TextFault.TheVariants as faults
 use Rattle.sp_run.specs.declared.status.Status.{Status}
 use Rattle.sp_run.specs.declared.status.Status.TheVariants as statuses
 use Rattle.sp_run.specs.Forms.{Asked}
-use Rattle.sp_run.specs.Opening.{SourceState, ShelfState, source_state, shelf_state, HadScript, HadTooLong, HadNoFile, SourceFailed, ShelfFailed, FailedNothing}
-
--- A sink: the bytes that it took, where they are known, and its count of faults.
-pub record SinkState : Type 0 where
-  pub taken : Option (List ℕ)
-  pub faults : ℕ
+use Rattle.sp_run.specs.Opening.{HadScript, HadTooLong, HadNoFile, SourceFailed, ShelfFailed, FailedNothing}
 
 -- What is outside.
 pub record Outside : Type 0 where
@@ -127,19 +124,20 @@ AnswersFile name (Some script) status = Answers (printing_of script) status
 abbrev pub ReadsUpTo : Option (List ℕ) → Option (List ℕ) → ℕ → Type 0
 ReadsUpTo old new most = (bytes : List ℕ) × Consumes old new bytes × (length bytes ≤ most)
 
+-- A script with these lines is printed: they were just read, and its sheets are those of the state that opening it gives.
+pub record HasLines (fate : Printing) (text : LinesState) : Type 0 where
+  pub becomes : fate ≡ printed (printed_state (opened_state (line_texts text.lines)))
+  pub read : text.lines ≡ read_lines (line_texts text.lines)
+  pub next : text.next ≡ length text.lines
+
 -- The lines of a script that is printed, or the status that refuses it.
-abbrev pub IsReadable : Printing → Result TextState Status → Type 0
-IsReadable fate (Ok text) = fate ≡ printed (sheets_bytes text.lines)
+abbrev pub IsReadable : Printing → Result LinesState Status → Type 0
+IsReadable fate (Ok text) = HasLines fate text
 IsReadable fate (Err status) = Refuses fate status
 
--- What is outside, by the meanings of the source, the sink and the shelf.
-abbrev pub outside : {I O F : Type 0} → (I → Option (List ℕ)) → (I → ℕ) → (O → Option (List ℕ)) → (O → ℕ) → (F → Option Files) → (F → ℕ) → I → O → F → Outside
-outside left read_faults taken write_faults files shelf_faults input output shelf =
-    record {
-      source = source_state left read_faults input;
-      sink = record { taken = taken output; faults = write_faults output };
-      shelf = shelf_state files shelf_faults shelf;
-    }
+-- What is outside, by what can be told of the source, the sink and the shelf.
+abbrev pub outside : SourceState → SinkState → ShelfState → Outside
+outside source sink shelf = record { source = source; sink = sink; shelf = shelf }
 
 -- The status is that of a run that didn't do all it was asked for.
 abbrev pub NotDone : Status → Type 0

@@ -1,10 +1,3 @@
 pub mod RecordLabels
 pub mod LinePlaces
 pub mod NewLabels
-pub mod Labels
-pub mod Falls
-pub mod RecordsOf
-pub mod LockedRecords
-pub mod Distinct
-pub mod OneOrder
-pub mod ExtendedRecords

@@ -1,7 +1,5 @@
 -- What extending records answers (docs/RULES.md, "Scene numbers").
-use Rattle.std.specs.Prelude.{◌≡◌, ◌<◌, ◌≤◌, Bool, List, length, Result, Ok, Err}
-use Rattle.std.specs.Ordering.{is_lt}
-use Rattle.spec_labels.specs.Labels.{label_cmp}
+use Rattle.std.specs.Prelude.{◌≡◌, ◌<◌, ◌≤◌, List, length, Result, Ok, Err}
 use Rattle.spec_labels.specs.Scenes.{HeadingOf, SceneRecordOf, scene_record_limit, extended_records}
 use Rattle.sp_labels.specs.declared.fault.LockFault.{LockFault}
 use Rattle.sp_labels.specs.declared.fault.LockFault.TheVariants.{RecordsFull, NoMemory}
@@ -11,7 +9,3 @@ abbrev pub IsExtension : List SceneRecordOf → List HeadingOf → List SceneRec
 IsExtension old headings new (Ok _) = (length (extended_records old headings) ≤ scene_record_limit) × (new ≡ extended_records old headings)
 IsExtension old headings new (Err RecordsFull) = (scene_record_limit < length (extended_records old headings)) × (new ≡ old)
 IsExtension old headings new (Err NoMemory) = new ≡ old
-
--- A record's label is below that of another.
-abbrev pub is_before : SceneRecordOf → SceneRecordOf → Bool
-is_before one other = is_lt (label_cmp one.label other.label)

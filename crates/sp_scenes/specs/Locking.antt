@@ -1,5 +1,5 @@
 -- What locking scenes answers (docs/RULES.md, "Scene numbers").
-use Rattle.std.specs.Prelude.{◌≡◌, ℕ, ◌+◌, ◌<◌, ◌≤◌, List, length, All, Some, None, Result, Ok, Err, Vec}
+use Rattle.std.specs.Prelude.{◌≡◌, ◌<◌, ◌≤◌, List, length, Some, None, Result, Ok, Err, Vec}
 use Rattle.std.specs.Global.{Global}
 use Rattle.spec_labels.specs.Scenes.{HeadingOf, SceneRecordOf, scene_record_limit, unlockable_place, disordered_place, locked_records}
 use Rattle.sp_scenes.specs.declared.fault.SceneFault.{SceneFault}
@@ -23,7 +23,3 @@ IsRefused headings NoMemory = Unit {0}
 abbrev pub IsLocking : List HeadingOf → Result (Vec SceneRecordOf Global) SceneFault → Type 0
 IsLocking headings (Ok records) = AreLocked headings records.items
 IsLocking headings (Err fault) = IsRefused headings fault
-
--- The numbers of records pass this limit by no more than there are records.
-pub record AreWithin (limit : ℕ) (records : List SceneRecordOf) : Type 0 where
-  pub low : All (λ (it : SceneRecordOf). it.label.number ≤ limit + length records) records

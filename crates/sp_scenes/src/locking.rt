@@ -1,6 +1,6 @@
 ghost use Rattle.std.specs.Prelude.{◌≡◌, ◌<◌, length, IfOk, IfSome};
-ghost use Rattle.spec_labels.specs.Scenes.{AreHeadings, AreSceneRecords, disordered_place, first_fall, is_unlockable, records_of, scene_number_limit, unlockable_place, unlocked_labels};
-ghost use Rattle.sp_scenes.specs.Locking.{AreWithin, IsLocking};
+ghost use Rattle.spec_labels.specs.Scenes.{AreHeadings, AreSceneRecords, AreWithin, disordered_place, first_fall, is_unlockable, records_of, scene_number_limit, unlockable_place, unlocked_labels};
+ghost use Rattle.sp_scenes.specs.Locking.{IsLocking};
 
 use crate::fault::SceneFault;
 use crate::heading::{HeadingAt, SceneRecord};

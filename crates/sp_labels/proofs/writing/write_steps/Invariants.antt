@@ -7,4 +7,4 @@ use Rattle.sp_labels.proofs.writing.write_steps.Given as goal
 
 abbrev pub invariant-loop-step : goal.invariant-loop-step
 invariant-loop-step g l =
-    Writes {T = Unit {0}} {E = Failed} g.O.Sink.taken g.O.Sink.faults l.fn.sink l.sink (flat_map step_text (take l.step-index l.path)) (Ok tt)
+    Writes {T = Unit {0}} {E = Failed} (g.O.Sink.state l.fn.sink) (g.O.Sink.state l.sink) (flat_map step_text (take l.step-index l.path)) (Ok tt)

@@ -1,13 +1,27 @@
-use Rattle.std.proofs.Common.{◌≡◌, ℕ, List, ap, sym, ◌∙◌}
-use Rattle.spec_text.specs.Lines.{TextState, LineState, reading_of}
-use Rattle.spec_desk.specs.Printing.{printed, printing_of, printing_of_reading, sheets_bytes}
+use Rattle.std.proofs.Common.{◌≡◌, ℕ, ◌+◌, List, [], ◌∷◌, length, ap, sym, ◌∙◌, refl}
+use Rattle.std.proofs.lemmas.List.{length-map}
+use Rattle.spec_text.specs.Lines.{LineState, reading_of, lines_from, read_lines, line_texts}
+use Rattle.spec_state.specs.State.{opened_state}
+use Rattle.spec_state.specs.Printing.{printed, printed_state, printing_of, printing_of_reading}
+use Rattle.sp_text.specs.Gap.{LinesState}
 use Rattle.sp_text.specs.Reading.{IsRead}
+use Rattle.sp_run.specs.Ending.{HasLines}
 use Rattle.sp_run.proofs.print.read_lines.Goals as goal
 
+-- The texts of lines that were read.
+texts-from : (id : ℕ) (texts : List (List ℕ)) → line_texts (lines_from id texts) ≡ texts
+texts-from id [] = refl
+texts-from id (text ∷ texts) = ap (λ (ts : List (List ℕ)). text ∷ ts) (texts-from (id + 1) texts)
+
 -- What becomes of a script that was read, by its lines.
-printing-read : (script : List ℕ) (text : TextState) → IsRead (reading_of script) text → printing_of script ≡ printed (sheets_bytes text.lines)
-printing-read script text read =
-    ap printing_of_reading read.came_to ∙ ap (λ (ls : List LineState). printed (sheets_bytes ls)) (sym read.lines_are)
+lines-read : (script : List ℕ) (text : LinesState) → IsRead (reading_of script) text → HasLines (printing_of script) text
+lines-read script text read =
+    let same : line_texts text.lines ≡ read.texts = ap line_texts read.lines_are ∙ texts-from 0 read.texts in
+    record {
+      becomes = ap printing_of_reading read.came_to ∙ ap (λ (ts : List (List ℕ)). printed (printed_state (opened_state ts))) (sym same);
+      read = read.lines_are ∙ ap read_lines (sym same);
+      next = read.next_is ∙ sym (ap length same) ∙ length-map text.lines (λ (line : LineState). line.text);
+    }
 
 pub returns : goal.returns
-returns c = printing-read c.args.script.now c.in_ok-read.field-0 c.in_ok-read.ensures
+returns c = lines-read c.args.script.now c.in_ok-read.field-0 c.in_ok-read.ensures

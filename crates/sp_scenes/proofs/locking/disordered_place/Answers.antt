@@ -1,8 +1,8 @@
 use Rattle.std.proofs.Common.{◌≡◌, ◌<◌, length, ap, sym, ◌∙◌, arith}
 use Rattle.std.specs.Prelude.{Some}
 use Rattle.spec_labels.specs.Scenes.{HeadingOf, first_fall, unlocked_labels}
-use Rattle.sp_scenes.proofs.Falls.{disordered_place-at, disordered_place-none}
-use Rattle.sp_scenes.proofs.Labels.{length-unlocked_labels}
+use Rattle.spec_labels.proofs.Falls.{disordered_place-at, disordered_place-none}
+use Rattle.spec_labels.proofs.HeadingLabels.{length-unlocked_labels}
 use Rattle.sp_scenes.proofs.locking.disordered_place.Goals as goal
 
 pub bounds-headings-place : goal.bounds-headings-place

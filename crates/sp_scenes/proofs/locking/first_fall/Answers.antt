@@ -1,7 +1,7 @@
 use Rattle.std.proofs.Common.{◌≡◌, true, false, is_lt, arith}
 use Rattle.std.proofs.lemmas.Grind.{common_steps}
 use Rattle.spec_labels.specs.Labels.{label_cmp}
-use Rattle.sp_scenes.proofs.Falls.{StandAt, Rises-none, Rises-more, Rises-falls, Rises-all}
+use Rattle.spec_labels.proofs.Falls.{StandAt, Rises-none, Rises-more, Rises-falls, Rises-all}
 use Rattle.sp_scenes.proofs.locking.first_fall.Goals as goal
 
 pub loop-before-init : goal.loop-before-init

@@ -1,7 +1,7 @@
 use Rattle.std.proofs.Common.{◌≡◌, List, ap, sym, ◌∙◌, subst}
 use Rattle.spec_labels.specs.Scenes.{SceneRecordOf, AreSceneRecords, locked_records, records_of}
-use Rattle.sp_scenes.specs.Locking.{AreWithin}
-use Rattle.sp_scenes.proofs.LockedRecords.{locked_records-kept, locked_records-within}
+use Rattle.spec_labels.specs.Scenes.{AreWithin}
+use Rattle.spec_labels.proofs.LockedRecords.{locked_records-kept, locked_records-within}
 use Rattle.sp_scenes.proofs.locking.lock_scenes.Goals as goal
 
 pub returns-clause-records : goal.returns-clause-records

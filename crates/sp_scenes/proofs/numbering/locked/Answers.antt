@@ -6,7 +6,7 @@ use Rattle.spec_labels.specs.Labels.{LabelOf, IsLabel}
 use Rattle.spec_labels.specs.Scenes.{HeadingOf, line_place}
 use Rattle.sp_labels.specs.declared.label.Label.{Label}
 use Rattle.sp_scenes.proofs.NewLabels.{Labelled-none, Labelled-waiting, Labelled-recorded, Labelled-all}
-use Rattle.sp_scenes.proofs.Labels.{locked_labels-IsLabel, length-locked_labels}
+use Rattle.spec_labels.proofs.HeadingLabels.{locked_labels-IsLabel, length-locked_labels}
 use Rattle.sp_scenes.proofs.numbering.locked.Goals as goal
 use Rattle.sp_scenes.proofs.numbering.locked.Goals.{in-Some+in_ok-push_recorded-in-Some, in-None}
 

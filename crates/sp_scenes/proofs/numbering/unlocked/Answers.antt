@@ -2,7 +2,7 @@ use Rattle.std.proofs.Common.{List, length, ap, ◌∙◌, sym, subst, arith}
 use Rattle.std.specs.Prelude.{All}
 use Rattle.std.proofs.lemmas.Grind.{common_steps}
 use Rattle.spec_labels.specs.Labels.{LabelOf, IsLabel}
-use Rattle.sp_scenes.proofs.Labels.{unlocked_labels-IsLabel, length-unlocked_labels}
+use Rattle.spec_labels.proofs.HeadingLabels.{unlocked_labels-IsLabel, length-unlocked_labels}
 use Rattle.sp_scenes.proofs.numbering.unlocked.Goals as goal
 
 pub returns-clause-numbers : goal.returns-clause-numbers

@@ -1,0 +1,12 @@
+use Rattle.std.proofs.Common.{List, sym, subst}
+use Rattle.std.specs.Prelude.{All}
+use Rattle.spec_pages.specs.CellParts.{RowLies}
+use Rattle.spec_pages.specs.Rows.{Row}
+use Rattle.spec_pages.proofs.CellLaws.{blocks_beside-lies}
+use Rattle.sp_columns.proofs.elements.dual_rows.Goals as goal
+
+pub tell_speakers-requires : goal.tell_speakers-requires
+tell_speakers-requires c =
+    let lines = c.args.lines.now.lines in
+    subst (λ (rows : List Row). All (RowLies lines c.args.first) rows) (sym c.in_ok-rows.ensures)
+    (blocks_beside-lies lines c.args.first c.args.block.now c.args.second_first c.args.second.now c.requires.left c.requires.right c.requires.order)

@@ -1,0 +1,8 @@
+mod Blocks
+mod BodyLaws
+mod Elements
+mod LastRows
+mod LastSpeakers
+mod LayoutAhead
+mod Places
+mod TextLayout

@@ -1,0 +1,4 @@
+pub mod Speaking
+pub mod Places
+pub mod Bodies
+pub mod LaidOut

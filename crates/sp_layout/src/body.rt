@@ -1,0 +1,302 @@
+//! Elements one behind the other, and what is asked of their rows.
+ghost use Rattle.std.specs.Prelude.{◌≡◌, ℕ, ◌+◌, ◌<◌, ◌≤◌, ◌++◌, List, length, map, take, slice_range, vec_len, vec_capacity, Option, All, OnOk, OnErr};
+ghost use Rattle.spec_text.specs.Limits.{line_count_limit};
+ghost use Rattle.spec_text.specs.Lines.{LineState};
+ghost use Rattle.spec_pages.specs.Pages.{is_heading};
+ghost use Rattle.spec_pages.specs.Rows.{Row as RowValue, placed_rows, shifted_row};
+ghost use Rattle.spec_labels.specs.Labels.{LabelOf};
+ghost use Rattle.spec_layout.specs.Layout.{placed_in};
+ghost use Rattle.spec_layout.specs.Shown.{heading_count, is_heading_element, labels_past, row_key, shown_rows};
+ghost use Rattle.sp_layout.specs.Bodies.{IsHeadingAt, IsPageOf, StandsIn, headings_of, marks_in, no_elements, row_count, shapes_in, with_element};
+
+use crate::page::Page;
+use crate::search::{count_below, last_start};
+use sp_columns::{Element, Row};
+use sp_text::Lines;
+use spec_labels::RowKey;
+use spec_pages::{RowKind, Shape};
+use std::alloc::{AllocError, Global};
+use std::marker::Model;
+
+/// Whether the element is a heading.
+fn is_heading_element(element: &Element) -> bool
+    ensures { result ≡ is_heading_element element.now }
+{
+    match element.rows.first() {
+        Some(row) => matches!(row.shape.kind, RowKind::Heading) && row.shape.index == 0,
+        None => false,
+    }
+}
+
+/// How many headings the element is: one, or none.
+fn headings_of(element: &Element) -> usize
+    ensures value { result ≡ headings_of element.now }
+    ensures few { result ≤ 1 }
+{
+    if is_heading_element(element) { 1 } else { 0 }
+}
+
+/// Elements in the order of a text (docs/RULES.md, "Elements"): those of its title page, or those of its body. Beside the
+/// elements it keeps what page ends see of each row, each row's mark and its key, by the id of its line, and how many rows
+/// and headings stand before each element.
+#[derive(Drop)]
+pub struct Body {
+    elements: Vec<Element>,
+    shapes: Vec<Shape>,
+    marks: Vec<u8>,
+    keys: Vec<RowKey>,
+    row_starts: Vec<usize>,
+    heading_starts: Vec<usize>,
+    headings: usize,
+}
+
+impl Model for Body {
+    ghost use Rattle.sp_layout.specs.Bodies.{BodyOf, IsBody};
+
+    ghost Value = { BodyOf };
+
+    ghost view = { λ b. record { elements = b.elements.items; keys = b.keys.items } };
+
+    ghost invariant = { λ b. IsBody (record {
+      elements = b.elements.items;
+      shapes = b.shapes.items;
+      marks = b.marks.items;
+      keys = b.keys.items;
+      row_starts = b.row_starts.items;
+      heading_starts = b.heading_starts.items;
+      headings = b.headings;
+    }) };
+}
+
+/// Makes room for so many rows.
+fn reserve_rows(
+    shapes: &mut Vec<Shape>,
+    marks: &mut Vec<u8>,
+    keys: &mut Vec<RowKey>,
+    count: usize,
+) -> Result<(), AllocError>
+    ensures shapes { shapes.new.items ≡ shapes.old.items }
+    ensures marks { marks.new.items ≡ marks.old.items }
+    ensures keys { keys.new.items ≡ keys.old.items }
+    ensures room { OnOk result ((vec_len shapes.new + count ≤ vec_capacity shapes.new) × (vec_len marks.new + count ≤ vec_capacity marks.new) × (vec_len keys.new + count ≤ vec_capacity keys.new)) }
+{
+    shapes.reserve(count)?;
+    marks.reserve(count)?;
+    keys.reserve(count)
+}
+
+/// Makes room for one more element.
+fn reserve_element(
+    elements: &mut Vec<Element>,
+    row_starts: &mut Vec<usize>,
+    heading_starts: &mut Vec<usize>,
+) -> Result<(), AllocError>
+    ensures elements { elements.new.items ≡ elements.old.items }
+    ensures row_starts { row_starts.new.items ≡ row_starts.old.items }
+    ensures heading_starts { heading_starts.new.items ≡ heading_starts.old.items }
+    ensures room { OnOk result ((vec_len elements.new < vec_capacity elements.new) × (vec_len row_starts.new < vec_capacity row_starts.new) × (vec_len heading_starts.new < vec_capacity heading_starts.new)) }
+{
+    elements.reserve(1)?;
+    row_starts.reserve(1)?;
+    heading_starts.reserve(1)
+}
+
+/// The key of a row of an element that begins at a line.
+fn row_key(lines: &Lines, first: u64, row: &Row) -> RowKey
+    requires low { length lines.now.lines ≤ line_count_limit }
+    requires inside { first + row.now.line < length lines.now.lines }
+    ensures { result ≡ row_key lines.now.lines (shifted_row first row.now) }
+{
+    let place = first + row.line as u64;
+    RowKey {
+        line: lines.line(place as usize).id,
+        row: row.row,
+    }
+}
+
+/// Adds what is asked of rows, where there is room.
+fn add_rows(
+    shapes: &mut Vec<Shape>,
+    marks: &mut Vec<u8>,
+    keys: &mut Vec<RowKey>,
+    lines: &Lines,
+    element: &Element,
+)
+    requires low { length lines.now.lines ≤ line_count_limit }
+    requires inside { All (λ (row : RowValue). element.now.first + row.line < length lines.now.lines) element.now.rows }
+    requires shapes { vec_len shapes.old + length element.now.rows ≤ vec_capacity shapes.old }
+    requires marks { vec_len marks.old + length element.now.rows ≤ vec_capacity marks.old }
+    requires keys { vec_len keys.old + length element.now.rows ≤ vec_capacity keys.old }
+    ensures shapes { shapes.new.items ≡ shapes.old.items ++ map (λ (row : RowValue). row.shape) (placed_rows element.now) }
+    ensures marks { marks.new.items ≡ marks.old.items ++ map (λ (row : RowValue). row.mark) (placed_rows element.now) }
+    ensures keys { keys.new.items ≡ keys.old.items ++ map (row_key lines.now.lines) (placed_rows element.now) }
+{
+    for row in &element.rows {
+        shapes.push_reserved(row.shape);
+        marks.push_reserved(row.mark);
+        keys.push_reserved(row_key(lines, element.first, row));
+    }
+}
+
+/// The elements from one place to before another.
+fn part_of(elements: &[Element], from: usize, to: usize) -> &[Element]
+    requires order { from ≤ to }
+    requires within { to ≤ length elements.now }
+    ensures { result.now ≡ slice_range elements.now from to }
+{
+    &elements[from..to]
+}
+
+impl Body {
+    /// Without elements.
+    pub fn new(alloc: Global) -> Body
+        ensures { result ≡ no_elements }
+    {
+        Body {
+            elements: Vec::new(alloc),
+            shapes: Vec::new(alloc),
+            marks: Vec::new(alloc),
+            keys: Vec::new(alloc),
+            row_starts: Vec::new(alloc),
+            heading_starts: Vec::new(alloc),
+            headings: 0,
+        }
+    }
+
+    /// Adds an element, whose rows are of these lines. It may have no rows. Where there is no memory, nothing changes.
+    pub fn push(&mut self, lines: &Lines, element: Element) -> Result<(), AllocError>
+        requires low { length lines.now.lines ≤ line_count_limit }
+        requires inside { All (λ (row : RowValue). element.first + row.line < length lines.now.lines) element.rows }
+        ensures ok { OnOk result (self.new ≡ with_element lines.now.lines self.old element) }
+        ensures err { OnErr result (self.new ≡ self.old) }
+    {
+        reserve_rows(
+            &mut self.shapes,
+            &mut self.marks,
+            &mut self.keys,
+            element.rows.len(),
+        )?;
+        reserve_element(
+            &mut self.elements,
+            &mut self.row_starts,
+            &mut self.heading_starts,
+        )?;
+        self.row_starts.push_reserved(self.shapes.len());
+        self.heading_starts.push_reserved(self.headings);
+        self.headings += headings_of(&element);
+        add_rows(
+            &mut self.shapes,
+            &mut self.marks,
+            &mut self.keys,
+            lines,
+            &element,
+        );
+        self.elements.push_reserved(element);
+        Ok(())
+    }
+
+    /// How many rows there are.
+    pub fn rows(&self) -> usize
+        ensures { result ≡ row_count self.now.elements }
+    {
+        self.shapes.len()
+    }
+
+    /// How many headings there are.
+    pub fn headings(&self) -> usize
+        ensures { result ≡ heading_count self.now.elements }
+    {
+        self.headings
+    }
+
+    /// What page ends see of each row.
+    pub fn shapes(&self) -> &[Shape]
+        ensures { result.now ≡ shapes_in self.now.elements }
+    {
+        &self.shapes
+    }
+
+    /// The mark of each row.
+    pub fn marks(&self) -> &[u8]
+        ensures { result.now ≡ marks_in self.now.elements }
+    {
+        &self.marks
+    }
+
+    /// The key of each row, by the id of its line.
+    pub fn keys(&self) -> &[RowKey]
+        ensures keys { result.now ≡ self.now.keys }
+        ensures len { length result.now ≡ row_count self.now.elements }
+    {
+        &self.keys
+    }
+
+    /// The elements, those without rows among them.
+    pub fn elements(&self) -> &[Element]
+        ensures { result.now ≡ self.now.elements }
+    {
+        &self.elements
+    }
+
+    /// The row before which an element begins: how many rows stand before it.
+    pub fn row_start(&self, element: usize) -> usize
+        requires { element < length self.now.elements }
+        ensures { result ≡ row_count (take element self.now.elements) }
+    {
+        self.row_starts[element]
+    }
+
+    /// How many headings stand before an element.
+    pub fn heading_start(&self, element: usize) -> usize
+        requires { element < length self.now.elements }
+        ensures { result ≡ heading_count (take element self.now.elements) }
+    {
+        self.heading_starts[element]
+    }
+
+    /// The element in which a row stands.
+    pub fn element_of_row(&self, row: usize) -> usize
+        requires { row < row_count self.now.elements }
+        ensures { StandsIn self.now.elements row result }
+    {
+        last_start(&self.row_starts, row)
+    }
+
+    /// The element that is the heading with so many headings before it.
+    pub fn element_of_heading(&self, heading: usize) -> usize
+        requires { heading < heading_count self.now.elements }
+        ensures { IsHeadingAt self.now.elements heading result }
+    {
+        last_start(&self.heading_starts, heading)
+    }
+
+    /// The elements that the rows from one to before another stand in.
+    fn page_part(&self, from: usize, to: usize) -> Page<'_>
+        requires order { from < to }
+        requires within { to ≤ row_count self.now.elements }
+        ensures { IsPageOf self.now.elements from to result }
+    {
+        let first = self.element_of_row(from);
+        let end = count_below(&self.row_starts, to);
+        let start = self.row_start(first);
+        let headings = self.heading_start(first);
+        Page {
+            elements: part_of(&self.elements, first, end),
+            from: from - start,
+            to: to - start,
+            headings,
+        }
+    }
+
+    /// The elements that the rows from one to before another stand in, as those of a page. What these rows show is told by
+    /// these elements, by the lines of the text, and by the labels of headings without those of the headings before.
+    pub fn page(&self, from: usize, to: usize) -> Page<'_>
+        requires order { from < to }
+        requires within { to ≤ row_count self.now.elements }
+        ensures part { IsPageOf self.now.elements from to result }
+        ensures shows { (lines : List LineState) (labels : Option (List LabelOf)) → slice_range (shown_rows lines labels self.now.elements) from to
+            ≡ slice_range (shown_rows lines (labels_past result.headings labels) result.elements) result.from result.to }
+    {
+        self.page_part(from, to)
+    }
+}

@@ -1,0 +1,50 @@
+//! The blocks of a text, lent by its stanzas.
+ghost use Rattle.std.specs.Prelude.{◌≡◌, ◌++◌, map, IfOk, OnOk};
+ghost use Rattle.spec_script.specs.Elements.{placed_at};
+ghost use Rattle.spec_script.specs.Stanzas.{blocks_from};
+
+use sp_blocks::{Block, Stanza};
+use sp_reread::Stanzas;
+use std::alloc::{AllocError, Global};
+use std::marker::Model;
+
+/// A block (docs/RULES.md, "Blocks"), and the place of the first line of its stanza.
+#[derive(Drop)]
+pub struct PlacedBlock<'a> {
+    pub first: usize,
+    pub block: &'a Block,
+}
+
+impl<'a> Model for PlacedBlock<'a> {
+    ghost use Rattle.spec_script.specs.Stanzas.{PlacedBlock as PlacedBlockValue};
+
+    ghost Value = { PlacedBlockValue };
+
+    ghost view = { λ b. record { first = b.first; block = b.block.now } };
+}
+
+/// Adds the blocks of the stanza that begins at a place.
+fn add_stanza<'a>(
+    placed: &mut Vec<PlacedBlock<'a>>,
+    first: usize,
+    stanza: &'a Stanza,
+) -> Result<(), AllocError>
+    ensures { OnOk result (placed.new.items ≡ placed.old.items ++ map (placed_at first) stanza.now.blocks) }
+{
+    for block in &stanza.blocks {
+        placed.push(PlacedBlock { first, block })?;
+    }
+    Ok(())
+}
+
+/// The blocks of stanzas in order, each with the place at which its stanza begins (docs/RULES.md, "Stanzas"). The error is
+/// want of memory alone.
+pub fn placed_blocks(alloc: Global, stanzas: &Stanzas) -> Result<Vec<PlacedBlock<'_>>, AllocError>
+    ensures { IfOk result (λ placed. placed.items ≡ blocks_from 0 stanzas.now.stanzas) }
+{
+    let mut placed = Vec::new(alloc);
+    for i in 0..stanzas.len() {
+        add_stanza(&mut placed, stanzas.first(i), stanzas.stanza(i))?;
+    }
+    Ok(placed)
+}

@@ -1,0 +1,21 @@
+//! Look-ups in lists of places that never fall.
+ghost use Rattle.std.specs.Prelude.{◌<◌, ◌≤◌, length, slice_index, AllPairs};
+ghost use Rattle.sp_layout.specs.Places.{CountsBelow, IsLastStart};
+
+/// How many of the places are below the bound. Each step halves the places that are left.
+pub fn count_below(places: &[usize], bound: usize) -> usize
+    requires { AllPairs (λ one other. one ≤ other) places.now }
+    ensures { CountsBelow places.now bound result }
+{
+    places.partition_point(|place| *place < bound)
+}
+
+/// The last of what begins at or before a place, by the places where each begins, the first at or before it.
+pub fn last_start(starts: &[usize], place: usize) -> usize
+    requires rise { AllPairs (λ one other. one ≤ other) starts.now }
+    requires some { 0 < length starts.now }
+    requires first { slice_index starts.now 0 ≤ place }
+    ensures { IsLastStart starts.now place result }
+{
+    starts.partition_point(|start| *start <= place) - 1
+}

@@ -1,0 +1,249 @@
+//! Which speakers go on.
+ghost use Rattle.std.specs.Prelude.{◌≡◌, ◌+◌, ◌≤◌, ◌&&◌, length, nat_eq, string_bytes, option_map, All, IfOk, OnOk};
+ghost use Rattle.std.specs.List.{ends_with};
+ghost use Rattle.spec_text.specs.Limits.{line_count_limit};
+ghost use Rattle.spec_text.specs.Lines.{line_texts};
+ghost use Rattle.spec_script.specs.BlockParts.{LineLies};
+ghost use Rattle.spec_script.specs.Elements.{PlacedLies, is_speech_kind};
+ghost use Rattle.spec_script.specs.Runs.{RunParts};
+ghost use Rattle.spec_layout.specs.Cells.{continued};
+ghost use Rattle.spec_layout.specs.Speakers.{block_text, cue_ends_continued, cue_text, is_last_speaker, last_row_continued, name_in, named_block, settled, shown_text, speaker_after};
+ghost use Rattle.sp_layout.specs.Speaking.{last_speaker, speakers_after, speakers_before, speakers_behind};
+
+use crate::placed::PlacedBlock;
+use sp_blocks::{BlockLine, Kind};
+use sp_clean::letters::ends;
+use sp_clean::spaces::trim;
+use sp_columns::width_of;
+use sp_measure::{WrapRow, wrap};
+use sp_text::Lines;
+use spec_pages::Side;
+use spec_script::Run;
+use std::alloc::{AllocError, Global};
+use std::marker::Model;
+
+/// The text that runs show.
+fn shown_text(alloc: Global, text: &str, runs: &[Run]) -> Result<String, AllocError>
+    requires { RunParts text.now runs.now }
+    ensures { IfOk result (λ shown. string_bytes shown ≡ shown_text text.now runs.now) }
+{
+    let mut shown = String::new(alloc);
+    for run in runs {
+        shown.push_str(&text[run.from as usize..run.to as usize])?;
+    }
+    Ok(shown)
+}
+
+/// The text of a line of a block.
+fn block_text<'a>(lines: &'a Lines, first: usize, line: &BlockLine) -> &'a str
+    requires lies { LineLies (line_texts lines.now.lines) first line.now }
+    requires low { length lines.now.lines ≤ line_count_limit }
+    ensures text { result.now ≡ block_text (line_texts lines.now.lines) first line.now }
+    ensures short { length result.now ≤ 4096 }
+{
+    lines.line(first + line.offset as usize).text
+}
+
+/// The visible text of a speech's cue, which is the first of its lines.
+fn cue_text(alloc: Global, lines: &Lines, placed: &PlacedBlock<'_>) -> Result<String, AllocError>
+    requires { PlacedLies (line_texts lines.now.lines) placed.now }
+    ensures { IfOk result (λ cue. string_bytes cue ≡ cue_text (line_texts lines.now.lines) placed.now) }
+{
+    let block = placed.block;
+    match block.lines.first() {
+        Some(cue) => shown_text(alloc, block_text(lines, placed.first, cue), &cue.runs),
+        None => Ok(String::new(alloc)),
+    }
+}
+
+/// The name in a cue: where that ends in `)`, what stands before its first `(`, without spaces at its ends.
+fn name_in(cue: &str) -> &str
+    ensures { result.now ≡ name_in cue.now }
+{
+    if !ends(cue, b')') {
+        return cue;
+    }
+    match cue.split_once('(') {
+        Some((name, _)) => trim(name),
+        None => trim(cue),
+    }
+}
+
+/// The name of the one who speaks in a speech that lies in the lines (docs/RULES.md, "Elements"). The error is want of
+/// memory alone.
+pub fn speaker_name(
+    alloc: Global,
+    lines: &Lines,
+    speech: &PlacedBlock<'_>,
+) -> Result<String, AllocError>
+    requires { PlacedLies (line_texts lines.now.lines) speech.now }
+    ensures { IfOk result (λ name. string_bytes name ≡ name_in (cue_text (line_texts lines.now.lines) speech.now)) }
+{
+    let cue = cue_text(alloc, lines, speech)?;
+    String::from_str(alloc, name_in(&cue))
+}
+
+/// Whether a name isn't empty and is that of the last speaker.
+fn is_last_speaker(last: &Option<String>, name: &str) -> bool
+    ensures { result ≡ is_last_speaker (option_map string_bytes last.now) name.now }
+{
+    match last {
+        Some(last) => !name.is_empty() && last.as_str() == name,
+        None => false,
+    }
+}
+
+/// Passes a block, and tells whether its speaker is the one who spoke last.
+fn pass_block(
+    alloc: Global,
+    last: &mut Option<String>,
+    lines: &Lines,
+    placed: &PlacedBlock<'_>,
+) -> Result<bool, AllocError>
+    requires { PlacedLies (line_texts lines.now.lines) placed.now }
+    ensures same { IfOk result (λ same. same ≡ is_speech_kind placed.now.block.kind && is_last_speaker (option_map string_bytes last.old) (name_in (cue_text (line_texts lines.now.lines) placed.now))) }
+    ensures last { OnOk result (option_map string_bytes last.new ≡ speaker_after (line_texts lines.now.lines) (option_map string_bytes last.old) placed.now) }
+{
+    let block = placed.block;
+    match block.kind {
+        Kind::Heading => {
+            *last = None;
+            Ok(false)
+        }
+        Kind::Speech => {
+            let name = speaker_name(alloc, lines, placed)?;
+            let same = is_last_speaker(last, &name);
+            *last = Some(name);
+            Ok(same)
+        }
+        _ => Ok(false),
+    }
+}
+
+/// Whether what runs show of a text ends in `(CONT'D)`.
+fn ends_continued(alloc: Global, text: &str, runs: &[Run]) -> Result<bool, AllocError>
+    requires { RunParts text.now runs.now }
+    ensures { IfOk result (λ ends. ends ≡ ends_with nat_eq (shown_text text.now runs.now) continued) }
+{
+    let shown = shown_text(alloc, text, runs)?;
+    Ok(shown.as_bytes().ends_with(b"(CONT'D)".as_slice()))
+}
+
+/// Whether the last of a line's rows ends so.
+fn last_row_continued(alloc: Global, text: &str, rows: &[WrapRow]) -> Result<bool, AllocError>
+    requires { All (λ row. RunParts text.now row.runs) rows.now }
+    ensures { IfOk result (λ ends. ends ≡ last_row_continued text.now rows.now) }
+{
+    match rows.last() {
+        Some(row) => ends_continued(alloc, text, &row.runs),
+        None => Ok(false),
+    }
+}
+
+/// Whether the last row of a speech's cue, at its side, ends so.
+fn cue_ends_continued(
+    alloc: Global,
+    lines: &Lines,
+    side: Side,
+    placed: &PlacedBlock<'_>,
+) -> Result<bool, AllocError>
+    requires { PlacedLies (line_texts lines.now.lines) placed.now }
+    ensures { IfOk result (λ ends. ends ≡ cue_ends_continued (line_texts lines.now.lines) side placed.now) }
+{
+    let block = placed.block;
+    match block.lines.first() {
+        Some(cue) => {
+            let text = block_text(lines, placed.first, cue);
+            let width = width_of(side, block.kind, cue.part);
+            let rows = wrap(alloc, text, &cue.runs, width)?;
+            last_row_continued(alloc, text, &rows)
+        }
+        None => Ok(false),
+    }
+}
+
+/// Who spoke last in blocks: in the last speech, unless a heading stands behind it.
+fn last_speaker(
+    alloc: Global,
+    lines: &Lines,
+    blocks: &[PlacedBlock<'_>],
+) -> Result<Option<String>, AllocError>
+    requires { All (PlacedLies (line_texts lines.now.lines)) blocks.now }
+    ensures { IfOk result (λ last. option_map string_bytes last ≡ last_speaker (line_texts lines.now.lines) blocks.now) }
+{
+    let mut count = blocks.len();
+    while count > 0 {
+        count -= 1;
+        let placed = &blocks[count];
+        let block = placed.block;
+        match block.kind {
+            Kind::Heading => return Ok(None),
+            Kind::Speech => return Ok(Some(speaker_name(alloc, lines, placed)?)),
+            _ => {}
+        }
+    }
+    Ok(None)
+}
+
+/// Who spoke last before a place of a text (docs/RULES.md, "Elements"). Where speakers who go on aren't told, nobody is
+/// remembered.
+#[derive(Drop)]
+pub struct Speakers {
+    on: bool,
+    last: Option<String>,
+}
+
+impl Model for Speakers {
+    ghost use Rattle.std.specs.Prelude.{option_map, string_bytes};
+    ghost use Rattle.sp_layout.specs.Speaking.{SpeakersOf};
+
+    ghost Value = { SpeakersOf };
+
+    ghost view = { λ s. record { on = s.on; last = option_map string_bytes s.last } };
+}
+
+impl Speakers {
+    /// At the beginning of a text, by whether speakers who go on are told.
+    pub fn new(on: bool) -> Speakers
+        ensures { result ≡ speakers_before on }
+    {
+        Speakers { on, last: None }
+    }
+
+    /// Behind blocks of a text, from its first one on, that lie in the lines, by whether speakers who go on are told. Only the
+    /// last speech is read. The error is want of memory alone.
+    pub fn behind(
+        alloc: Global,
+        lines: &Lines,
+        blocks: &[PlacedBlock<'_>],
+        on: bool,
+    ) -> Result<Speakers, AllocError>
+        requires { All (PlacedLies (line_texts lines.now.lines)) blocks.now }
+        ensures { IfOk result (λ speakers. speakers ≡ speakers_after (line_texts lines.now.lines) on blocks.now) }
+    {
+        let last = if on {
+            last_speaker(alloc, lines, blocks)?
+        } else {
+            None
+        };
+        Ok(Speakers { on, last })
+    }
+
+    /// Passes a block that lies in the lines, and tells whether its speaker goes on, where it stands at this side.
+    pub(crate) fn pass(
+        &mut self,
+        alloc: Global,
+        lines: &Lines,
+        side: Side,
+        placed: &PlacedBlock<'_>,
+    ) -> Result<bool, AllocError>
+        requires { PlacedLies (line_texts lines.now.lines) placed.now }
+        ensures goes_on { IfOk result (λ goes_on. goes_on ≡ (settled lines.now.lines side (named_block self.old.on (line_texts lines.now.lines) self.old.last placed.now)).continued) }
+        ensures behind { OnOk result (self.new ≡ speakers_behind (line_texts lines.now.lines) self.old placed.now) }
+    {
+        if !self.on || !pass_block(alloc, &mut self.last, lines, placed)? {
+            return Ok(false);
+        }
+        Ok(!cue_ends_continued(alloc, lines, side, placed)?)
+    }
+}

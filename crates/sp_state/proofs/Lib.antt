@@ -1,0 +1,6 @@
+mod Sorting
+mod MarkedLaws
+mod HeadingMade
+mod PageRows
+mod SheetPlaces
+mod MadeLaws

@@ -1,0 +1,71 @@
+-- What an edit displaced, and the states that it leads to (docs/RULES.md, "The desk").
+use Rattle.std.specs.Prelude.{◌≡◌, ◌≢◌, ◌+◌, ◌<◌, ◌≤◌, List, length, All, AllPairs, Option, option_map, IfSome}
+use Rattle.spec_text.specs.Lines.{TextState, IsText}
+use Rattle.spec_text.specs.Edits.{Displacement, restored}
+use Rattle.spec_text.specs.Ranges.{RangeOf}
+use Rattle.spec_labels.specs.declared.Moved.{Moved}
+use Rattle.spec_labels.specs.PageRecords.{PageRecordOf, put_back_records}
+use Rattle.spec_state.specs.State.{State, text_of}
+use Rattle.sp_text.specs.DisplacedLines.{DisplacedState, displaced_of}
+
+-- What an edit displaced: lines, the anchors of page records that it carried, and the rounds of those that it raised. Carrying comes
+-- first, so it is undone last.
+pub record EntryState : Type 0 where
+  pub lines : DisplacedState
+  pub moved : List Moved
+  pub raised : List Moved
+
+abbrev pub displaced : EntryState → Displacement
+displaced entry = displaced_of entry.lines
+
+abbrev pub undone_records : EntryState → List PageRecordOf → List PageRecordOf
+undone_records entry records = put_back_records entry.moved (put_back_records entry.raised records)
+
+abbrev pub redone_records : EntryState → List PageRecordOf → List PageRecordOf
+redone_records entry records = put_back_records entry.raised (put_back_records entry.moved records)
+
+-- A state with other lines and page records.
+abbrev pub with_text : State → TextState → Option (List PageRecordOf) → State
+with_text state text pages = record state { lines = text.lines; next = text.next; pages = pages }
+
+-- The state that undoing an entry, or redoing it, leads to.
+abbrev pub undone_state : State → EntryState → State
+undone_state state entry = with_text state (restored (text_of state) (displaced entry)) (option_map (undone_records entry) state.pages)
+
+abbrev pub redone_state : State → EntryState → State
+redone_state state entry = with_text state (restored (text_of state) (displaced entry)) (option_map (redone_records entry) state.pages)
+
+-- The range of the edit whose entry this is, where it can be undone, or redone.
+abbrev pub done_range : EntryState → RangeOf
+done_range entry = record { first = entry.lines.first; old = length entry.lines.lines; new = entry.lines.stands }
+
+abbrev pub undone_range : EntryState → RangeOf
+undone_range entry = record { first = entry.lines.first; old = entry.lines.stands; new = length entry.lines.lines }
+
+-- Anchors and rounds are kept for records that are there, one for each at most.
+pub record FitRecords (moved : List Moved) (records : List PageRecordOf) : Type 0 where
+  pub within : All (λ (it : Moved). it.index < length records) moved
+  pub distinct : AllPairs (λ (one other : Moved). one.index ≢ other.index) moved
+
+-- The lines can be put back, and so can two lists of anchors and rounds, one after the other.
+pub record CanRestore (state : State) (entry : EntryState) (first second : List Moved) : Type 0 where
+  pub place : entry.lines.first + entry.lines.stands ≤ length state.lines
+  pub text : IsText (restored (text_of state) (displaced entry))
+  pub first_fits : IfSome state.pages (FitRecords first)
+  pub second_fits : IfSome state.pages (λ records. FitRecords second (put_back_records first records))
+
+abbrev pub CanUndo : State → EntryState → Type 0
+CanUndo state entry = CanRestore state entry entry.raised entry.moved
+
+abbrev pub CanRedo : State → EntryState → Type 0
+CanRedo state entry = CanRestore state entry entry.moved entry.raised
+
+-- The entry of an edit that led from one state to another: it can be undone, and that leads back.
+pub record LeadsBack (before after : State) (entry : EntryState) : Type 0 where
+  pub can : CanUndo after entry
+  pub back : undone_state after entry ≡ before
+
+-- The entry that undoing left: it can be redone, and that leads forth.
+pub record LeadsForth (before after : State) (entry : EntryState) : Type 0 where
+  pub can : CanRedo after entry
+  pub forth : redone_state after entry ≡ before

@@ -1,0 +1,5 @@
+pub mod Numbered
+pub mod Entries
+pub mod Numbers
+pub mod Made
+pub mod Places

@@ -1,0 +1,22 @@
+-- The sheets of pages that aren't locked, by the marks of rows alone.
+use Rattle.std.specs.Prelude.{ℕ, ◌+◌, max, false, List, [], ◌∷◌, length, fold, slice_range, slice_index_or}
+use Rattle.spec_labels.specs.Labels.{plain_label}
+use Rattle.spec_labels.specs.PageRecords.{SheetOf}
+use Rattle.spec_layout.specs.Shown.{Shown}
+
+abbrev pub mark_of : Shown → ℕ
+mark_of it = it.mark
+
+abbrev pub marked_sheet : List ℕ → ℕ → ℕ → ℕ → SheetOf
+marked_sheet marks number start end = record {
+  first = plain_label number;
+  last = plain_label number;
+  start = start;
+  end = end;
+  round = fold max 0 (slice_range marks start end);
+  omitted = false;
+}
+
+abbrev pub marked_sheets : List ℕ → ℕ → List ℕ → List SheetOf
+marked_sheets marks number [] = []
+marked_sheets marks number (page ∷ later) = marked_sheet marks number page (slice_index_or later 0 (length marks)) ∷ marked_sheets marks (number + 1) later

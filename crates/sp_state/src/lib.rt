@@ -1,0 +1,14 @@
+//! A script: a state with what is made of it, its layout, its pages and its sheets; and the entries of edits, by which they
+//! are undone and redone.
+#![tactic(auto)]
+
+mod entry;
+mod headings;
+mod made;
+mod numbered;
+mod script;
+mod stops;
+mod views;
+
+pub use entry::{Entry, Unturned, redo_entry, undo_entry};
+pub use script::Script;
