@@ -4,3 +4,5 @@ mod HeadingMade
 mod PageRows
 mod SheetPlaces
 mod MadeLaws
+pub mod EntryLaws
+mod EditedScripts

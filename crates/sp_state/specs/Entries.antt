@@ -1,12 +1,13 @@
 -- What an edit displaced, and the states that it leads to (docs/RULES.md, "The desk").
-use Rattle.std.specs.Prelude.{◌≡◌, ◌≢◌, ◌+◌, ◌<◌, ◌≤◌, List, length, All, AllPairs, Option, option_map, IfSome}
+use Rattle.std.specs.Prelude.{◌≡◌, ◌≢◌, ◌+◌, ◌-◌, ◌<◌, ◌≤◌, List, length, map, All, AllPairs, Option, Some, None, option_map, IfSome}
 use Rattle.spec_text.specs.Lines.{TextState, IsText}
-use Rattle.spec_text.specs.Edits.{Displacement, restored}
+use Rattle.spec_text.specs.Edits.{Displacement, restored, displaced_again}
 use Rattle.spec_text.specs.Ranges.{RangeOf}
 use Rattle.spec_labels.specs.declared.Moved.{Moved}
-use Rattle.spec_labels.specs.PageRecords.{PageRecordOf, put_back_records}
+use Rattle.spec_labels.specs.PageRecords.{PageRecordOf, put_back_records, taken_back}
 use Rattle.spec_state.specs.State.{State, text_of}
 use Rattle.sp_text.specs.DisplacedLines.{DisplacedState, displaced_of}
+use Rattle.sp_text.specs.Gap.{LinesState}
 
 -- What an edit displaced: lines, the anchors of page records that it carried, and the rounds of those that it raised. Carrying comes
 -- first, so it is undone last.
@@ -69,3 +70,37 @@ pub record LeadsBack (before after : State) (entry : EntryState) : Type 0 where
 pub record LeadsForth (before after : State) (entry : EntryState) : Type 0 where
   pub can : CanRedo after entry
   pub forth : redone_state after entry ≡ before
+
+-- What page records had for which something was kept. Where pages aren't locked nothing is put back.
+abbrev pub had_by : Option (List PageRecordOf) → List Moved → List Moved
+had_by None moved = moved
+had_by (Some records) moved = map (taken_back records) moved
+
+-- Restoring an entry's lines left these, in a vector that has not lost room.
+pub record AreTurned (state : State) (entry other : EntryState) : Type 0 where
+  pub are : displaced other ≡ displaced_again (text_of state) (displaced entry)
+  pub kept_room : entry.lines.room ≤ other.lines.room
+  pub room : other.lines.stands ≤ other.lines.room
+
+-- The entry that undoing another leaves: what stood in the place of what it put back.
+pub record IsUndone (state : State) (entry other : EntryState) : Type 0 where
+  pub lines : AreTurned state entry other
+  pub raised : other.raised ≡ had_by state.pages entry.raised
+  pub moved : other.moved ≡ had_by (option_map (put_back_records entry.raised) state.pages) entry.moved
+
+-- The entry that redoing another leaves.
+pub record IsRedone (state : State) (entry other : EntryState) : Type 0 where
+  pub lines : AreTurned state entry other
+  pub moved : other.moved ≡ had_by state.pages entry.moved
+  pub raised : other.raised ≡ had_by (option_map (put_back_records entry.moved) state.pages) entry.raised
+
+-- Lines and an entry have room for what its turning puts into them.
+pub record HasRoom (lines : LinesState) (entry : EntryState) : Type 0 where
+  pub lines_room : length lines.lines - entry.lines.stands + length entry.lines.lines ≤ lines.room
+  pub entry_room : entry.lines.stands ≤ entry.lines.room
+
+-- The same entry; its vectors may have other room.
+pub record IsSameEntry (one other : EntryState) : Type 0 where
+  pub lines : displaced one ≡ displaced other
+  pub moved : one.moved ≡ other.moved
+  pub raised : one.raised ≡ other.raised

@@ -1,6 +1,8 @@
 -- What is made of a state.
 use Rattle.std.specs.Prelude.{◌≡◌, ℕ, ◌<◌, ◌≤◌, All, AllPairs, IfSome, List, [], length, Option, Some, None}
-use Rattle.spec_text.specs.Lines.{LineState}
+use Rattle.spec_text.specs.Lines.{LineState, line_texts}
+use Rattle.spec_script.specs.BlockValues.{StanzaOf}
+use Rattle.spec_script.specs.Stanzas.{stanzas_of}
 use Rattle.spec_pages.specs.Rows.{ElementOf}
 use Rattle.spec_labels.specs.declared.RowKey.{RowKey}
 use Rattle.spec_labels.specs.Labels.{LabelOf}
@@ -11,8 +13,9 @@ use Rattle.sp_state.specs.Numbered.{marked_sheets}
 use Rattle.spec_state.specs.Headings.{heading_labels}
 use Rattle.spec_state.specs.StateSheets.{layout_in, title_starts, body_sheets}
 
--- Its elements laid out, the labels of its headings, the first rows of its title sheets, and its other sheets.
+-- Its stanzas, its elements laid out, the labels of its headings, the first rows of its title sheets, and its other sheets.
 pub record MadeOf : Type 0 where
+  pub stanzas : List StanzaOf
   pub titles : List ElementOf
   pub body : List ElementOf
   pub labels : Option (List LabelOf)
@@ -21,6 +24,7 @@ pub record MadeOf : Type 0 where
 
 -- They are those of the state.
 pub record IsMadeOf (state : State) (it : MadeOf) : Type 0 where
+  pub stanzas : it.stanzas ≡ stanzas_of (line_texts state.lines)
   pub titles : it.titles ≡ (layout_in state).titles
   pub body : it.body ≡ (layout_in state).body
   pub labels : it.labels ≡ heading_labels state.lines state.scenes

@@ -1,13 +1,18 @@
 //! What an edit displaced.
-ghost use Rattle.std.specs.Prelude.{◌≡◌, IfOk, IfErr, OnOk, OnErr};
+ghost use Rattle.std.specs.Prelude.{◌≡◌, ◌≤◌, None, IfOk, IfErr, IsOk, OnOk, OnErr};
+ghost use Rattle.spec_text.specs.Edits.{refusal_of, replacement_of};
+ghost use Rattle.spec_text.specs.Ranges.{range_of};
+ghost use Rattle.spec_state.specs.Changes.{edited_state};
+ghost use Rattle.spec_state.specs.Keeping.{IsWhole, state_of};
+ghost use Rattle.sp_text.specs.Changing.{Refuses, edit_of};
 ghost use Rattle.sp_text.specs.Gap.{text_of};
-ghost use Rattle.spec_state.specs.Keeping.{state_of};
-ghost use Rattle.sp_state.specs.Entries.{CanUndo, CanRedo, LeadsBack, LeadsForth, undone_state, redone_state, undone_range, done_range};
+ghost use Rattle.sp_state.specs.Entries.{CanUndo, CanRedo, HasRoom, IsRedone, IsUndone, LeadsBack, LeadsForth, undone_state, redone_state, undone_range, done_range};
 
 use sp_locks::put_back;
 use sp_records::Records;
-use sp_text::{Displaced, Lines, Unrestored};
+use sp_text::{Displaced, Edit, EditFault, Lines, Unrestored};
 use spec_labels::Moved;
+use std::alloc::Global;
 use std::marker::Model;
 
 /// What an edit displaced: lines, the anchors of page records that it carried, and the rounds of those that it raised.
@@ -32,15 +37,45 @@ pub struct Unturned {
     pub back: Entry,
 }
 
-/// Undoes an edit by its entry, and answers the entry that does it again. On an error there was no memory for the lines,
-/// nothing is changed, and the entry is handed back.
+/// Makes an edit where pages aren't locked, and answers the entry that undoes it. A refused edit changes nothing.
+pub(crate) fn edit_entry(
+    alloc: Global,
+    lines: &mut Lines,
+    records: &Records,
+    edit: Edit,
+) -> Result<Entry, EditFault>
+    requires unlocked { records.now.pages ≡ None }
+    requires whole { IsWhole (state_of (text_of lines.old) records.now) }
+    ensures refuses { Refuses (refusal_of (text_of lines.old) (edit_of edit)) result }
+    ensures state { OnOk result (state_of (text_of lines.new) records.now ≡ edited_state (state_of (text_of lines.old) records.now) (replacement_of lines.old.lines (edit_of edit))) }
+    ensures whole { OnOk result (IsWhole (state_of (text_of lines.new) records.now)) }
+    ensures back { IfOk result (LeadsBack (state_of (text_of lines.old) records.now) (state_of (text_of lines.new) records.now)) }
+    ensures range { IfOk result (λ it. done_range it ≡ range_of (replacement_of lines.old.lines (edit_of edit))) }
+    ensures room { IfOk result (HasRoom lines.new) }
+    ensures same { OnErr result (text_of lines.new ≡ text_of lines.old) }
+{
+    let _count = lines.len();
+    let displaced = lines.change(edit, records.round)?;
+    let _changed = lines.len();
+    Ok(Entry {
+        lines: displaced,
+        moved: Vec::new(alloc),
+        raised: Vec::new(alloc),
+    })
+}
+
+/// Undoes an edit by its entry, and answers the entry that does it again. It takes memory only where the lines or the
+/// entry have no room for what they get. On an error there was none, nothing is changed, and the entry is handed back.
 pub fn undo_entry(lines: &mut Lines, records: &mut Records, entry: Entry) -> Result<Entry, Unturned>
     requires { CanUndo (state_of (text_of lines.old) records.old) entry }
     ensures state { OnOk result (state_of (text_of lines.new) records.new ≡ undone_state (state_of (text_of lines.old) records.old) entry) }
     ensures forth { IfOk result (LeadsForth (state_of (text_of lines.old) records.old) (state_of (text_of lines.new) records.new)) }
     ensures range { IfOk result (λ it. undone_range it ≡ done_range entry) }
     ensures same { OnErr result (state_of (text_of lines.new) records.new ≡ state_of (text_of lines.old) records.old) }
+    ensures entry { IfOk result (IsUndone (state_of (text_of lines.old) records.old) entry) }
     ensures handed_back { IfErr result (λ error. error.back ≡ entry) }
+    ensures room { lines.old.room ≤ lines.new.room }
+    ensures succeeds { HasRoom lines.old entry → IsOk result }
 {
     let Entry {
         lines: back,
@@ -69,15 +104,19 @@ pub fn undo_entry(lines: &mut Lines, records: &mut Records, entry: Entry) -> Res
     }
 }
 
-/// Does an edit again by the entry that undoing it left, and answers the entry that undoes it. On an error there was no
-/// memory for the lines, nothing is changed, and the entry is handed back.
+/// Does an edit again by the entry that undoing it left, and answers the entry that undoes it. It takes memory only where
+/// the lines or the entry have no room for what they get. On an error there was none, nothing is changed, and the entry is
+/// handed back.
 pub fn redo_entry(lines: &mut Lines, records: &mut Records, entry: Entry) -> Result<Entry, Unturned>
     requires { CanRedo (state_of (text_of lines.old) records.old) entry }
     ensures state { OnOk result (state_of (text_of lines.new) records.new ≡ redone_state (state_of (text_of lines.old) records.old) entry) }
     ensures back { IfOk result (LeadsBack (state_of (text_of lines.old) records.old) (state_of (text_of lines.new) records.new)) }
     ensures range { IfOk result (λ it. done_range it ≡ undone_range entry) }
     ensures same { OnErr result (state_of (text_of lines.new) records.new ≡ state_of (text_of lines.old) records.old) }
+    ensures entry { IfOk result (IsRedone (state_of (text_of lines.old) records.old) entry) }
     ensures handed_back { IfErr result (λ error. error.back ≡ entry) }
+    ensures room { lines.old.room ≤ lines.new.room }
+    ensures succeeds { HasRoom lines.old entry → IsOk result }
 {
     let Entry {
         lines: back,

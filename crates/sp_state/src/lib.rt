@@ -2,6 +2,7 @@
 //! are undone and redone.
 #![tactic(auto)]
 
+mod editing;
 mod entry;
 mod headings;
 mod made;

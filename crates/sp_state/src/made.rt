@@ -1,5 +1,7 @@
-//! What is made of a state: its elements in rows, the labels of its headings, and its sheets.
+//! What is made of a state: its stanzas, its elements in rows, the labels of its headings, and its sheets.
 ghost use Rattle.std.specs.Prelude.{◌≡◌, ℕ, ◌≤◌, ◌++◌, [], option_map, All, IfOk, IfSome};
+ghost use Rattle.spec_text.specs.Lines.{line_texts};
+ghost use Rattle.spec_script.specs.Stanzas.{stanzas_of};
 ghost use Rattle.spec_pages.specs.Pages.{page_starts, rows_on};
 ghost use Rattle.spec_labels.specs.PageRecords.{AreAnchored};
 ghost use Rattle.spec_state.specs.Headings.{heading_labels};
@@ -25,10 +27,11 @@ use spec_pages::Paper;
 use std::alloc::{AllocError, Global};
 use std::marker::Model;
 
-/// The elements of a state laid out, the labels of its headings where scenes are locked, the first rows of its title
-/// sheets, and its other sheets.
+/// The stanzas of a state, its elements laid out, the labels of its headings where scenes are locked, the first rows of
+/// its title sheets, and its other sheets.
 #[derive(Drop)]
 pub struct Made {
+    pub stanzas: Stanzas,
     pub titles: Body,
     pub body: Body,
     pub labels: Option<Vec<Label>>,
@@ -43,6 +46,7 @@ impl Model for Made {
     ghost Value = { MadeOf };
 
     ghost view = { λ m. record {
+      stanzas = m.stanzas.stanzas;
       titles = m.titles.elements;
       body = m.body.elements;
       labels = option_map (λ those. those.items) m.labels;
@@ -62,18 +66,18 @@ fn rows_on(paper: Paper) -> u32
 }
 
 /// The text laid out, and the labels of its headings where scenes are locked.
-fn laid_text<S: Steps>(
+fn laid_text(
     alloc: Global,
     lines: &Lines,
+    stanzas: &Stanzas,
     records: &Records,
-    steps: &mut S,
 ) -> Result<(Layout, Option<Vec<Label>>), AllocError>
-    requires { IsWhole (state_of (text_of lines.now) records.now) }
+    requires whole { IsWhole (state_of (text_of lines.now) records.now) }
+    requires stanzas { stanzas.now.stanzas ≡ stanzas_of (line_texts lines.now.lines) }
     ensures layout { IfOk result (λ it. it.0 ≡ keyed lines.now.lines (layout_in (state_of (text_of lines.now) records.now))) }
     ensures labels { IfOk result (λ it. option_map (λ those. those.items) it.1 ≡ heading_labels lines.now.lines records.now.scenes) }
 {
-    let stanzas = Stanzas::new(alloc, lines, steps)?;
-    let blocks = placed_blocks(alloc, &stanzas)?;
+    let blocks = placed_blocks(alloc, stanzas)?;
     let layout = lay_out(alloc, lines, &blocks, records.speakers)?;
     let headings = headings_among(alloc, lines, &blocks)?;
     let labels = scene_labels(alloc, &headings, &records.scenes)?;
@@ -168,11 +172,13 @@ pub fn make<S: Steps>(
     requires { IsWhole (state_of (text_of lines.now) records.now) }
     ensures { IfOk result (IsMadeOf (state_of (text_of lines.now) records.now)) }
 {
-    let (layout, labels) = laid_text(alloc, lines, records, steps)?;
+    let stanzas = Stanzas::new(alloc, lines, steps)?;
+    let (layout, labels) = laid_text(alloc, lines, &stanzas, records)?;
     let title_pages = title_pages(alloc, &layout.titles, records.paper)?;
     let sheets = made_sheets(alloc, lines, records, &layout, steps)?;
     let Layout { titles, body, .. } = layout;
     Ok(Made {
+        stanzas,
         titles,
         body,
         labels,

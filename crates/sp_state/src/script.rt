@@ -1,22 +1,31 @@
 //! A state and its sheets.
-ghost use Rattle.std.specs.Prelude.{◌≡◌, ◌≤◌, [], Some, length, slice_get, IfSome, IfNone, IfOk};
+ghost use Rattle.std.specs.Prelude.{◌≡◌, ◌≤◌, [], None, Some, length, slice_get, IfErr, IfSome, IfNone, IfOk, OnOk, OnErr};
 ghost use Rattle.spec_text.specs.Lines.{line_texts, read_lines};
-ghost use Rattle.spec_state.specs.State.{opened_state};
+ghost use Rattle.spec_text.specs.Edits.{refusal_of, replacement_of};
+ghost use Rattle.spec_text.specs.Ranges.{range_of};
+ghost use Rattle.spec_script.specs.Stanzas.{stanzas_of};
+ghost use Rattle.spec_state.specs.State.{opened_state, text_of as state_text};
+ghost use Rattle.spec_state.specs.Changes.{edited_state};
+ghost use Rattle.sp_text.specs.Changing.{Refuses, edit_of};
 ghost use Rattle.spec_state.specs.Keeping.{IsWhole, records_of, state_of};
 ghost use Rattle.sp_text.specs.Gap.{text_of};
 ghost use Rattle.spec_state.specs.StateSheets.{sheets_of_state};
+ghost use Rattle.sp_state.specs.Entries.{CanRedo, CanUndo, IsSameEntry, LeadsBack, LeadsForth, done_range, redone_state, undone_range, undone_state};
 
+use crate::editing::{edit_made, made_on, made_with_speakers, redo_made, undo_made};
+use crate::entry::{Entry, Unturned};
 use crate::made::{Made, make};
 use crate::views::{made_sheet, made_title, sheet_count, title_count};
 use sp_kit::Steps;
 use sp_print::PageView;
 use sp_records::Records;
-use sp_text::Lines;
+use sp_reread::Stanzas;
+use sp_text::{Edit, EditFault, Lines};
 use spec_pages::Paper;
 use std::alloc::{AllocError, Global};
 use std::marker::Model;
 
-/// A script: its lines, its records, and what is made of them: the rows of its elements, its pages and its sheets
+/// A script: its lines, its records, and what is made of them: its stanzas, the rows of its elements, its pages and its sheets
 /// (docs/RULES.md, "The desk" and "Sheets"). Contracts see the state alone.
 #[derive(Drop)]
 pub struct Script {
@@ -82,6 +91,27 @@ impl Script {
         })
     }
 
+    /// Lends its lines.
+    pub fn lines(&self) -> &Lines
+        ensures { text_of result.now ≡ state_text self.now }
+    {
+        &self.lines
+    }
+
+    /// Lends its round, its settings and its records.
+    pub fn records(&self) -> &Records
+        ensures { result.now ≡ records_of self.now }
+    {
+        &self.records
+    }
+
+    /// Lends the stanzas of its text.
+    pub fn stanzas(&self) -> &Stanzas
+        ensures { result.now.stanzas ≡ stanzas_of (line_texts self.now.lines) }
+    {
+        &self.made.stanzas
+    }
+
     /// How many sheets it has, those of its title page counted. Takes no memory.
     pub fn sheets(&self) -> usize
         ensures { result ≡ length (sheets_of_state self.now) }
@@ -99,5 +129,102 @@ impl Script {
             return Some(made_title(&self.lines, &self.made, i));
         }
         made_sheet(&self.lines, &self.made, i - count)
+    }
+
+    /// Makes an edit where pages aren't locked, and answers the entry that undoes it. All is made anew. On a fault nothing
+    /// is changed; NoMemory may come in place of any answer, and the others come as docs/RULES.md says in "Edits".
+    pub fn edit<S: Steps>(
+        &mut self,
+        alloc: Global,
+        edit: Edit,
+        steps: &mut S,
+    ) -> Result<Entry, EditFault>
+        requires unlocked { self.old.pages ≡ None }
+        ensures whole { IsWhole self.old }
+        ensures refuses { Refuses (refusal_of (state_text self.old) (edit_of edit)) result }
+        ensures state { OnOk result (self.new ≡ edited_state self.old (replacement_of self.old.lines (edit_of edit))) }
+        ensures back { IfOk result (LeadsBack self.old self.new) }
+        ensures range { IfOk result (λ it. done_range it ≡ range_of (replacement_of self.old.lines (edit_of edit))) }
+        ensures same { OnErr result (self.new ≡ self.old) }
+    {
+        let (entry, made) = edit_made(alloc, &mut self.lines, &mut self.records, edit, steps)?;
+        self.made = made;
+        Ok(entry)
+    }
+
+    /// Undoes an edit by its entry, and answers the entry that does it again. All is made anew. On an error there was no
+    /// memory, nothing is changed, and the entry is handed back (docs/RULES.md, "The desk").
+    pub fn undo<S: Steps>(
+        &mut self,
+        alloc: Global,
+        entry: Entry,
+        steps: &mut S,
+    ) -> Result<Entry, Unturned>
+        requires can { CanUndo self.old entry }
+        requires whole { IsWhole (undone_state self.old entry) }
+        ensures whole { IsWhole self.old }
+        ensures state { OnOk result (self.new ≡ undone_state self.old entry) }
+        ensures forth { IfOk result (LeadsForth self.old self.new) }
+        ensures range { IfOk result (λ it. undone_range it ≡ done_range entry) }
+        ensures same { OnErr result (self.new ≡ self.old) }
+        ensures handed_back { IfErr result (λ error. IsSameEntry error.back entry) }
+    {
+        let (other, made) = undo_made(alloc, &mut self.lines, &mut self.records, entry, steps)?;
+        self.made = made;
+        Ok(other)
+    }
+
+    /// Does an edit again by the entry that undoing it left, and answers the entry that undoes it. All is made anew. On
+    /// an error there was no memory, nothing is changed, and the entry is handed back (docs/RULES.md, "The desk").
+    pub fn redo<S: Steps>(
+        &mut self,
+        alloc: Global,
+        entry: Entry,
+        steps: &mut S,
+    ) -> Result<Entry, Unturned>
+        requires can { CanRedo self.old entry }
+        requires whole { IsWhole (redone_state self.old entry) }
+        ensures whole { IsWhole self.old }
+        ensures state { OnOk result (self.new ≡ redone_state self.old entry) }
+        ensures back { IfOk result (LeadsBack self.old self.new) }
+        ensures range { IfOk result (λ it. done_range it ≡ undone_range entry) }
+        ensures same { OnErr result (self.new ≡ self.old) }
+        ensures handed_back { IfErr result (λ error. IsSameEntry error.back entry) }
+    {
+        let (other, made) = redo_made(alloc, &mut self.lines, &mut self.records, entry, steps)?;
+        self.made = made;
+        Ok(other)
+    }
+
+    /// Sets whether a cue says that its speaker goes on. All is made anew. On an error there was no memory, and nothing
+    /// is changed (docs/RULES.md, "The desk").
+    pub fn set_speakers<S: Steps>(
+        &mut self,
+        alloc: Global,
+        on: bool,
+        steps: &mut S,
+    ) -> Result<(), AllocError>
+        ensures state { OnOk result (self.new ≡ record self.old { speakers = on }) }
+        ensures same { OnErr result (self.new ≡ self.old) }
+    {
+        let made = made_with_speakers(alloc, &self.lines, &mut self.records, on, steps)?;
+        self.made = made;
+        Ok(())
+    }
+
+    /// Sets the paper. All is made anew. On an error there was no memory, and nothing is changed (docs/RULES.md, "The
+    /// desk").
+    pub fn set_paper<S: Steps>(
+        &mut self,
+        alloc: Global,
+        paper: Paper,
+        steps: &mut S,
+    ) -> Result<(), AllocError>
+        ensures state { OnOk result (self.new ≡ record self.old { paper = paper }) }
+        ensures same { OnErr result (self.new ≡ self.old) }
+    {
+        let made = made_on(alloc, &self.lines, &mut self.records, paper, steps)?;
+        self.made = made;
+        Ok(())
     }
 }

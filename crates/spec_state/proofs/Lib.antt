@@ -10,3 +10,4 @@ pub mod SavedStates
 pub mod SheetHeights
 pub mod SheetGets
 pub mod OpenedLaws
+pub mod SheetTexts

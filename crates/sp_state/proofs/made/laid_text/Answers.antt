@@ -13,33 +13,33 @@ use Rattle.sp_state.proofs.MadeLaws.{blocks-lie, labels-are}
 use Rattle.sp_state.proofs.made.laid_text.Goals as goal
 
 pub lay_out-requires-clause-lie : goal.lay_out-requires-clause-lie
-lay_out-requires-clause-lie g c =
+lay_out-requires-clause-lie c =
     let texts = line_texts c.args.lines.now.lines in
-    let blocks : c.deref.result.now ≡ blocks_of texts = c.deref.ensures.value ∙ c.in_ok-blocks.ensures ∙ ap (blocks_from 0) c.in_ok-stanzas.ensures.list in
-    subst (All (PlacedLies texts)) (sym blocks) (blocks-lie (text_of c.args.lines.now) c.requires.text).lie
+    let blocks : c.deref.result.now ≡ blocks_of texts = c.deref.ensures.value ∙ c.in_ok-blocks.ensures ∙ ap (blocks_from 0) c.requires.stanzas in
+    subst (All (PlacedLies texts)) (sym blocks) (blocks-lie (text_of c.args.lines.now) c.requires.whole.text).lie
 
 pub lay_out-requires-clause-rise : goal.lay_out-requires-clause-rise
-lay_out-requires-clause-rise g c =
+lay_out-requires-clause-rise c =
     let texts = line_texts c.args.lines.now.lines in
-    let blocks : c.deref.result.now ≡ blocks_of texts = c.deref.ensures.value ∙ c.in_ok-blocks.ensures ∙ ap (blocks_from 0) c.in_ok-stanzas.ensures.list in
-    subst (PlacesRise 0) (sym blocks) (blocks-lie (text_of c.args.lines.now) c.requires.text).rise
+    let blocks : c.deref.result.now ≡ blocks_of texts = c.deref.ensures.value ∙ c.in_ok-blocks.ensures ∙ ap (blocks_from 0) c.requires.stanzas in
+    subst (PlacesRise 0) (sym blocks) (blocks-lie (text_of c.args.lines.now) c.requires.whole.text).rise
 
 pub headings_among-requires : goal.headings_among-requires
-headings_among-requires g c =
+headings_among-requires c =
     let texts = line_texts c.args.lines.now.lines in
-    let blocks : c.deref-2.result.now ≡ blocks_of texts = c.deref-2.ensures.value ∙ c.in_ok-blocks.ensures ∙ ap (blocks_from 0) c.in_ok-stanzas.ensures.list in
-    subst (All (PlacedLies texts)) (sym blocks) (blocks-lie (text_of c.args.lines.now) c.requires.text).lie
+    let blocks : c.deref-2.result.now ≡ blocks_of texts = c.deref-2.ensures.value ∙ c.in_ok-blocks.ensures ∙ ap (blocks_from 0) c.requires.stanzas in
+    subst (All (PlacedLies texts)) (sym blocks) (blocks-lie (text_of c.args.lines.now) c.requires.whole.text).lie
 
 pub scene_labels-requires-clause-headings : goal.scene_labels-requires-clause-headings
-scene_labels-requires-clause-headings g c =
+scene_labels-requires-clause-headings c =
     let lines = c.args.lines.now.lines in
-    let blocks : c.deref-2.result.now ≡ blocks_of (line_texts lines) = c.deref-2.ensures.value ∙ c.in_ok-blocks.ensures ∙ ap (blocks_from 0) c.in_ok-stanzas.ensures.list in
+    let blocks : c.deref-2.result.now ≡ blocks_of (line_texts lines) = c.deref-2.ensures.value ∙ c.in_ok-blocks.ensures ∙ ap (blocks_from 0) c.requires.stanzas in
     let headings : c.deref-3.result.now ≡ headings_of lines = c.deref-3.ensures.value ∙ c.in_ok-headings.ensures ∙ ap (λ (those : List PlacedBlock). map (heading_of lines) (filter is_heading_block those)) blocks in
-    subst AreHeadings (sym headings) (text-headings (state_of (text_of c.args.lines.now) c.args.records.now) c.requires.text)
+    subst AreHeadings (sym headings) (text-headings (state_of (text_of c.args.lines.now) c.args.records.now) c.requires.whole.text)
 
 pub returns-clause-labels : goal.returns-clause-labels
-returns-clause-labels g c =
+returns-clause-labels c =
     let lines = c.args.lines.now.lines in
-    let blocks : c.deref-2.result.now ≡ blocks_of (line_texts lines) = c.deref-2.ensures.value ∙ c.in_ok-blocks.ensures ∙ ap (blocks_from 0) c.in_ok-stanzas.ensures.list in
+    let blocks : c.deref-2.result.now ≡ blocks_of (line_texts lines) = c.deref-2.ensures.value ∙ c.in_ok-blocks.ensures ∙ ap (blocks_from 0) c.requires.stanzas in
     let headings : c.deref-3.result.now ≡ headings_of lines = c.deref-3.ensures.value ∙ c.in_ok-headings.ensures ∙ ap (λ (those : List PlacedBlock). map (heading_of lines) (filter is_heading_block those)) blocks in
     c.in_ok-labels.ensures ∙ labels-are (λ records. records.items) c.records.inside.scenes lines c.deref-3.result.now headings ∙ ap (λ (records : RecordsOf). heading_labels lines records.scenes) c.records.view_is

@@ -19,6 +19,7 @@ returns g c =
     let laid = c.layout.view_is ∙ c.in_ok-layout.ensures.layout in
     let titles : c.layout.inside.titles.elements ≡ (layout_in state).titles = ap (λ (l : LayoutOf). l.titles.elements) laid in
     record {
+      stanzas = c.in_ok-stanzas.ensures.list;
       titles = titles;
       body = ap (λ (l : LayoutOf). l.body.elements) laid;
       labels = c.in_ok-layout.ensures.labels;

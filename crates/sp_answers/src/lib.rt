@@ -1,0 +1,12 @@
+//! What a desk answers that is asked for its sheets, their labels or its blocks (docs/RULES.md, "Replies").
+#![tactic(auto)]
+
+mod blocks;
+mod growing;
+mod sheets;
+
+pub use blocks::block_replies;
+pub use sheets::{sheet_label, sheet_reply};
+
+#[cfg(test)]
+mod tests;
