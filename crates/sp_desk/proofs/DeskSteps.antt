@@ -1,0 +1,315 @@
+-- What the calls of a script make of a desk are the steps of its machine.
+use Rattle.std.proofs.Common.{◌≡◌, ℕ, ◌<◌, ◌+◌, ◌==◌, Bool, true, false, Option, Some, None, List, [], ◌∷◌, ◌++◌, length, get_or, refl, sym, ap, subst, ◌∙◌, arith}
+use Rattle.std.specs.Prelude.{All, option_map, is_some, nat_le, slice_get}
+use Rattle.std.proofs.lemmas.List.{length-append}
+use Rattle.std.proofs.Math.Seq.{get_or-append_seam}
+use Rattle.std.proofs.lemmas.Bool.Decides.{nat_tests}
+use Rattle.std.proofs.lemmas.Option.{slice_get_within}
+use Rattle.spec_text.specs.Lines.{IsText}
+use Rattle.spec_text.specs.Edits.{EditOf, Replacement, replacement_of, refusal_of}
+use Rattle.spec_text.specs.Ranges.{RangeOf, range_of}
+use Rattle.spec_pages.specs.declared.Paper.{Paper}
+use Rattle.spec_state.specs.State.{State, text_of}
+use Rattle.spec_state.specs.Changes.{text_after, carried_state, carried_after, pages_raised, edited_state}
+use Rattle.spec_state.specs.Keeping.{IsWhole}
+use Rattle.spec_state.specs.StateSheets.{sheets_of_state}
+use Rattle.spec_print.specs.Sheets.{Sheet}
+use Rattle.spec_wire.specs.Commands.{CommandOf, edit, undo, redo, sheet, speakers, paper}
+use Rattle.spec_wire.specs.Replies.{RefusalOf, refused, nothing_to_undo, nothing_to_redo, pages_locked, no_sheet}
+use Rattle.spec_machine.specs.Machine.{EntryOf, Memory, opened_memory, last_entry, without_last, entry_of, edited_memory, undone_to, redone_to, memory_after}
+use Rattle.spec_machine.specs.KeptMemories.{IsEntry, IsWholeMemory}
+use Rattle.spec_machine.specs.Refusals.{refusal_to, edit_refusal, reason_if, setting_refusal}
+use Rattle.spec_machine.specs.Answers.{step_by, step_of, accepted_reply, found_sheet, sheet_reply}
+use Rattle.spec_machine.proofs.MachineLaws.{opened-whole, step-whole}
+use Rattle.sp_state.specs.Entries.{EntryState, undone_state, redone_state, done_range, undone_range, CanUndo, CanRedo, LeadsBack, LeadsForth}
+use Rattle.sp_desk.specs.Memories.{entries_by, CanTurnAll, memory_by, IsDesk}
+use Rattle.sp_desk.specs.Answers.{step_to}
+use Rattle.sp_desk.proofs.EntryLaws.{last-more, front-more, entries-more, can-more, can-last, can-front, entries-same, can-same}
+
+-- ---- steps
+
+-- An accepted command makes the machine's memory and answers its reply.
+accepted-step : (memory after : Memory) (command : CommandOf) → refusal_to memory command ≡ None → after ≡ memory_after memory command
+    → step_to after (accepted_reply memory after.state command) ≡ step_of memory command
+accepted-step memory after command free is =
+    ap (λ (m : Memory). step_to m (accepted_reply memory m.state command)) is ∙ ap (step_by memory command) (sym free)
+
+pub refused-step : (memory : Memory) (command : CommandOf) (reason : RefusalOf) → refusal_to memory command ≡ Some reason → step_to memory (refused reason) ≡ step_of memory command
+refused-step memory command reason is = ap (step_by memory command) (sym is)
+
+-- A step of the machine to a desk of this state with these entries.
+pub record IsStep (old : Memory) (command : CommandOf) (state : State) (done undone : List EntryState) : Type 0 where
+  pub step : step_to (memory_by state done undone) (accepted_reply old state command) ≡ step_of old command
+  pub desk : IsDesk state done undone
+
+memory-same : (state : State) (done undone : List EntryOf) (other : State) (others more : List EntryOf) → state ≡ other → done ≡ others → undone ≡ more
+    → (let one : Memory = record { state = state; done = done; undone = undone } in one) ≡ (let two : Memory = record { state = other; done = others; undone = more } in two)
+memory-same state done undone other others more s d u = cc
+
+-- ---- one entry
+
+-- One that leads from the new state to the old one is added.
+added : (turn : State → EntryState → State) (range : EntryState → RangeOf) (old new : State) (entries : List EntryState) (entry : EntryState) (place : RangeOf)
+    → turn new entry ≡ old → range entry ≡ place → entries_by turn range new (entries ++ entry ∷ []) ≡ entries_by turn range old entries ++ entry_of old place ∷ []
+added turn range old new entries entry place back is =
+    entries-more turn range new entries entry
+    ∙ ap (λ (s : State). entries_by turn range s entries ++ entry_of s (range entry) ∷ []) back
+    ∙ ap (λ (r : RangeOf). entries_by turn range old entries ++ entry_of old r ∷ []) is
+
+-- The last one is taken.
+taken : (turn : State → EntryState → State) (range : EntryState → RangeOf) (old new : State) (entries : List EntryState) (entry : EntryState)
+    → new ≡ turn old entry → entries_by turn range new entries ≡ without_last (entries_by turn range old (entries ++ entry ∷ []))
+taken turn range old new entries entry is =
+    ap (λ (s : State). entries_by turn range s entries) is
+    ∙ sym (front-more (entries_by turn range (turn old entry) entries) (entry_of (turn old entry) (range entry)))
+    ∙ ap without_last (sym (entries-more turn range old entries entry))
+
+last-of : (turn : State → EntryState → State) (range : EntryState → RangeOf) (state : State) (entries : List EntryState) (entry : EntryState)
+    → last_entry (entries_by turn range state (entries ++ entry ∷ [])) ≡ Some (entry_of (turn state entry) (range entry))
+last-of turn range state entries entry =
+    ap last_entry (entries-more turn range state entries entry) ∙ last-more (entries_by turn range (turn state entry) entries) (entry_of (turn state entry) (range entry))
+
+-- Where there is an entry, the list isn't empty.
+longer : (turn : State → EntryState → State) (range : EntryState → RangeOf) (state : State) (entries : List EntryState) (entry : EntryState)
+    → 0 < length (entries_by turn range state (entries ++ entry ∷ []))
+longer turn range state [] entry = omega arith
+longer turn range state (it ∷ entries) entry = omega arith
+
+some-of : (turn : State → EntryState → State) (range : EntryState → RangeOf) (state : State) (entries : List EntryState) (entry : EntryState) (reason : RefusalOf)
+    → reason_if (length (entries_by turn range state (entries ++ entry ∷ [])) == 0) reason ≡ None
+some-of turn range state entries entry reason = ap (λ (b : Bool). reason_if b reason) (not-none (length (entries_by turn range state (entries ++ entry ∷ []))) (longer turn range state entries entry))
+  where
+    not-none : (n : ℕ) → 0 < n → (n == 0) ≡ false
+    not-none n positive = grind (arith, nat_tests)
+
+-- The state that the last entry leads to is whole.
+last-whole : (turn : State → EntryState → State) (range : EntryState → RangeOf) (state other : State) (entries : List EntryState) (entry : EntryState)
+    → All (IsEntry other) (entries_by turn range state (entries ++ entry ∷ [])) → IsWhole (turn state entry)
+last-whole turn range state other entries entry all =
+    let front = entries_by turn range (turn state entry) entries in
+    let last = entry_of (turn state entry) (range entry) in
+    let those : All (IsEntry other) (front ++ last ∷ []) = subst (All (IsEntry other)) (entries-more turn range state entries entry) all in
+    let here : IsEntry other (get_or (front ++ last ∷ []) (length front) last) = those (length front) last (omega (arith, length-append front (last ∷ []))) in
+    (subst (IsEntry other) (get_or-append_seam front last [] last) here).whole
+
+-- ---- an edit
+
+no-pages : (state : State) (it : Replacement) → state.pages ≡ None → (edited_state state it).pages ≡ None
+no-pages state it none = ap (λ pages. pages_raised state (carried_state state it) pages (carried_after state it)) none
+
+edited-memory : (old new : State) (done undone : List EntryState) (entry : EntryState) (it : Replacement) → new ≡ edited_state old it → LeadsBack old new entry → done_range entry ≡ range_of it
+    → memory_by new (done ++ entry ∷ []) [] ≡ edited_memory (memory_by old done undone) it
+edited-memory old new done undone entry it is leads range =
+    memory-same _ _ _ _ _ _ is (added undone_state done_range old new done entry (range_of it) leads.back range) refl
+
+pub edit-step : (old new : State) (done undone : List EntryState) (entry : EntryState) (it : EditOf) → IsDesk old done undone → refusal_of (text_of old) it ≡ None
+    → new ≡ edited_state old (replacement_of old.lines it) → IsText (text_of new) → LeadsBack old new entry → done_range entry ≡ range_of (replacement_of old.lines it)
+    → IsStep (memory_by old done undone) (edit it) new (done ++ entry ∷ []) []
+edit-step old new done undone entry it desk free is text leads range =
+    let memory = memory_by old done undone in
+    let same = edited-memory old new done undone entry (replacement_of old.lines it) is leads range in
+    let there : IsText (text_after old (replacement_of old.lines it)) = subst (λ (s : State). IsText (text_of s)) is text in
+    record {
+      step = accepted-step memory (memory_by new (done ++ entry ∷ []) []) (edit it) (ap (option_map edit_refusal) free) same;
+      desk = record {
+        whole = subst IsWholeMemory (sym same) (step-whole memory (edit it) desk.whole (record { taken = free; text = there }));
+        can_undo = can-more CanUndo undone_state new done entry leads.can (subst (λ (s : State). CanTurnAll CanUndo undone_state s done) (sym leads.back) desk.can_undo);
+        can_redo = tt;
+        pages = ap (λ (s : State). s.pages) is ∙ no-pages old (replacement_of old.lines it) desk.pages;
+        scenes = ap (λ (s : State). s.scenes) is ∙ desk.scenes;
+      };
+    }
+
+-- ---- undo
+
+undone-memory : (old new : State) (done undone : List EntryState) (entry again : EntryState) → new ≡ undone_state old entry → LeadsForth old new again → undone_range again ≡ done_range entry
+    → memory_by new done (undone ++ again ∷ []) ≡ memory_after (memory_by old (done ++ entry ∷ []) undone) undo
+undone-memory old new done undone entry again is leads range =
+    let memory = memory_by old (done ++ entry ∷ []) undone in
+    memory-same _ _ _ _ _ _ is (taken undone_state done_range old new done entry is) (added redone_state undone_range old new undone again (done_range entry) leads.forth range)
+    ∙ ap (undone_to memory) (sym (last-of undone_state done_range old done entry))
+
+pub undo-step : (old new : State) (done undone : List EntryState) (entry again : EntryState) → IsDesk old (done ++ entry ∷ []) undone
+    → new ≡ undone_state old entry → LeadsForth old new again → undone_range again ≡ done_range entry
+    → IsStep (memory_by old (done ++ entry ∷ []) undone) undo new done (undone ++ again ∷ [])
+undo-step old new done undone entry again desk is leads range =
+    let memory = memory_by old (done ++ entry ∷ []) undone in
+    let same = undone-memory old new done undone entry again is leads range in
+    record {
+      step = accepted-step memory (memory_by new done (undone ++ again ∷ [])) undo (some-of undone_state done_range old done entry nothing_to_undo) same;
+      desk = record {
+        whole = subst IsWholeMemory (sym same) (step-whole memory undo desk.whole (longer undone_state done_range old done entry));
+        can_undo = subst (λ (s : State). CanTurnAll CanUndo undone_state s done) (sym is) (can-front CanUndo undone_state old done entry desk.can_undo);
+        can_redo = can-more CanRedo redone_state new undone again leads.can (subst (λ (s : State). CanTurnAll CanRedo redone_state s undone) (sym leads.forth) desk.can_redo);
+        pages = ap (λ (s : State). s.pages) is ∙ ap (option_map _) desk.pages;
+        scenes = ap (λ (s : State). s.scenes) is ∙ desk.scenes;
+      };
+    }
+
+pub nothing-undone : (state : State) (done undone : List EntryState) → done ≡ [] → step_to (memory_by state done undone) (refused nothing_to_undo) ≡ step_of (memory_by state done undone) undo
+nothing-undone state done undone none =
+    refused-step (memory_by state done undone) undo nothing_to_undo (ap (λ (es : List EntryState). reason_if (length (entries_by undone_state done_range state es) == 0) nothing_to_undo) none)
+
+-- ---- redo
+
+redone-memory : (old new : State) (done undone : List EntryState) (entry again : EntryState) → new ≡ redone_state old entry → LeadsBack old new again → done_range again ≡ undone_range entry
+    → memory_by new (done ++ again ∷ []) undone ≡ memory_after (memory_by old done (undone ++ entry ∷ [])) redo
+redone-memory old new done undone entry again is leads range =
+    let memory = memory_by old done (undone ++ entry ∷ []) in
+    memory-same _ _ _ _ _ _ is (added undone_state done_range old new done again (undone_range entry) leads.back range) (taken redone_state undone_range old new undone entry is)
+    ∙ ap (redone_to memory) (sym (last-of redone_state undone_range old undone entry))
+
+pub redo-step : (old new : State) (done undone : List EntryState) (entry again : EntryState) → IsDesk old done (undone ++ entry ∷ [])
+    → new ≡ redone_state old entry → LeadsBack old new again → done_range again ≡ undone_range entry
+    → IsStep (memory_by old done (undone ++ entry ∷ [])) redo new (done ++ again ∷ []) undone
+redo-step old new done undone entry again desk is leads range =
+    let memory = memory_by old done (undone ++ entry ∷ []) in
+    let same = redone-memory old new done undone entry again is leads range in
+    record {
+      step = accepted-step memory (memory_by new (done ++ again ∷ []) undone) redo (some-of redone_state undone_range old undone entry nothing_to_redo) same;
+      desk = record {
+        whole = subst IsWholeMemory (sym same) (step-whole memory redo desk.whole (longer redone_state undone_range old undone entry));
+        can_undo = can-more CanUndo undone_state new done again leads.can (subst (λ (s : State). CanTurnAll CanUndo undone_state s done) (sym leads.back) desk.can_undo);
+        can_redo = subst (λ (s : State). CanTurnAll CanRedo redone_state s undone) (sym is) (can-front CanRedo redone_state old undone entry desk.can_redo);
+        pages = ap (λ (s : State). s.pages) is ∙ ap (option_map _) desk.pages;
+        scenes = ap (λ (s : State). s.scenes) is ∙ desk.scenes;
+      };
+    }
+
+pub nothing-redone : (state : State) (done undone : List EntryState) → undone ≡ [] → step_to (memory_by state done undone) (refused nothing_to_redo) ≡ step_of (memory_by state done undone) redo
+nothing-redone state done undone none =
+    refused-step (memory_by state done undone) redo nothing_to_redo (ap (λ (es : List EntryState). reason_if (length (entries_by redone_state undone_range state es) == 0) nothing_to_redo) none)
+
+-- ---- the lists as the journal has them
+
+pub edited-step : (old new : State) (done undone dones undones : List EntryState) (entry : EntryState) (it : EditOf) → IsDesk old done undone → refusal_of (text_of old) it ≡ None
+    → new ≡ edited_state old (replacement_of old.lines it) → IsText (text_of new) → LeadsBack old new entry → done_range entry ≡ range_of (replacement_of old.lines it) → dones ≡ done ++ entry ∷ [] → undones ≡ []
+    → IsStep (memory_by old done undone) (edit it) new dones undones
+edited-step old new done undone dones undones entry it desk free is text leads range more none =
+    subst (λ (es : List EntryState). IsStep (memory_by old done undone) (edit it) new es undones) (sym more)
+    (subst (λ (es : List EntryState). IsStep (memory_by old done undone) (edit it) new (done ++ entry ∷ []) es) (sym none)
+    (edit-step old new done undone entry it desk free is text leads range))
+
+pub undone-step : (old new : State) (done undone front dones undones : List EntryState) (entry again : EntryState) → IsDesk old done undone
+    → done ≡ front ++ entry ∷ [] → new ≡ undone_state old entry → LeadsForth old new again → undone_range again ≡ done_range entry → dones ≡ front → undones ≡ undone ++ again ∷ []
+    → IsStep (memory_by old done undone) undo new dones undones
+undone-step old new done undone front dones undones entry again desk last is leads range there more =
+    let desks : IsDesk old (front ++ entry ∷ []) undone = subst (λ (es : List EntryState). IsDesk old es undone) last desk in
+    subst (λ (es : List EntryState). IsStep (memory_by old es undone) undo new dones undones) (sym last)
+    (subst (λ (es : List EntryState). IsStep (memory_by old (front ++ entry ∷ []) undone) undo new es undones) (sym there)
+    (subst (λ (es : List EntryState). IsStep (memory_by old (front ++ entry ∷ []) undone) undo new front es) (sym more)
+    (undo-step old new front undone entry again desks is leads range)))
+
+pub redone-step : (old new : State) (done undone front dones undones : List EntryState) (entry again : EntryState) → IsDesk old done undone
+    → undone ≡ front ++ entry ∷ [] → new ≡ redone_state old entry → LeadsBack old new again → done_range again ≡ undone_range entry → undones ≡ front → dones ≡ done ++ again ∷ []
+    → IsStep (memory_by old done undone) redo new dones undones
+redone-step old new done undone front dones undones entry again desk last is leads range there more =
+    let desks : IsDesk old done (front ++ entry ∷ []) = subst (λ (es : List EntryState). IsDesk old done es) last desk in
+    subst (λ (es : List EntryState). IsStep (memory_by old done es) redo new dones undones) (sym last)
+    (subst (λ (es : List EntryState). IsStep (memory_by old done (front ++ entry ∷ [])) redo new dones es) (sym there)
+    (subst (λ (es : List EntryState). IsStep (memory_by old done (front ++ entry ∷ [])) redo new es front) (sym more)
+    (redo-step old new done front entry again desks is leads range)))
+
+-- ---- what is asked of a script
+
+pub record CanTurn (may : State → EntryState → Type 0) (turn : State → EntryState → State) (state : State) (entry : EntryState) : Type 0 where
+  pub can : may state entry
+  pub whole : IsWhole (turn state entry)
+
+pub can-undo : (state : State) (done undone front : List EntryState) (entry : EntryState) → IsDesk state done undone → done ≡ front ++ entry ∷ [] → CanTurn CanUndo undone_state state entry
+can-undo state done undone front entry desk last =
+    let desks : IsDesk state (front ++ entry ∷ []) undone = subst (λ (es : List EntryState). IsDesk state es undone) last desk in
+    record { can = can-last CanUndo undone_state state front entry desks.can_undo; whole = last-whole undone_state done_range state state front entry (desks.whole).done }
+
+pub can-redo : (state : State) (done undone front : List EntryState) (entry : EntryState) → IsDesk state done undone → undone ≡ front ++ entry ∷ [] → CanTurn CanRedo redone_state state entry
+can-redo state done undone front entry desk last =
+    let desks : IsDesk state done (front ++ entry ∷ []) = subst (λ (es : List EntryState). IsDesk state done es) last desk in
+    record { can = can-last CanRedo redone_state state front entry desks.can_redo; whole = last-whole redone_state undone_range state state front entry (desks.whole).undone }
+
+-- ---- an entry is handed back
+
+-- A desk stands for the memory that it stood for.
+pub record IsSameDesk (memory : Memory) (state : State) (done undone : List EntryState) : Type 0 where
+  pub same : memory_by state done undone ≡ memory
+  pub desk : IsDesk state done undone
+
+handed-desk : (state new : State) (done undone dones undones : List EntryState) → new ≡ state
+    → memory_by state dones undones ≡ memory_by state done undone → CanTurnAll CanUndo undone_state state dones → CanTurnAll CanRedo redone_state state undones → IsDesk state done undone
+    → IsSameDesk (memory_by state done undone) new dones undones
+handed-desk state new done undone dones undones is same undos redos desk =
+    subst (λ (s : State). IsSameDesk (memory_by state done undone) s dones undones) (sym is)
+    (record {
+      same = same;
+      desk = record { whole = subst IsWholeMemory (sym same) desk.whole; can_undo = undos; can_redo = redos; pages = desk.pages; scenes = desk.scenes };
+    })
+
+pub undo-back : (old new : State) (done undone front dones undones : List EntryState) (entry back : EntryState) → IsDesk old done undone → done ≡ front ++ entry ∷ [] → new ≡ old
+    → CanUndo old back → undone_state old back ≡ undone_state old entry → done_range back ≡ done_range entry → dones ≡ front ++ back ∷ [] → undones ≡ undone
+    → IsSameDesk (memory_by old done undone) new dones undones
+undo-back old new done undone front dones undones entry back desk last is can there range more rest =
+    let all = entries-same undone_state done_range old front back entry there range in
+    let entries : entries_by undone_state done_range old dones ≡ entries_by undone_state done_range old done =
+    ap (entries_by undone_state done_range old) more ∙ all ∙ ap (entries_by undone_state done_range old) (sym last) in
+    let turns : CanTurnAll CanUndo undone_state old dones =
+    subst (CanTurnAll CanUndo undone_state old) (sym more)
+    (can-same CanUndo undone_state old front back entry can there (subst (CanTurnAll CanUndo undone_state old) last desk.can_undo)) in
+    handed-desk old new done undone dones undones is (memory-same _ _ _ _ _ _ refl entries (ap (entries_by redone_state undone_range old) rest)) turns
+    (subst (CanTurnAll CanRedo redone_state old) (sym rest) desk.can_redo) desk
+
+pub redo-back : (old new : State) (done undone front dones undones : List EntryState) (entry back : EntryState) → IsDesk old done undone → undone ≡ front ++ entry ∷ [] → new ≡ old
+    → CanRedo old back → redone_state old back ≡ redone_state old entry → undone_range back ≡ undone_range entry → undones ≡ front ++ back ∷ [] → dones ≡ done
+    → IsSameDesk (memory_by old done undone) new dones undones
+redo-back old new done undone front dones undones entry back desk last is can there range more rest =
+    let all = entries-same redone_state undone_range old front back entry there range in
+    let entries : entries_by redone_state undone_range old undones ≡ entries_by redone_state undone_range old undone =
+    ap (entries_by redone_state undone_range old) more ∙ all ∙ ap (entries_by redone_state undone_range old) (sym last) in
+    let turns : CanTurnAll CanRedo redone_state old undones =
+    subst (CanTurnAll CanRedo redone_state old) (sym more)
+    (can-same CanRedo redone_state old front back entry can there (subst (CanTurnAll CanRedo redone_state old) last desk.can_redo)) in
+    handed-desk old new done undone dones undones is (memory-same _ _ _ _ _ _ refl (ap (entries_by undone_state done_range old) rest) entries)
+    (subst (CanTurnAll CanUndo undone_state old) (sym rest) desk.can_undo) turns desk
+
+-- ---- settings, and what is opened
+
+pub speakers-step : (old new : State) (done undone : List EntryState) (on : Bool) → IsDesk old done undone → new ≡ record old { speakers = on } → IsStep (memory_by old done undone) (speakers on) new [] []
+speakers-step old new done undone on desk is =
+    let memory = memory_by old done undone in
+    let same : opened_memory new ≡ memory_after memory (speakers on) = ap opened_memory is in
+    record {
+      step = accepted-step memory (opened_memory new) (speakers on) (ap (λ pages. reason_if (is_some pages) pages_locked) desk.pages) same;
+      desk = record {
+        whole = subst IsWholeMemory (sym same) (step-whole memory (speakers on) desk.whole desk.pages);
+        can_undo = tt;
+        can_redo = tt;
+        pages = ap (λ (s : State). s.pages) is ∙ desk.pages;
+        scenes = ap (λ (s : State). s.scenes) is ∙ desk.scenes;
+      };
+    }
+
+pub paper-step : (old new : State) (done undone : List EntryState) (size : Paper) → IsDesk old done undone → new ≡ record old { paper = size } → IsStep (memory_by old done undone) (paper size) new [] []
+paper-step old new done undone size desk is =
+    let memory = memory_by old done undone in
+    let same : opened_memory new ≡ memory_after memory (paper size) = ap opened_memory is in
+    record {
+      step = accepted-step memory (opened_memory new) (paper size) (ap (λ pages. reason_if (is_some pages) pages_locked) desk.pages) same;
+      desk = record {
+        whole = subst IsWholeMemory (sym same) (step-whole memory (paper size) desk.whole desk.pages);
+        can_undo = tt;
+        can_redo = tt;
+        pages = ap (λ (s : State). s.pages) is ∙ desk.pages;
+        scenes = ap (λ (s : State). s.scenes) is ∙ desk.scenes;
+      };
+    }
+
+pub opened-desk : (state : State) → IsWhole state → state.pages ≡ None → state.scenes ≡ None → IsDesk state [] []
+opened-desk state whole pages scenes = record { whole = opened-whole state whole; can_undo = tt; can_redo = tt; pages = pages; scenes = scenes }
+
+-- ---- sheets
+
+pub sheet-found : (memory : Memory) (index : ℕ) (it : Sheet) → slice_get (sheets_of_state memory.state) index ≡ Some it → step_to memory (sheet_reply it) ≡ step_of memory (sheet index)
+sheet-found memory index it at =
+    ap (λ (found : Option Sheet). step_to memory (found_sheet found)) (sym at)
+    ∙ ap (step_by memory (sheet index)) (sym (ap (λ (b : Bool). reason_if b no_sheet) (within (length (sheets_of_state memory.state)) (slice_get_within (sheets_of_state memory.state) index it at))))
+  where
+    within : (count : ℕ) → index < count → nat_le count index ≡ false
+    within count inside = grind (arith, nat_tests)

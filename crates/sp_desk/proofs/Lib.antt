@@ -1,0 +1,3 @@
+mod EntryLaws
+mod DeskSteps
+mod Labels

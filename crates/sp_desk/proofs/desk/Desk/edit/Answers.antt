@@ -1,0 +1,27 @@
+use Rattle.std.proofs.Common.{◌≡◌, ◌∷◌, [], ◌++◌, ap, sym, ◌∙◌}
+use Rattle.spec_wire.specs.Commands as commands
+use Rattle.spec_machine.specs.Machine.{Memory}
+use Rattle.spec_machine.specs.Answers.{step_of}
+use Rattle.sp_journal.specs.Entries.{Entries}
+use Rattle.sp_state.specs.Entries.{EntryState}
+use Rattle.sp_text.specs.Changing.{edit_of}
+use Rattle.sp_desk.specs.Memories.{memory_by}
+use Rattle.sp_desk.specs.Answers.{step_to}
+use Rattle.sp_desk.proofs.DeskSteps.{IsStep, edited-step}
+use Rattle.sp_desk.proofs.desk.Desk.edit.Given.{Over}
+use Rattle.sp_desk.proofs.desk.Desk.edit.Goals as goal
+
+stepped : (g : Over) (c : goal.After-edited_reply g) → IsStep (memory_by c.self.inside.script c.self.inside.journal.done c.self.inside.journal.undone) (commands.edit (edit_of c.args.edit)) c.edit.new.self c.push.new.self.done c.push.new.self.undone
+stepped g c =
+    let done : c.push.new.self.done ≡ c.self.inside.journal.done ++ c.in_ok-entry.entry ∷ [] =
+    ap (λ (j : Entries EntryState). j.done) c.push.ensures ∙ ap (λ (j : Entries EntryState). j.done ++ c.in_ok-entry.entry ∷ []) c.reserve_one.ensures.entries in
+    edited-step c.self.inside.script c.edit.new.self c.self.inside.journal.done c.self.inside.journal.undone c.push.new.self.done c.push.new.self.undone c.in_ok-entry.entry (edit_of c.args.edit) c.self.invariant
+    c.in_ok-entry.ensures.refuses c.in_ok-entry.ensures.state c.edited_reply.ensures.text c.in_ok-entry.ensures.back c.in_ok-entry.ensures.range done (ap (λ (j : Entries EntryState). j.undone) c.push.ensures)
+
+pub invariant_of-self-2 : goal.invariant_of-self-2
+invariant_of-self-2 g c = (stepped g c).desk
+
+pub returns-clause-step : goal.returns-clause-step
+returns-clause-step g c =
+    ap (step_to (memory_by c.edit.new.self c.push.new.self.done c.push.new.self.undone)) c.edited_reply.ensures.reply ∙ (stepped g c).step
+    ∙ ap (λ (m : Memory). step_of m (commands.edit (edit_of c.args.edit))) c.self.view_is

@@ -1,0 +1,59 @@
+use Rattle.std.proofs.Common.{◌≡◌, ◌∷◌, [], ◌++◌, ap, sym, ◌∙◌}
+use Rattle.spec_wire.specs.Commands as commands
+use Rattle.spec_machine.specs.Machine.{Memory}
+use Rattle.spec_machine.specs.Answers.{step_of}
+use Rattle.sp_journal.specs.Entries.{Entries}
+use Rattle.sp_state.specs.Entries.{EntryState, undone_state, CanUndo}
+use Rattle.sp_desk.specs.Memories.{memory_by}
+use Rattle.sp_desk.specs.Answers.{step_to}
+use Rattle.sp_desk.proofs.DeskSteps.{IsStep, IsSameDesk, CanTurn, can-undo, undone-step, undo-back}
+use Rattle.sp_state.proofs.EntryLaws.{same-undone_state, same-done_range, same-CanUndo}
+use Rattle.sp_desk.proofs.desk.Desk.undo.Given.{Over}
+use Rattle.sp_desk.proofs.desk.Desk.undo.Goals as goal
+
+can : (g : Over) (c : goal.After-undo-arg-2-1 g) → CanTurn CanUndo undone_state c.self.inside.script c.in-Some.entry
+can g c =
+    can-undo c.self.inside.script c.self.inside.journal.done c.self.inside.journal.undone c.take_done.new.self.done c.in-Some.entry c.self.invariant
+    (sym (ap (λ (j : Entries EntryState). j.done) c.reserve_one.ensures.entries) ∙ c.in-Some.ensures.some)
+
+pub undo-requires-clause-can : goal.undo-requires-clause-can
+undo-requires-clause-can g c = (can g c).can
+
+pub undo-requires-clause-whole : goal.undo-requires-clause-whole
+undo-requires-clause-whole g c = (can g c).whole
+
+stepped : (g : Over) (c : goal.After-edited_reply g) → IsStep (memory_by c.self.inside.script c.self.inside.journal.done c.self.inside.journal.undone) commands.undo c.undo.new.self c.keep_undone.new.self.done c.keep_undone.new.self.undone
+stepped g c =
+    let undone : c.take_done.new.self.undone ≡ c.self.inside.journal.undone =
+    ap (λ (j : Entries EntryState). j.undone) c.in-Some.ensures.some_leaves ∙ ap (λ (j : Entries EntryState). j.undone) c.reserve_one.ensures.entries in
+    undone-step c.self.inside.script c.undo.new.self c.self.inside.journal.done c.self.inside.journal.undone c.take_done.new.self.done c.keep_undone.new.self.done c.keep_undone.new.self.undone c.in-Some.entry c.in-Ok.again
+    c.self.invariant (sym (ap (λ (j : Entries EntryState). j.done) c.reserve_one.ensures.entries) ∙ c.in-Some.ensures.some)
+    c.in-Ok.ensures.state c.in-Ok.ensures.forth c.in-Ok.ensures.range
+    (ap (λ (j : Entries EntryState). j.done) c.keep_undone.ensures)
+    (ap (λ (j : Entries EntryState). j.undone) c.keep_undone.ensures ∙ ap (λ es. es ++ c.in-Ok.again ∷ []) undone)
+
+pub invariant_of-self-in-Ok : goal.invariant_of-self-in-Ok
+invariant_of-self-in-Ok g c = (stepped g c).desk
+
+pub returns-in-Ok-clause-step : goal.returns-in-Ok-clause-step
+returns-in-Ok-clause-step g c =
+    ap (step_to (memory_by c.undo.new.self c.keep_undone.new.self.done c.keep_undone.new.self.undone)) c.edited_reply.ensures.reply ∙ (stepped g c).step
+    ∙ ap (λ (m : Memory). step_of m commands.undo) c.self.view_is
+
+back : (g : Over) (c : goal.After-keep_done g) → IsSameDesk (memory_by c.self.inside.script c.self.inside.journal.done c.self.inside.journal.undone) c.undo.new.self c.keep_done.new.self.done c.keep_done.new.self.undone
+back g c =
+    let last = sym (ap (λ (j : Entries EntryState). j.done) c.reserve_one.ensures.entries) ∙ c.in-Some.ensures.some in
+    let undone : c.take_done.new.self.undone ≡ c.self.inside.journal.undone =
+    ap (λ (j : Entries EntryState). j.undone) c.in-Some.ensures.some_leaves ∙ ap (λ (j : Entries EntryState). j.undone) c.reserve_one.ensures.entries in
+    let turn = can-undo c.self.inside.script c.self.inside.journal.done c.self.inside.journal.undone c.take_done.new.self.done c.in-Some.entry c.self.invariant last in
+    let same = c.in-Err.ensures.handed_back in
+    undo-back c.self.inside.script c.undo.new.self c.self.inside.journal.done c.self.inside.journal.undone c.take_done.new.self.done c.keep_done.new.self.done c.keep_done.new.self.undone c.in-Some.entry c.in-Err.field-0.back
+    c.self.invariant last c.in-Err.ensures.same (same-CanUndo c.self.inside.script c.in-Err.field-0.back c.in-Some.entry same turn.can) (same-undone_state c.self.inside.script c.in-Err.field-0.back c.in-Some.entry same) (same-done_range c.in-Err.field-0.back c.in-Some.entry same)
+    (ap (λ (j : Entries EntryState). j.done) c.keep_done.ensures)
+    (ap (λ (j : Entries EntryState). j.undone) c.keep_done.ensures ∙ undone)
+
+pub invariant_of-self-in-Err : goal.invariant_of-self-in-Err
+invariant_of-self-in-Err g c = (back g c).desk
+
+pub returns-in-Err-clause-step : goal.returns-in-Err-clause-step
+returns-in-Err-clause-step g c = (back g c).same ∙ c.self.view_is

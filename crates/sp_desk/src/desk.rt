@@ -1,0 +1,256 @@
+//! A script with the journal of its edits.
+ghost use Rattle.std.specs.Prelude.{◌≡◌, ◌≤◌, false, None, Some, length, slice_get, IfOk, IfNone, IfSome};
+ghost use Rattle.spec_text.specs.Lines.{line_texts, read_lines};
+ghost use Rattle.spec_state.specs.State.{opened_state, text_of};
+ghost use Rattle.spec_state.specs.Keeping.{IsWhole, records_of, state_of};
+ghost use Rattle.spec_state.specs.StateSheets.{sheets_of_state};
+ghost use Rattle.spec_wire.specs.Commands as commands;
+ghost use Rattle.spec_wire.specs.Replies.{is_refused};
+ghost use Rattle.spec_machine.specs.KeptMemories.{IsWholeMemory};
+ghost use Rattle.spec_machine.specs.Machine.{opened_memory};
+ghost use Rattle.sp_text.specs.Gap.{text_of as lines_text};
+ghost use Rattle.sp_text.specs.Changing.{edit_of};
+ghost use Rattle.sp_wire.specs.Values.{command_of, reply_of};
+ghost use Rattle.sp_desk.specs.Answers.{IsAnswer, LocksNothing};
+
+use crate::DeskFault;
+use crate::replies::{edited_reply, sheet_labels};
+use sp_answers::{block_replies, sheet_reply};
+use sp_journal::Journal;
+use sp_kit::Steps;
+use sp_print::PageView;
+use sp_records::Records;
+use sp_state::{Entry, Script, Unturned};
+use sp_text::{Edit, Lines};
+use sp_wire::{Command, Refusal, Reply};
+use spec_pages::Paper;
+use std::alloc::{AllocError, Global};
+use std::marker::Model;
+
+/// A script, what was done to it and what was undone (docs/RULES.md, "The desk"). Contracts see the memory of the machine:
+/// the present state, and for each entry the whole state that it leads to.
+#[derive(Drop)]
+pub struct Desk {
+    script: Script,
+    journal: Journal<Entry>,
+}
+
+impl Model for Desk {
+    ghost use Rattle.spec_machine.specs.Machine.{Memory};
+    ghost use Rattle.sp_desk.specs.Memories.{memory_by, IsDesk};
+
+    ghost Value = { Memory };
+
+    ghost view = { λ d. memory_by d.script d.journal.done d.journal.undone };
+
+    ghost invariant = { λ d. IsDesk d.script d.journal.done d.journal.undone };
+}
+
+impl Desk {
+    /// The desk of lines that were just read, without records. `AllocError` comes for want of memory alone.
+    pub fn new<S: Steps>(alloc: Global, lines: Lines, steps: &mut S) -> Result<Desk, AllocError>
+        requires read { lines.lines ≡ read_lines (line_texts lines.lines) }
+        requires next { lines.next ≡ length lines.lines }
+        ensures { IfOk result (λ desk. desk ≡ opened_memory (opened_state (line_texts lines.lines))) }
+    {
+        let _count = lines.len();
+        let script = Script::new(alloc, lines, steps)?;
+        Ok(Desk {
+            script,
+            journal: Journal::new(alloc),
+        })
+    }
+
+    /// The desk of these lines with these records, which have no locked scenes or pages. Nothing can be undone or redone.
+    /// `AllocError` comes for want of memory alone.
+    pub fn open<S: Steps>(
+        alloc: Global,
+        lines: Lines,
+        records: Records,
+        steps: &mut S,
+    ) -> Result<Desk, AllocError>
+        requires whole { IsWhole (state_of (lines_text lines) records) }
+        requires scenes { records.scenes ≡ None }
+        requires pages { records.pages ≡ None }
+        ensures { IfOk result (λ desk. desk ≡ opened_memory (state_of (lines_text lines) records)) }
+    {
+        let script = Script::open(alloc, lines, records, steps)?;
+        Ok(Desk {
+            script,
+            journal: Journal::new(alloc),
+        })
+    }
+
+    /// Answers a command, as the machine does: what it makes of the memory, and the reply; a refusal is a fault and never
+    /// `Reply::Refused`. NoMemory may come in place of any answer, and then nothing is changed. Locks and rounds aren't
+    /// answered yet. An edit, an undo, a redo and a setting lay out
+    /// the whole text and fill each page of the body once; the other commands lay out nothing (docs/RULES.md, "The desk").
+    pub fn apply<S: Steps>(
+        &mut self,
+        alloc: Global,
+        command: Command,
+        steps: &mut S,
+    ) -> Result<Reply, DeskFault>
+        requires { LocksNothing (command_of command) }
+        ensures step { IsAnswer self.old (command_of command) self.new result }
+        ensures unrefused { IfOk result (λ reply. is_refused (reply_of reply) ≡ false) }
+    {
+        match command {
+            Command::Edit(edit) => self.edit(alloc, edit, steps),
+            Command::Undo => self.undo(alloc, steps),
+            Command::Redo => self.redo(alloc, steps),
+            Command::Sheet(index) => self.sheet_answer(alloc, index),
+            Command::Labels => self.labels_answer(alloc),
+            Command::Blocks => self.blocks_answer(alloc),
+            Command::Speakers(on) => self.set_speakers(alloc, on, steps),
+            Command::Paper(paper) => self.set_paper(alloc, paper, steps),
+            Command::Outline | Command::Save | Command::Packet => {
+                Err(DeskFault::Refused(Refusal::UnknownCommand))
+            }
+            Command::LockScenes | Command::LockPages | Command::NextRound => unreachable!(),
+        }
+    }
+
+    fn edit<S: Steps>(
+        &mut self,
+        alloc: Global,
+        edit: Edit,
+        steps: &mut S,
+    ) -> Result<Reply, DeskFault>
+        ensures step { IsAnswer self.old (commands.edit (edit_of edit)) self.new result }
+        ensures unrefused { IfOk result (λ reply. is_refused (reply_of reply) ≡ false) }
+    {
+        self.journal.reserve_one()?;
+        let entry = self.script.edit(alloc, edit, steps)?;
+        self.journal.push(entry);
+        Ok(edited_reply(&self.script))
+    }
+
+    fn undo<S: Steps>(&mut self, alloc: Global, steps: &mut S) -> Result<Reply, DeskFault>
+        ensures step { IsAnswer self.old commands.undo self.new result }
+        ensures unrefused { IfOk result (λ reply. is_refused (reply_of reply) ≡ false) }
+    {
+        self.journal.reserve_one()?;
+        let Some(entry) = self.journal.take_done() else {
+            return Err(DeskFault::Refused(Refusal::NothingToUndo));
+        };
+        match self.script.undo(alloc, entry, steps) {
+            Ok(again) => {
+                self.journal.keep_undone(again);
+                Ok(edited_reply(&self.script))
+            }
+            Err(Unturned { back }) => {
+                self.journal.keep_done(back);
+                Err(DeskFault::NoMemory)
+            }
+        }
+    }
+
+    fn redo<S: Steps>(&mut self, alloc: Global, steps: &mut S) -> Result<Reply, DeskFault>
+        ensures step { IsAnswer self.old commands.redo self.new result }
+        ensures unrefused { IfOk result (λ reply. is_refused (reply_of reply) ≡ false) }
+    {
+        self.journal.reserve_one()?;
+        let Some(entry) = self.journal.take_undone() else {
+            return Err(DeskFault::Refused(Refusal::NothingToRedo));
+        };
+        match self.script.redo(alloc, entry, steps) {
+            Ok(again) => {
+                self.journal.keep_done(again);
+                Ok(edited_reply(&self.script))
+            }
+            Err(Unturned { back }) => {
+                self.journal.keep_undone(back);
+                Err(DeskFault::NoMemory)
+            }
+        }
+    }
+
+    fn set_speakers<S: Steps>(
+        &mut self,
+        alloc: Global,
+        on: bool,
+        steps: &mut S,
+    ) -> Result<Reply, DeskFault>
+        ensures step { IsAnswer self.old (commands.speakers on) self.new result }
+        ensures unrefused { IfOk result (λ reply. is_refused (reply_of reply) ≡ false) }
+    {
+        self.script.set_speakers(alloc, on, steps)?;
+        self.journal.clear();
+        Ok(Reply::Set {
+            sheets: self.script.sheets() as u64,
+        })
+    }
+
+    fn set_paper<S: Steps>(
+        &mut self,
+        alloc: Global,
+        paper: Paper,
+        steps: &mut S,
+    ) -> Result<Reply, DeskFault>
+        ensures step { IsAnswer self.old (commands.paper paper) self.new result }
+        ensures unrefused { IfOk result (λ reply. is_refused (reply_of reply) ≡ false) }
+    {
+        self.script.set_paper(alloc, paper, steps)?;
+        self.journal.clear();
+        Ok(Reply::Set {
+            sheets: self.script.sheets() as u64,
+        })
+    }
+
+    fn sheet_answer(&self, alloc: Global, index: u64) -> Result<Reply, DeskFault>
+        ensures step { IsAnswer self.now (commands.sheet index) self.now result }
+        ensures unrefused { IfOk result (λ reply. is_refused (reply_of reply) ≡ false) }
+    {
+        match self.script.sheet(index as usize) {
+            Some(page) => Ok(sheet_reply(alloc, &page)?),
+            None => Err(DeskFault::Refused(Refusal::NoSheet)),
+        }
+    }
+
+    fn labels_answer(&self, alloc: Global) -> Result<Reply, DeskFault>
+        ensures step { IsAnswer self.now commands.labels self.now result }
+        ensures unrefused { IfOk result (λ reply. is_refused (reply_of reply) ≡ false) }
+    {
+        Ok(Reply::Labels(sheet_labels(alloc, &self.script)?))
+    }
+
+    fn blocks_answer(&self, alloc: Global) -> Result<Reply, DeskFault>
+        ensures step { IsAnswer self.now commands.blocks self.now result }
+        ensures unrefused { IfOk result (λ reply. is_refused (reply_of reply) ≡ false) }
+    {
+        let script = &self.script;
+        Ok(Reply::Blocks(block_replies(alloc, script.lines(), script.stanzas())?))
+    }
+
+    /// How many sheets the present state has, those of its title page counted. The state and all that can be undone or
+    /// redone keep the rules of a state. Takes no memory.
+    pub fn sheets(&self) -> usize
+        ensures count { result ≡ length (sheets_of_state (self.now).state) }
+        ensures whole { IsWholeMemory self.now }
+    {
+        self.script.sheets()
+    }
+
+    /// Lends the sheet at a place; None where there are no more than that many. Takes no memory.
+    pub fn sheet(&self, i: usize) -> Option<PageView<'_>>
+        ensures some { IfSome result (λ page. slice_get (sheets_of_state (self.now).state) i ≡ Some page) }
+        ensures none { IfNone result (length (sheets_of_state (self.now).state) ≤ i) }
+    {
+        self.script.sheet(i)
+    }
+
+    /// Lends the lines of the present state.
+    pub fn lines(&self) -> &Lines
+        ensures { lines_text result.now ≡ text_of (self.now).state }
+    {
+        self.script.lines()
+    }
+
+    /// Lends the round, the settings and the records of the present state.
+    pub fn records(&self) -> &Records
+        ensures { result.now ≡ records_of (self.now).state }
+    {
+        self.script.records()
+    }
+}
