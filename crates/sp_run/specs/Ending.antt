@@ -1,9 +1,15 @@
 -- How a run ends: a relation between what is outside before it and after it, and its status (docs/RULES.md, "The program").
 use Rattle.std.specs.Prelude.{◌≡◌, ℕ, ◌≤◌, ◌⊎◌, List, length, string_bytes, Option, Some, None, Ok, Err}
 use Rattle.std.specs.declared.result.Result.{Result}
-use Rattle.std.specs.Io.KnownBytes.{Appends, Consumes, Keeps}
-use Rattle.spec_text.specs.Lines.{line_texts, read_lines}
+use Rattle.std.specs.Io.KnownBytes.{Appends, Consumes, IsAtEnd, Keeps}
+use Rattle.spec_text.specs.Lines.{line_texts, lines, read_lines, reading_of}
 use Rattle.spec_state.specs.State.{opened_state}
+use Rattle.spec_machine.specs.Machine.{Memory, opened_memory}
+use Rattle.spec_session.specs.CommandLines.{command_lines}
+use Rattle.spec_session.specs.Runs.{output_of}
+use Rattle.spec_session.specs.Sessions.{SessionEnds, streams}
+use Rattle.spec_session.specs.declared.SessionEnd.{SessionEnd}
+use Rattle.spec_session.specs.declared.SessionEnd.TheVariants as endings
 use Rattle.spec_state.specs.Printing.{Printing, too_long, no_utf8, long_line, printed, printed_state, printing_of}
 use Rattle.sp_kit.specs.Causes.{Rose}
 use Rattle.sp_kit.specs.Files.{ShelfState}
@@ -12,8 +18,9 @@ use Rattle.sp_text.specs.Gap.{LinesState}
 use Rattle.sp_text.specs.declared.fault.TextFault.TheVariants as faults
 use Rattle.sp_run.specs.declared.status.Status.{Status}
 use Rattle.sp_run.specs.declared.status.Status.TheVariants as statuses
-use Rattle.sp_run.specs.Forms.{Asked}
-use Rattle.sp_run.specs.Opening.{HadScript, HadTooLong, HadNoFile, SourceFailed, ShelfFailed, FailedNothing}
+use Rattle.sp_run.specs.Forms.{OriginOf, Asked, print, desk, from_file}
+use Rattle.sp_run.specs.DeskLines.{AnswersLine, StopsAtLine, answered_lines}
+use Rattle.sp_run.specs.Opening.{HasScript, SameShelf, HadScript, HadTooLong, HadNoFile, SourceFailed, ShelfFailed, FailedNothing}
 
 -- What is outside.
 pub record Outside : Type 0 where
@@ -27,74 +34,135 @@ pub record WroteNothing (old new : Outside) : Type 0 where
   pub kept : new.sink.faults ≡ old.sink.faults
 
 -- A script was had whole and all that it prints was written.
-pub record Printed (asked : Asked) (old new : Outside) : Type 0 where
+pub record Printed (origin : OriginOf) (old new : Outside) : Type 0 where
   pub script : List ℕ
-  pub had : HadScript asked old.source new.source old.shelf new.shelf script
+  pub had : HadScript origin old.source new.source old.shelf new.shelf script
   pub output : List ℕ
   pub becomes : printing_of script ≡ printed output
   pub wrote : Appends old.sink.taken new.sink.taken output
   pub kept : new.sink.faults ≡ old.sink.faults
 
 -- A script was had whole, and a prefix of what it prints was written.
-pub record PartWritten (asked : Asked) (old new : Outside) : Type 0 where
+pub record PartWritten (origin : OriginOf) (old new : Outside) : Type 0 where
   pub script : List ℕ
-  pub had : HadScript asked old.source new.source old.shelf new.shelf script
+  pub had : HadScript origin old.source new.source old.shelf new.shelf script
   pub output : List ℕ
   pub becomes : printing_of script ≡ printed output
   pub wrote : AppendsPrefix old.sink.taken new.sink.taken output
 
 -- The sink failed, and what was written is a prefix of what a script prints that was had whole.
-pub record PartPrinted (asked : Asked) (old new : Outside) : Type 0 where
-  pub part : PartWritten asked old new
+pub record PartPrinted (origin : OriginOf) (old new : Outside) : Type 0 where
+  pub part : PartWritten origin old new
   pub rose : Rose old.sink.faults new.sink.faults
 
 -- A script was had whole, is refused for this reason, and nothing was written.
-pub record Refused (asked : Asked) (old new : Outside) (reason : Printing) : Type 0 where
+pub record Refused (origin : OriginOf) (old new : Outside) (reason : Printing) : Type 0 where
   pub script : List ℕ
-  pub had : HadScript asked old.source new.source old.shelf new.shelf script
+  pub had : HadScript origin old.source new.source old.shelf new.shelf script
   pub becomes : printing_of script ≡ reason
   pub nothing : WroteNothing old new
 
 -- The script is too long, and nothing was written.
-pub record TooLong (asked : Asked) (old new : Outside) : Type 0 where
-  pub long : HadTooLong asked old.source new.source old.shelf new.shelf
+pub record TooLong (origin : OriginOf) (old new : Outside) : Type 0 where
+  pub long : HadTooLong origin old.source new.source old.shelf new.shelf
   pub nothing : WroteNothing old new
 
 -- There is no file under this name, and nothing was written.
-pub record FoundNone (asked : Asked) (old new : Outside) (name : List ℕ) : Type 0 where
-  pub none : HadNoFile asked old.source new.source old.shelf new.shelf name
+pub record FoundNone (origin : OriginOf) (old new : Outside) (name : List ℕ) : Type 0 where
+  pub none : HadNoFile origin old.source new.source old.shelf new.shelf name
   pub nothing : WroteNothing old new
 
 -- The source failed, and nothing was written.
-pub record ReadFailed (asked : Asked) (old new : Outside) : Type 0 where
-  pub failed : SourceFailed asked old.source new.source old.shelf new.shelf
+pub record ReadFailed (origin : OriginOf) (old new : Outside) : Type 0 where
+  pub failed : SourceFailed origin old.source new.source old.shelf new.shelf
   pub nothing : WroteNothing old new
 
 -- The shelf failed, and nothing was written.
-pub record FetchFailed (asked : Asked) (old new : Outside) : Type 0 where
-  pub failed : ShelfFailed asked old.source new.source old.shelf new.shelf
+pub record FetchFailed (origin : OriginOf) (old new : Outside) : Type 0 where
+  pub failed : ShelfFailed origin old.source new.source old.shelf new.shelf
   pub nothing : WroteNothing old new
 
 -- There was no memory: no count of faults rose, and nothing was written, or a prefix of what a script prints that was
 -- had whole.
-pub record OutOfMemory (asked : Asked) (old new : Outside) : Type 0 where
-  pub kept : FailedNothing asked old.source new.source old.shelf new.shelf
+pub record OutOfMemory (origin : OriginOf) (old new : Outside) : Type 0 where
+  pub kept : FailedNothing origin old.source new.source old.shelf new.shelf
   pub writes : new.sink.faults ≡ old.sink.faults
-  pub wrote : Keeps old.sink.taken new.sink.taken ⊎ PartWritten asked old new
+  pub wrote : Keeps old.sink.taken new.sink.taken ⊎ PartWritten origin old new
+
+-- How a run ends that prints a script.
+abbrev pub PrintEnds : OriginOf → Outside → Outside → Status → Type 0
+PrintEnds origin old new statuses.Done = Printed origin old new
+PrintEnds origin old new statuses.Usage = ⊥
+PrintEnds origin old new (statuses.NoFile name) = FoundNone origin old new (string_bytes name)
+PrintEnds origin old new (statuses.BadText (faults.NotUtf8 place)) = Refused origin old new (no_utf8 place)
+PrintEnds origin old new (statuses.BadText (faults.LineFull place)) = Refused origin old new (long_line place)
+PrintEnds origin old new (statuses.BadText faults.TextFull) = TooLong origin old new
+PrintEnds origin old new (statuses.BadText faults.NoMemory) = ⊥
+PrintEnds origin old new statuses.ReadFault = ReadFailed origin old new
+PrintEnds origin old new statuses.WriteFault = PartPrinted origin old new
+PrintEnds origin old new statuses.ShelfFault = FetchFailed origin old new
+PrintEnds origin old new statuses.NoMemory = OutOfMemory origin old new
+PrintEnds origin old new (statuses.CommandLong number) = ⊥
+PrintEnds origin old new statuses.InputFull = ⊥
+
+-- ---- a session of a desk
+
+-- The shelf has this script under the name, and was left as it was; the script was opened as a desk without records, and so its
+-- session ended.
+pub record HeldSession (name : List ℕ) (old new : Outside) (end : SessionEnd) : Type 0 where
+  pub script : List ℕ
+  pub has : HasScript old.shelf name script
+  pub shelf : SameShelf old.shelf new.shelf
+  pub texts : List (List ℕ)
+  pub reads : reading_of script ≡ lines texts
+  pub after : Memory
+  pub ends : SessionEnds AnswersLine StopsAtLine (streams old.source old.sink) (streams new.source new.sink) (opened_memory (opened_state texts)) after end
+
+-- The shelf has a script under the name and was left as it was, and this is the memory of its desk.
+pub record OpensDesk (shelf after : ShelfState) (name : List ℕ) (memory : Memory) : Type 0 where
+  pub script : List ℕ
+  pub has : HasScript shelf name script
+  pub same : SameShelf shelf after
+  pub texts : List (List ℕ)
+  pub reads : reading_of script ≡ lines texts
+  pub is : memory ≡ opened_memory (opened_state texts)
+
+-- There was no memory for the desk: no count of faults rose, and nothing was read or written.
+pub record NotOpened (name : List ℕ) (old new : Outside) : Type 0 where
+  pub kept : FailedNothing (from_file name) old.source new.source old.shelf new.shelf
+  pub nothing : WroteNothing old new
+
+-- How a run ends that answers commands by a desk.
+abbrev pub DeskEnds : List ℕ → Outside → Outside → Status → Type 0
+DeskEnds name old new statuses.Done = HeldSession name old new endings.Done
+DeskEnds name old new statuses.Usage = ⊥
+DeskEnds name old new (statuses.NoFile given) = FoundNone (from_file name) old new (string_bytes given)
+DeskEnds name old new (statuses.BadText (faults.NotUtf8 place)) = Refused (from_file name) old new (no_utf8 place)
+DeskEnds name old new (statuses.BadText (faults.LineFull place)) = Refused (from_file name) old new (long_line place)
+DeskEnds name old new (statuses.BadText faults.TextFull) = TooLong (from_file name) old new
+DeskEnds name old new (statuses.BadText faults.NoMemory) = ⊥
+DeskEnds name old new statuses.ReadFault = HeldSession name old new endings.ReadFault
+DeskEnds name old new statuses.WriteFault = HeldSession name old new endings.WriteFault
+DeskEnds name old new statuses.ShelfFault = FetchFailed (from_file name) old new
+DeskEnds name old new statuses.NoMemory = NotOpened name old new ⊎ HeldSession name old new endings.NoMemory
+DeskEnds name old new (statuses.CommandLong number) = HeldSession name old new (endings.CommandLong number)
+DeskEnds name old new statuses.InputFull = HeldSession name old new endings.InputFull
 
 -- How a run ends whose words ask for this.
 abbrev pub Ends : Asked → Outside → Outside → Status → Type 0
-Ends asked old new statuses.Done = Printed asked old new
-Ends asked old new statuses.Usage = ⊥
-Ends asked old new (statuses.NoFile name) = FoundNone asked old new (string_bytes name)
-Ends asked old new (statuses.BadText (faults.NotUtf8 place)) = Refused asked old new (no_utf8 place)
-Ends asked old new (statuses.BadText (faults.LineFull place)) = Refused asked old new (long_line place)
-Ends asked old new (statuses.BadText faults.TextFull) = TooLong asked old new
-Ends asked old new (statuses.BadText faults.NoMemory) = ⊥
-Ends asked old new statuses.ReadFault = ReadFailed asked old new
-Ends asked old new statuses.WriteFault = PartPrinted asked old new
-Ends asked old new statuses.ShelfFault = FetchFailed asked old new
-Ends asked old new statuses.NoMemory = OutOfMemory asked old new
+Ends (print origin) old new status = PrintEnds origin old new status
+Ends (desk name) old new status = DeskEnds name old new status
+
+-- All command lines of the input were answered by a desk of the script: what was written are the replies of the machine.
+pub record AnsweredAll (name : List ℕ) (old new : Outside) : Type 0 where
+  pub script : List ℕ
+  pub has : HasScript old.shelf name script
+  pub texts : List (List ℕ)
+  pub reads : reading_of script ≡ lines texts
+  pub input : List ℕ
+  pub gave : Consumes old.source.unread new.source.unread input
+  pub at_end : IsAtEnd new.source.unread
+  pub wrote : Appends old.sink.taken new.sink.taken (output_of (answered_lines (opened_memory (opened_state texts)) (command_lines input)))
 
 -- The status refuses a script with this fate, or there is no memory.
 abbrev pub Refuses : Printing → Status → Type 0
@@ -124,16 +192,16 @@ AnswersFile name (Some script) status = Answers (printing_of script) status
 abbrev pub ReadsUpTo : Option (List ℕ) → Option (List ℕ) → ℕ → Type 0
 ReadsUpTo old new most = (bytes : List ℕ) × Consumes old new bytes × (length bytes ≤ most)
 
--- A script with these lines is printed: they were just read, and its sheets are those of the state that opening it gives.
-pub record HasLines (fate : Printing) (text : LinesState) : Type 0 where
-  pub becomes : fate ≡ printed (printed_state (opened_state (line_texts text.lines)))
+-- A script has these lines, which were just read.
+pub record HasLines (script : List ℕ) (text : LinesState) : Type 0 where
+  pub reads : reading_of script ≡ lines (line_texts text.lines)
   pub read : text.lines ≡ read_lines (line_texts text.lines)
   pub next : text.next ≡ length text.lines
 
--- The lines of a script that is printed, or the status that refuses it.
-abbrev pub IsReadable : Printing → Result LinesState Status → Type 0
-IsReadable fate (Ok text) = HasLines fate text
-IsReadable fate (Err status) = Refuses fate status
+-- The lines of a script, or the status that refuses it.
+abbrev pub IsReadable : List ℕ → Result LinesState Status → Type 0
+IsReadable script (Ok text) = HasLines script text
+IsReadable script (Err status) = Refuses (printing_of script) status
 
 -- What is outside, by what can be told of the source, the sink and the shelf.
 abbrev pub outside : SourceState → SinkState → ShelfState → Outside
@@ -146,6 +214,6 @@ NotDone statuses.Usage = ⊥
 NotDone status = Unit {0}
 
 -- How the printing of a script ends: Ok is the status Done.
-abbrev pub EndsAs : Asked → Outside → Outside → Result (Unit {0}) Status → Type 0
-EndsAs asked old new (Ok done) = Ends asked old new statuses.Done
-EndsAs asked old new (Err status) = Ends asked old new status × NotDone status
+abbrev pub EndsAs : OriginOf → Outside → Outside → Result (Unit {0}) Status → Type 0
+EndsAs origin old new (Ok done) = PrintEnds origin old new statuses.Done
+EndsAs origin old new (Err status) = PrintEnds origin old new status × NotDone status

@@ -1,24 +1,22 @@
 use Rattle.std.proofs.Common.{◌≡◌, ℕ, ◌+◌, List, [], ◌∷◌, length, ap, sym, ◌∙◌, refl}
 use Rattle.std.proofs.lemmas.List.{length-map}
-use Rattle.spec_text.specs.Lines.{LineState, reading_of, lines_from, read_lines, line_texts}
-use Rattle.spec_state.specs.State.{opened_state}
-use Rattle.spec_state.specs.Printing.{printed, printed_state, printing_of, printing_of_reading}
+use Rattle.spec_text.specs.Lines.{LineState, lines, reading_of, lines_from, read_lines, line_texts}
 use Rattle.sp_text.specs.Gap.{LinesState}
 use Rattle.sp_text.specs.Reading.{IsRead}
 use Rattle.sp_run.specs.Ending.{HasLines}
-use Rattle.sp_run.proofs.print.read_lines.Goals as goal
+use Rattle.sp_run.proofs.script.read_lines.Goals as goal
 
 -- The texts of lines that were read.
 texts-from : (id : ℕ) (texts : List (List ℕ)) → line_texts (lines_from id texts) ≡ texts
 texts-from id [] = refl
 texts-from id (text ∷ texts) = ap (λ (ts : List (List ℕ)). text ∷ ts) (texts-from (id + 1) texts)
 
--- What becomes of a script that was read, by its lines.
-lines-read : (script : List ℕ) (text : LinesState) → IsRead (reading_of script) text → HasLines (printing_of script) text
+-- A script that was read, by its lines.
+lines-read : (script : List ℕ) (text : LinesState) → IsRead (reading_of script) text → HasLines script text
 lines-read script text read =
     let same : line_texts text.lines ≡ read.texts = ap line_texts read.lines_are ∙ texts-from 0 read.texts in
     record {
-      becomes = ap printing_of_reading read.came_to ∙ ap (λ (ts : List (List ℕ)). printed (printed_state (opened_state ts))) (sym same);
+      reads = read.came_to ∙ ap lines (sym same);
       read = read.lines_are ∙ ap read_lines (sym same);
       next = read.next_is ∙ sym (ap length same) ∙ length-map text.lines (λ (line : LineState). line.text);
     }
