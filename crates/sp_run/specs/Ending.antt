@@ -2,15 +2,15 @@
 use Rattle.std.specs.Prelude.{◌≡◌, ℕ, ◌≤◌, ◌⊎◌, List, length, string_bytes, Option, Some, None, Ok, Err}
 use Rattle.std.specs.declared.result.Result.{Result}
 use Rattle.std.specs.Io.KnownBytes.{Appends, Consumes, IsAtEnd, Keeps}
-use Rattle.spec_text.specs.Lines.{line_texts, lines, read_lines, reading_of}
+use Rattle.spec_text.specs.Lines.{Reading, line_texts, lines, read_lines, reading_of}
 use Rattle.spec_state.specs.State.{opened_state}
 use Rattle.spec_machine.specs.Machine.{Memory, opened_memory}
-use Rattle.spec_session.specs.CommandLines.{command_lines}
+use Rattle.spec_session.specs.CommandLines.{KeepsLimits, IsFirstLong, IsFull, command_lines}
 use Rattle.spec_session.specs.Runs.{output_of}
 use Rattle.spec_session.specs.Sessions.{SessionEnds, streams}
 use Rattle.spec_session.specs.declared.SessionEnd.{SessionEnd}
 use Rattle.spec_session.specs.declared.SessionEnd.TheVariants as endings
-use Rattle.spec_state.specs.Printing.{Printing, too_long, no_utf8, long_line, printed, printed_state, printing_of}
+use Rattle.spec_state.specs.Printing.{Printing, too_long, no_utf8, long_line, printed, printed_state, printing_of, printing_of_reading}
 use Rattle.sp_kit.specs.Causes.{Rose}
 use Rattle.sp_kit.specs.Files.{ShelfState}
 use Rattle.sp_kit.specs.Outside.{SourceState, SinkState, AppendsPrefix}
@@ -187,6 +187,24 @@ SaysNoFile name _ = ⊥
 abbrev pub AnswersFile : List ℕ → Option (List ℕ) → Status → Type 0
 AnswersFile name None status = SaysNoFile name status
 AnswersFile name (Some script) status = Answers (printing_of script) status
+
+-- The status is the one that the command lines of an input ask for, or there is no memory.
+abbrev pub AnswersInput : List ℕ → Status → Type 0
+AnswersInput input statuses.Done = KeepsLimits input
+AnswersInput input (statuses.CommandLong number) = IsFirstLong input number
+AnswersInput input statuses.InputFull = IsFull input
+AnswersInput input statuses.NoMemory = Unit {0}
+AnswersInput input _ = ⊥
+
+-- The status answers a script that was read so: it is refused, or the commands of an input are answered.
+abbrev pub AnswersRead : Reading → List ℕ → Status → Type 0
+AnswersRead (lines texts) input status = AnswersInput input status
+AnswersRead reading input status = Refuses (printing_of_reading reading) status
+
+-- The status answers what stands under a name, and the commands of an input.
+abbrev pub AnswersDesk : List ℕ → Option (List ℕ) → List ℕ → Status → Type 0
+AnswersDesk name None input status = SaysNoFile name status
+AnswersDesk name (Some script) input status = AnswersRead (reading_of script) input status
 
 -- At most so many bytes were read.
 abbrev pub ReadsUpTo : Option (List ℕ) → Option (List ℕ) → ℕ → Type 0
