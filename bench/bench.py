@@ -1,5 +1,6 @@
 """Times `print` on scripts of 1, 2, 4, 8 and 16 MiB, beside `fold -s -w 60 FILE | pr -l 57` on the same file in the same run,
-and on scripts of 25,000 to 200,000 lines that a careless reader is slow on.
+and on scripts of 25,000 to 200,000 lines that a careless reader is slow on; and sessions of `desk` on scripts of 2,000 to
+200,000 lines: the opening, a splice and an undo.
 
 For each kind of script and each size it prints the time of `print`, MB/s, the peak memory over the size of the input, how
 much longer it took than at half the size, and the ratio to `fold | pr`. Each time is the least of several runs.
@@ -8,6 +9,7 @@ much longer it took than at half the size, and the ratio to `fold | pr`. Each ti
 """
 
 import argparse
+import json
 import os
 import pathlib
 import random
@@ -19,6 +21,9 @@ TOP = pathlib.Path(__file__).resolve().parent.parent
 PROGRAM = TOP / "crates/fountain_cli/out/fountain_cli"
 MIB = 1 << 20
 PRINT = '"$PROGRAM" print < "$FILE" > /dev/null'
+DESK = '"$PROGRAM" desk "$FILE" < "$FILE.commands" > /dev/null'
+# How many splices a session has, and how many undos.
+EDITS = 200
 # A script has at most 16,777,216 bytes with a line end behind its last line.
 MOST_BYTES = 16_777_215
 
@@ -97,6 +102,17 @@ LINES = {
 }
 
 
+# Short scenes, one behind the other.
+SCENE = "INT. ROOM - DAY\n\nThe lamp is lit.\n\nANNA\n(to BERT)\nI have counted the lamps.\n\nBERT\nCount them again.\n\n"
+
+
+def session(lines, splices, undos):
+    """Splices into an action in the middle of so many lines, and undos."""
+    line = lines // 2 // 11 * 11 + 2
+    commands = [{"do": "splice", "line": line, "from": 0, "to": 0, "text": "Now. "}] * splices + [{"do": "undo"}] * undos
+    return "".join(json.dumps(command) + "\n" for command in commands)
+
+
 def least(command, path, runs):
     """The least time of some runs of a shell command."""
     times = []
@@ -128,18 +144,20 @@ def peak_memory(path):
 
 def main():
     parser = argparse.ArgumentParser()
-    parser.add_argument("--kind", choices=sorted([*KINDS, *LINES]), action="append")
+    parser.add_argument("--kind", choices=sorted([*KINDS, *LINES, "session"]), action="append")
     parser.add_argument("--runs", type=int, default=5)
     parser.add_argument("--most", type=int, default=16)
     options = parser.parse_args()
     subprocess.run([TOP / "run", "print"], stdin=subprocess.DEVNULL, check=True)
-    kinds = options.kind or [*KINDS, *LINES]
+    kinds = options.kind or [*KINDS, *LINES, "session"]
     with tempfile.TemporaryDirectory() as folder:
         folder = pathlib.Path(folder)
         if sizes := [kind for kind in kinds if kind in KINDS]:
             time_sizes(folder, sizes, options)
         if lines := [kind for kind in kinds if kind in LINES]:
             time_lines(folder, lines, options)
+        if "session" in kinds:
+            time_sessions(folder, options)
 
 
 def growth(before, seconds):
@@ -177,6 +195,20 @@ def time_lines(folder, kinds, options):
             print(f"{kind:10} {lines:7} {seconds:9.4f} {growth(before, seconds)}", flush=True)
             before = seconds
             path.unlink()
+
+
+def time_sessions(folder, options):
+    """Times the opening, a splice and an undo by the number of lines, and prints a row for each."""
+    print(f"{'kind':10} {'lines':>7} {'open s':>9} {'splice s':>9} {'undo s':>9}")
+    for lines in (2_000, 20_000, 200_000):
+        path = folder / f"session{lines}"
+        path.write_text(SCENE * (lines // 11))
+        times = []
+        for splices, undos in ((0, 0), (EDITS, 0), (EDITS, EDITS)):
+            (folder / f"{path.name}.commands").write_text(session(lines, splices, undos))
+            times.append(least(DESK, path, 1 if lines == 200_000 else options.runs))
+        opened, spliced, undone = times
+        print(f"{'session':10} {lines:7} {opened:9.4f} {(spliced - opened) / EDITS:9.5f} {(undone - spliced) / EDITS:9.5f}", flush=True)
 
 
 if __name__ == "__main__":
