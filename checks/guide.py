@@ -5,6 +5,8 @@ import re
 import subprocess
 import sys
 
+from report import tell
+
 TOP = pathlib.Path(__file__).resolve().parent.parent
 PROGRAM = TOP / "crates/fountain_cli/out/fountain_cli"
 
@@ -29,13 +31,8 @@ def faults():
 
 def main():
     if not PROGRAM.exists():
-        print("guide: the program isn't built, so the guide isn't run")
-        return 1
-    found = list(faults())
-    for fault in found:
-        print(f"guide: {fault}")
-    print(f"guide: {len(list(sessions()))} sessions, {len(found)} faults")
-    return 1 if found else 0
+        return tell("guide", "no session was run", ["the program isn't built"])
+    return tell("guide", f"{len(list(sessions()))} sessions", list(faults()))
 
 
 if __name__ == "__main__":

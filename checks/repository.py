@@ -5,6 +5,8 @@ import pathlib
 import re
 import sys
 
+from report import tell
+
 TOP = pathlib.Path(__file__).resolve().parent.parent
 CRATES = TOP / "crates"
 MOST_LINES = 800
@@ -60,11 +62,7 @@ def edits():
 
 def main():
     checks = [handles, sizes, sections, names, edits]
-    faults = [fault for check in checks for fault in check()]
-    for fault in faults:
-        print(f"checks: {fault}")
-    print(f"checks: {len(checks)} checks, {len(faults)} faults")
-    return 1 if faults else 0
+    return tell("checks", f"{len(checks)} checks", [fault for check in checks for fault in check()])
 
 
 if __name__ == "__main__":

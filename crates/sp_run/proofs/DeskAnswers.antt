@@ -1,6 +1,6 @@
 -- The status that a desk's script and its command lines ask for, where no fault is counted.
-use Rattle.std.proofs.Common.{◌≡◌, ℕ, ◌-◌, ◌^◌, ◌<◌, List, Some, None, refl, sym, ap, ◌∙◌, subst, arith}
-use Rattle.std.specs.Prelude.{IfSome, IsSomeAnd}
+use Rattle.std.proofs.Common.{◌≡◌, ℕ, ◌-◌, ◌^◌, ◌<◌, List, Some, None, refl, sym, ◌∙◌, subst}
+use Rattle.std.specs.Prelude.{IsSomeAnd}
 use Rattle.std.specs.declared.option.Option.{Option}
 use Rattle.spec_text.specs.Lines.{Reading, text_full, not_utf8, line_full, lines, reading_of}
 use Rattle.spec_session.specs.Sessions.{FailedNothing, Settles, streams}
@@ -10,7 +10,6 @@ use Rattle.spec_session.proofs.EndLaws.{ends-settle}
 use Rattle.spec_machine.specs.Machine.{opened_memory}
 use Rattle.spec_state.specs.State.{opened_state}
 use Rattle.spec_state.specs.Printing.{Printing, too_long, no_utf8, long_line, printed, printing_of, printing_of_reading}
-use Rattle.sp_kit.specs.Causes.{Rose}
 use Rattle.sp_kit.specs.Files.{Files}
 use Rattle.sp_text.specs.declared.fault.TextFault.TheVariants as faults
 use Rattle.sp_run.specs.declared.status.Status.{Status}
@@ -18,10 +17,7 @@ use Rattle.sp_run.specs.declared.status.Status.TheVariants as statuses
 use Rattle.sp_run.specs.DeskLines.{AnswersLine, StopsAtLine}
 use Rattle.sp_run.specs.Ending.{Outside, HeldSession, Refuses, AnswersInput, AnswersRead, AnswersDesk, DeskEnds}
 use Rattle.sp_run.specs.Statuses.{status_of_end}
-
--- What holds of the files that a shelf tells.
-held : (o : Option Files) (files : Files) (P : Files → Type 0) → IfSome o P → o ≡ Some files → P files
-held o files P holds is = subst (λ p. IfSome p P) is holds
+use Rattle.sp_run.proofs.Answering.{held, not-risen}
 
 settles-input : (input : List ℕ) (end : SessionEnd) → Settles input end → AnswersInput input (status_of_end end)
 settles-input input endings.Done settles = settles
@@ -84,10 +80,6 @@ memory-found name (Some script) input = memory-read (reading_of script) input
 
 none-found : (name given : List ℕ) (found : Option (List ℕ)) → found ≡ None → (status : Status) → AnswersDesk name None given status → AnswersDesk name found given status
 none-found name given found is status answers = subst (λ (it : Option (List ℕ)). AnswersDesk name it given status) (sym is) answers
-
--- A count that stayed below its greatest number didn't rise.
-not-risen : (before now : ℕ) → Rose before now → now ≡ before → before < 2 ^ 64 - 1 → ⊥
-not-risen before now rose same low = omega (arith, rose, same, low)
 
 pub desk-answers : (name : List ℕ) (old new : Outside) (status : Status) → DeskEnds name old new status → FailedNothing (streams old.source old.sink) (streams new.source new.sink)
     → new.shelf.faults ≡ old.shelf.faults → old.shelf.faults < 2 ^ 64 - 1 → (files : Files) → old.shelf.files ≡ Some files → (input : List ℕ) → old.source.unread ≡ Some input

@@ -10,7 +10,7 @@ use Rattle.spec_session.specs.Runs.{output_of}
 use Rattle.spec_session.specs.Sessions.{SessionEnds, streams}
 use Rattle.spec_session.specs.declared.SessionEnd.{SessionEnd}
 use Rattle.spec_session.specs.declared.SessionEnd.TheVariants as endings
-use Rattle.spec_state.specs.Printing.{Printing, too_long, no_utf8, long_line, printed, printed_state, printing_of, printing_of_reading}
+use Rattle.spec_state.specs.Printing.{Printing, too_long, no_utf8, long_line, printed, printing_of, printing_of_reading}
 use Rattle.sp_kit.specs.Causes.{Rose}
 use Rattle.sp_kit.specs.Files.{ShelfState}
 use Rattle.sp_kit.specs.Outside.{SourceState, SinkState, AppendsPrefix}
