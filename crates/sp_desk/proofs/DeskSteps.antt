@@ -1,5 +1,5 @@
 -- What the calls of a script make of a desk are the steps of its machine.
-use Rattle.std.proofs.Common.{◌≡◌, ℕ, ◌<◌, ◌+◌, ◌==◌, Bool, true, false, Option, Some, None, List, [], ◌∷◌, ◌++◌, length, get_or, refl, sym, ap, subst, ◌∙◌, arith}
+use Rattle.std.proofs.Common.{◌≡◌, ℕ, ◌<◌, ◌==◌, Bool, false, Option, Some, None, List, [], ◌∷◌, ◌++◌, length, get_or, refl, sym, ap, subst, ◌∙◌, arith}
 use Rattle.std.specs.Prelude.{All, option_map, is_some, nat_le, slice_get}
 use Rattle.std.proofs.lemmas.List.{length-append}
 use Rattle.std.proofs.Math.Seq.{get_or-append_seam}
@@ -18,7 +18,7 @@ use Rattle.spec_wire.specs.Commands.{CommandOf, edit, undo, redo, sheet, speaker
 use Rattle.spec_wire.specs.Replies.{RefusalOf, refused, nothing_to_undo, nothing_to_redo, pages_locked, no_sheet}
 use Rattle.spec_machine.specs.Machine.{EntryOf, Memory, opened_memory, last_entry, without_last, entry_of, edited_memory, undone_to, redone_to, memory_after}
 use Rattle.spec_machine.specs.KeptMemories.{IsEntry, IsWholeMemory}
-use Rattle.spec_machine.specs.Refusals.{refusal_to, edit_refusal, reason_if, setting_refusal}
+use Rattle.spec_machine.specs.Refusals.{refusal_to, edit_refusal, reason_if}
 use Rattle.spec_machine.specs.Answers.{step_by, step_of, accepted_reply, found_sheet, sheet_reply}
 use Rattle.spec_machine.proofs.MachineLaws.{opened-whole, step-whole}
 use Rattle.sp_state.specs.Entries.{EntryState, undone_state, redone_state, done_range, undone_range, CanUndo, CanRedo, LeadsBack, LeadsForth}

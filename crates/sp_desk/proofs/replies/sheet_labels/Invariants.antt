@@ -1,4 +1,4 @@
-use Rattle.std.proofs.Common.{◌≡◌, ◌≤◌, ◌-◌, length, take, map, vec_len, string_bytes}
+use Rattle.std.proofs.Common.{◌≡◌, ◌≤◌, ◌-◌, length, take, map, string_bytes}
 use Rattle.spec_state.specs.StateSheets.{sheets_of_state}
 use Rattle.spec_machine.specs.Answers.{label_of_sheet}
 use Rattle.sp_desk.proofs.replies.sheet_labels.Given as goal
