@@ -1,0 +1,9 @@
+pub mod Steps
+pub mod AmongLaws
+pub mod SplitLaws
+pub mod SegmentLaws
+pub mod StandLaws
+pub mod ElementStepLaws
+pub mod ElementLaw
+pub mod RowMoves
+pub mod RowPlaces

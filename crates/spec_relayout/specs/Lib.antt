@@ -1,0 +1,4 @@
+pub mod Items
+pub mod Touched
+pub mod TextItems
+pub mod Standing

@@ -1,0 +1,2 @@
+//! What locks and rounds leave of the sheets of a state. Laws alone, no program.
+#![tactic(auto)]
