@@ -1,15 +1,11 @@
 -- What an edit does to the elements of both texts, step by step.
-use Rattle.std.proofs.Common.{◌≡◌, ◌⊎◌, ℕ, ◌+◌, Bool, true, false, List, [], ◌∷◌, ◌++◌, map, length, inl, inr, refl, sym, ap, ap₂, subst, ◌∙◌, arith}
+use Rattle.std.proofs.Common.{◌≡◌, true, false, List, [], ◌∷◌, ◌++◌, map, inl, refl}
 use Rattle.std.specs.Prelude.{All}
-use Rattle.std.specs.List.{flat_map}
 use Rattle.std.proofs.lemmas.Bool.{true≢false}
 use Rattle.std.proofs.lemmas.List.Elements.{All-nil, All-cons, All-head, All-tail, All-append}
-use Rattle.spec_labels.specs.Spots.{Spot, Bounds, BoundsFollow}
 use Rattle.spec_text.specs.Ranges.{RangeOf}
-use Rattle.spec_relayout.specs.Items.{Item, start_of}
-use Rattle.spec_relayout.proofs.Steps.{Step, before_of, after_of, was_there, is_there, item_after, IsLeft, Keeps, LiesBetween, IsLaidOut, NoneStepStands, TextOf, stays, goes, comes, edit_steps, NoneTouchedStands}
-use Rattle.spec_relayout.proofs.StandLaws.{row_count, IsOneKind, IsElement}
-use Rattle.spec_relayout.proofs.ElementStepLaws.{TouchedBoth, steps-before, steps-after, none-before, none-after}
+use Rattle.spec_relayout.proofs.Steps.{Step, item_after, IsLeft, TextOf, stays, goes, comes, edit_steps}
+use Rattle.spec_relayout.proofs.StandLaws.{IsOneKind}
 
 -- What is asked of an element of a text: rows alone or none, and nothing outside the body.
 pub record Fair {E : Type 0} (text : TextOf E) (it : E) : Type 0 where

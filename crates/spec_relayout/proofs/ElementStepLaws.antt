@@ -1,12 +1,11 @@
 -- The steps of an edit are the elements of both texts.
-use Rattle.std.proofs.Common.{◌≡◌, ◌⊎◌, ℕ, ◌+◌, Bool, true, false, List, [], ◌∷◌, ◌++◌, map, length, refl, sym, ap, ap₂, subst, ◌∙◌, arith}
+use Rattle.std.proofs.Common.{◌≡◌, ℕ, ◌+◌, true, List, [], ◌∷◌, ◌++◌, map, refl, sym, ap, ap₂, subst, ◌∙◌, arith}
 use Rattle.std.specs.Prelude.{All}
 use Rattle.std.specs.List.{flat_map}
-use Rattle.std.proofs.lemmas.List.{append-nil, append_assoc}
 use Rattle.std.proofs.lemmas.List.Concat.{flat_map-append}
 use Rattle.std.proofs.lemmas.List.Elements.{All-head, All-tail}
 use Rattle.spec_relayout.specs.Items.{Item}
-use Rattle.spec_relayout.proofs.Steps.{Step, before_of, after_of, was_there, is_there, Stands, NoneStepStands, TextOf, stays, goes, comes, edit_steps, NoneTouchedStands}
+use Rattle.spec_relayout.proofs.Steps.{before_of, after_of, was_there, is_there, NoneStepStands, TextOf, stays, goes, comes, edit_steps, NoneTouchedStands}
 use Rattle.spec_relayout.proofs.StandLaws.{row_count}
 
 before-stays : {E : Type 0} (old new : TextOf E) (move : E → E) (es : List E) → flat_map before_of (map (stays old new move) es) ≡ flat_map old.items es

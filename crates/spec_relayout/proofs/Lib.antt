@@ -7,3 +7,5 @@ pub mod ElementStepLaws
 pub mod ElementLaw
 pub mod RowMoves
 pub mod RowPlaces
+pub mod ItemMoves
+pub mod ElementMoves

@@ -1,13 +1,13 @@
 -- A segment that no touched element stands in keeps what it shows.
-use Rattle.std.proofs.Common.{◌≡◌, ◌⊎◌, ℕ, Bool, true, false, cond, List, [], ◌∷◌, ◌++◌, map, inl, inr, refl, sym, ap, ap₂, subst, ◌∙◌, arith}
+use Rattle.std.proofs.Common.{◌≡◌, Bool, true, false, cond, List, [], ◌∷◌, ◌++◌, map, inl, inr, refl, sym, ap, ap₂, ◌∙◌}
 use Rattle.std.specs.Prelude.{filter, All}
 use Rattle.std.specs.List.{flat_map}
-use Rattle.std.proofs.lemmas.Bool.{cases_Bool, cond-true, cond-false}
+use Rattle.std.proofs.lemmas.Bool.{cases_Bool}
 use Rattle.std.proofs.lemmas.List.{map-append}
 use Rattle.std.proofs.lemmas.List.Elements.{All-head, All-tail, filter-append}
-use Rattle.spec_labels.specs.Spots.{Spot, Bounds, is_within, spot_after, BoundsFollow}
-use Rattle.spec_text.specs.Ranges.{RangeOf, IsOutside}
-use Rattle.spec_relayout.specs.Items.{Sight, Item, sight_of, is_inside, sights_in}
+use Rattle.spec_labels.specs.Spots.{Bounds, is_within, BoundsFollow}
+use Rattle.spec_text.specs.Ranges.{RangeOf}
+use Rattle.spec_relayout.specs.Items.{Item, sight_of, is_inside, sights_in}
 use Rattle.spec_relayout.proofs.Steps.{Step, before_of, after_of, item_after, IsLeft, Keeps, Clear}
 use Rattle.spec_labels.proofs.SpotLaws.{within-after}
 

@@ -1,12 +1,10 @@
 -- A text whose spots rise, cut at the two ends of a segment.
-use Rattle.std.proofs.Common.{◌≡◌, ◌⊎◌, ℕ, zero, suc, ◌+◌, ◌-◌, ◌<◌, ◌≤◌, Bool, true, false, not, ◌&&◌, ◌||◌, cond, List, [], ◌∷◌, ◌++◌, map, length, inl, inr, refl, sym, ap, ap₂, subst, ◌∙◌, arith}
-use Rattle.std.specs.Prelude.{filter, All, AllPairs}
+use Rattle.std.proofs.Common.{◌≡◌, zero, suc, ◌≤◌, Bool, true, false, not, ◌&&◌, cond, List, [], ◌∷◌, ◌++◌, map, length, inl, inr, refl, sym, ap, ◌∙◌, arith}
+use Rattle.std.specs.Prelude.{filter, AllPairs}
 use Rattle.std.proofs.lemmas.Bool.{cases_Bool}
 use Rattle.std.proofs.lemmas.List.{map-append, append_assoc}
-use Rattle.std.proofs.lemmas.List.Elements.{All-head, All-tail}
-use Rattle.spec_labels.specs.Spots.{Spot, is_ahead, Bounds, is_within, AtMost}
-use Rattle.spec_layout.specs.Shown.{Shown}
-use Rattle.spec_relayout.specs.Items.{Sight, page_break, row, Item, sight_of, is_inside, sights_in, rows_among, shapes_among, is_front, is_back, front_of, back_of, all_sights, start_of}
+use Rattle.spec_labels.specs.Spots.{Spot, is_ahead, Bounds, AtMost}
+use Rattle.spec_relayout.specs.Items.{Sight, page_break, row, Item, sight_of, is_inside, sights_in, shapes_among, is_front, is_back, front_of, back_of, all_sights, start_of}
 use Rattle.spec_relayout.proofs.Steps.{AreRising}
 use Rattle.spec_labels.proofs.SpotLaws.{ahead-then, ahead-atmost}
 

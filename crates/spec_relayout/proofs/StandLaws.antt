@@ -1,13 +1,12 @@
 -- An element that doesn't stand in a segment has nothing between the segment's ends.
-use Rattle.std.proofs.Common.{◌≡◌, ◌⊎◌, ℕ, zero, suc, ◌+◌, ◌-◌, ◌<◌, ◌≤◌, Bool, true, false, not, ◌&&◌, cond, List, [], ◌∷◌, ◌++◌, map, length, get_or, inl, inr, refl, sym, ap, ap₂, subst, ◌∙◌, arith, length-append, get_or-append-add}
+use Rattle.std.proofs.Common.{◌≡◌, ◌⊎◌, ℕ, ◌+◌, ◌<◌, ◌≤◌, Bool, true, false, not, ◌&&◌, cond, List, [], ◌∷◌, ◌++◌, map, length, get_or, inl, inr, refl, sym, ap, subst, ◌∙◌, arith, length-append, get_or-append-add}
 use Rattle.std.specs.Prelude.{filter, All, AllPairs}
 use Rattle.std.specs.List.{flat_map}
 use Rattle.std.proofs.lemmas.Bool.{cases_Bool}
 use Rattle.std.proofs.lemmas.List.{map-append, append_assoc, get_or_append_left}
 use Rattle.std.proofs.lemmas.List.Elements.{All-nil, All-cons, All-head, All-tail, filter-append}
 use Rattle.spec_labels.specs.Spots.{Spot, is_ahead, Bounds, is_within}
-use Rattle.spec_layout.specs.Shown.{Shown}
-use Rattle.spec_relayout.specs.Items.{Sight, page_break, row, Item, sight_of, is_inside, sights_in, rows_among, shapes_among, is_front, front_of, all_sights, start_of}
+use Rattle.spec_relayout.specs.Items.{Sight, page_break, row, Item, sight_of, is_inside, sights_in, shapes_among, is_front, all_sights, start_of}
 use Rattle.spec_relayout.proofs.Steps.{Step, AreRising, Stands, NoneStepStands}
 use Rattle.spec_relayout.proofs.AmongLaws.{shapes_among-append}
 use Rattle.spec_relayout.proofs.SplitLaws.{none-behind, rising-front}

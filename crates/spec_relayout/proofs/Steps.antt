@@ -3,7 +3,7 @@ use Rattle.std.specs.Prelude.{◌≡◌, ◌⊎◌, ℕ, ◌+◌, ◌<◌, ◌�
 use Rattle.spec_text.specs.Ranges.{RangeOf, IsOutside}
 use Rattle.spec_pages.specs.OwnPages.{AreJoined}
 use Rattle.spec_labels.specs.Spots.{Spot, is_ahead, AtMost, Bounds, spot_after}
-use Rattle.spec_relayout.specs.Items.{Item, sight_of, all_sights, sights_in, shapes_among, front_of, back_of}
+use Rattle.spec_relayout.specs.Items.{Item, all_sights, sights_in, shapes_among, front_of, back_of}
 
 -- An element before and after an edit: whether it is touched, whether it was and is there, and what it has.
 pub record Step : Type 0 where
