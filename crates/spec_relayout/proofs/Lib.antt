@@ -9,3 +9,17 @@ pub mod RowMoves
 pub mod RowPlaces
 pub mod ItemMoves
 pub mod ElementMoves
+pub mod SoundElements
+pub mod ItemRows
+pub mod ItemsRise
+pub mod WindowSides
+pub mod Partners
+pub mod PartnerCases
+pub mod WindowPartners
+pub mod TouchedRuns
+pub mod RelaidTouched
+pub mod FairElements
+pub mod AsideBlocks
+pub mod KeptElements
+pub mod StandingLaws
+pub mod LockedSights
