@@ -1,5 +1,5 @@
 -- What an element has whose blocks an edit leaves.
-use Rattle.std.proofs.Common.{◌≡◌, ◌⊎◌, ℕ, ◌+◌, ◌-◌, ◌<◌, ◌≤◌, Bool, true, false, cond, Option, None, List, [], ◌∷◌, ◌++◌, map, inl, inr, refl, sym, ap, ap₂, subst, ◌∙◌, arith}
+use Rattle.std.proofs.Common.{◌≡◌, ◌⊎◌, ℕ, ◌+◌, ◌-◌, ◌<◌, ◌≤◌, Bool, true, false, cond, Option, List, [], ◌∷◌, ◌++◌, map, inl, inr, refl, sym, ap, ap₂, subst, ◌∙◌, arith}
 use Rattle.std.specs.Prelude.{All}
 use Rattle.std.proofs.lemmas.Bool.{lt-ltb, le-ltb}
 use Rattle.std.proofs.lemmas.List.{map-append}
@@ -20,7 +20,7 @@ use Rattle.spec_layout.specs.Shown.{Shown, element_cue}
 use Rattle.spec_layout.proofs.ElementPlaces.{LinesRise, placed_to}
 use Rattle.spec_relayout.specs.Items.{Item, page_break, row as shown_row}
 use Rattle.spec_relayout.specs.Touched.{line_of_block}
-use Rattle.spec_relayout.specs.TextItems.{Script, spoken_by, is_heading_of, element_label, text_rows, row_item, row_items, break_items, element_items}
+use Rattle.spec_relayout.specs.TextItems.{Script, spoken_by, element_label, text_rows, row_item, row_items, break_items, element_items}
 use Rattle.spec_relayout.proofs.Steps.{item_after, IsLeft}
 use Rattle.spec_relayout.proofs.RowMoves.{row_to, RowAt, SameText, texts_at, single-on, pair-on, BlockMoves, single-moved, pair-moved}
 use Rattle.spec_relayout.proofs.RowPlaces.{BlockAt, alone-at, beside-at, single-at, pair-at}
@@ -207,7 +207,7 @@ module _ (range : RangeOf) where
         ap₂ (λ (a b : List Item). a ++ b) (breaks-moved element.first it.first)
         (ap (λ (made : List Row). map (row_item new.lines (element_cue (line_texts new.lines) made) (element_label new (element_after range element))) made) (bodies-moved element it speaks)
         ∙ ap₂ (λ (c : List ShownCell) (l : Option LabelOf). map (row_item new.lines c l) (map (row_to to) own))
-        (cue-moved (IsOutside range) to old.lines new.lines moved own at) (ap (λ (o : Option LabelOf). cond (is_heading_of element.first.block.kind) o None) label)
+        (cue-moved (IsOutside range) to old.lines new.lines moved own at) label
         ∙ each-row cue (element_label old element) own at)
         ∙ sym (map-append (item_after range) (break_items element.first) (row_items old element))
 

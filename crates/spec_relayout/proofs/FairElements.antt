@@ -15,7 +15,6 @@ use Rattle.spec_script.specs.Elements.{is_dual, alone, pair, elements_in, elemen
 use Rattle.spec_script.proofs.LongestRuns.{longest_runs-exist}
 use Rattle.spec_pages.specs.Rows.{Row, is_title}
 use Rattle.spec_layout.specs.Layout.{is_page_break}
-use Rattle.spec_layout.proofs.LaidRows.{element_rows, body_rows}
 use Rattle.spec_relayout.specs.Items.{Item}
 use Rattle.spec_relayout.proofs.Steps.{TextOf}
 use Rattle.spec_relayout.proofs.StandLaws.{IsOneKind}

@@ -1,5 +1,5 @@
 -- The rows and the breaks of what an element has.
-use Rattle.std.proofs.Common.{◌≡◌, ℕ, ◌+◌, Bool, true, false, cond, List, [], ◌∷◌, ◌++◌, length, map, inl, inr, refl, sym, ap, ap₂, ◌∙◌, Option, suc}
+use Rattle.std.proofs.Common.{◌≡◌, Bool, true, false, cond, List, [], ◌∷◌, ◌++◌, length, map, inl, inr, refl, sym, ap, ap₂, ◌∙◌, Option, suc}
 use Rattle.std.proofs.lemmas.Bool.{cases_Bool, true≢false}
 use Rattle.std.proofs.lemmas.List.{map-append}
 use Rattle.spec_text.specs.Lines.{LineState, line_texts}
@@ -7,7 +7,7 @@ use Rattle.spec_script.specs.declared.Kind.{Kind}
 use Rattle.spec_script.specs.declared.Kind.TheVariants as kinds
 use Rattle.spec_script.specs.LongestRuns.{Group}
 use Rattle.spec_script.specs.Stanzas.{PlacedBlock}
-use Rattle.spec_script.specs.Elements.{is_dual, alone, pair}
+use Rattle.spec_script.specs.Elements.{is_dual, alone}
 use Rattle.spec_script.proofs.ElementLaws.{dual-speech}
 use Rattle.spec_pages.specs.declared.Shape.{Shape}
 use Rattle.spec_pages.specs.Columns.{has_rows}
@@ -18,7 +18,7 @@ use Rattle.spec_layout.specs.Layout.{is_page_break}
 use Rattle.spec_layout.specs.Shown.{Shown, element_cue, shown_of, shape_of}
 use Rattle.spec_relayout.specs.Items.{Item, page_break, all_sights, sight_of, rows_among, shapes_among}
 use Rattle.spec_relayout.specs.Touched.{line_of_block}
-use Rattle.spec_relayout.specs.TextItems.{Script, spoken_by, element_label, text_rows, row_item, row_items, break_items, element_items}
+use Rattle.spec_relayout.specs.TextItems.{Script, element_label, text_rows, row_item, row_items, break_items, element_items}
 use Rattle.spec_relayout.proofs.AmongLaws.{rows_among-append}
 
 -- A page break has no row.

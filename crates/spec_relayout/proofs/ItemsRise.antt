@@ -1,10 +1,10 @@
 -- The spots of what stands in a text rise, where those of its rows do.
-use Rattle.std.proofs.Common.{◌≡◌, ◌⊎◌, ℕ, suc, Option, ◌+◌, ◌<◌, ◌≤◌, Bool, true, false, cond, List, [], ◌∷◌, ◌++◌, length, map, get_or, inl, inr, refl, sym, ap, ap₂, subst, ◌∙◌, arith, length-append}
+use Rattle.std.proofs.Common.{◌≡◌, ℕ, suc, Option, ◌<◌, ◌≤◌, Bool, true, false, cond, List, [], ◌∷◌, ◌++◌, length, map, get_or, inl, inr, sym, ap, ap₂, subst, arith, length-append}
 use Rattle.std.specs.Prelude.{All, AllPairs}
 use Rattle.std.specs.List.{flat_map}
 use Rattle.std.specs.Str.{IsUtf8}
 use Rattle.std.proofs.lemmas.Bool.{cases_Bool}
-use Rattle.std.proofs.lemmas.List.{get_or-map, length-map, map-append, get_or_append_left}
+use Rattle.std.proofs.lemmas.List.{get_or_append_left}
 use Rattle.std.proofs.lemmas.List.Elements.{All-nil, All-cons, All-append}
 use Rattle.std.proofs.lemmas.List.Kept.{AllPairs-cons}
 use Rattle.spec_text.specs.Limits.{line_count_limit}
@@ -25,7 +25,7 @@ use Rattle.spec_relayout.specs.Items.{Item, page_break}
 use Rattle.spec_relayout.specs.Touched.{line_of_block}
 use Rattle.spec_relayout.specs.TextItems.{Script, element_label, text_rows, row_item, row_items, break_items, element_items}
 use Rattle.spec_relayout.proofs.Steps.{AreRising}
-use Rattle.spec_relayout.proofs.RowMoves.{RowAt, single_on, pair_on, single-on, pair-on}
+use Rattle.spec_relayout.proofs.RowMoves.{RowAt, single-on, pair-on}
 use Rattle.spec_relayout.proofs.RowPlaces.{single-at, pair-at}
 use Rattle.spec_relayout.proofs.ItemRows.{break-none, break-some, no-break, pair-no-break}
 use Rattle.spec_relayout.proofs.SoundElements.{IsSound, SoundSteps, elements-sound}

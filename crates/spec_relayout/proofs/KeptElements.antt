@@ -14,8 +14,8 @@ use Rattle.spec_reread.specs.Touched.{pushed, WindowBlocks, old_blocks, new_bloc
 use Rattle.spec_reread.proofs.WindowElements.{pushed_group, elements-pushed}
 use Rattle.spec_reread.proofs.RelaidElements.{IsSome, relaid-old, relaid-new}
 use Rattle.spec_text.specs.Ranges.{RangeOf, IsOutside, place_after}
-use Rattle.spec_relayout.specs.Touched.{line_of_block, is_continued, differs, EditBlocks, touches, changes_partner, changes_speaker, is_touched_old, is_touched_new}
-use Rattle.spec_relayout.proofs.Steps.{TextOf}
+use Rattle.spec_relayout.specs.Touched.{line_of_block, is_continued, differs, EditBlocks, changes_partner, changes_speaker, is_touched_old, is_touched_new}
+use Rattle.spec_relayout.proofs.Steps.{TextOf, touches}
 use Rattle.spec_script.proofs.RunSteps.{longest_runs-map}
 use Rattle.spec_relayout.proofs.ElementLaw.{Fair, Remains, Lost, Elements}
 use Rattle.spec_relayout.specs.TextItems.{Script}

@@ -10,7 +10,7 @@ use Rattle.spec_script.specs.Stanzas.{PlacedBlock, blocks_of}
 use Rattle.spec_script.specs.Elements.{is_dual, alone, pair, elements_in, elements_of, PlacesRise}
 use Rattle.spec_script.proofs.BlockPlaces.{blocks_of-lie}
 use Rattle.spec_script.proofs.ElementLaws.{elements_in-alone, elements_in-pair}
-use Rattle.spec_layout.proofs.ElementPlaces.{placed_from, placed_to, LinesRise, Stands, blocks_of-stand}
+use Rattle.spec_layout.proofs.ElementPlaces.{placed_from, placed_to, LinesRise, blocks_of-stand}
 
 -- A block stands at lines, and its lines in it.
 pub record IsSound (placed : PlacedBlock) : Type 0 where

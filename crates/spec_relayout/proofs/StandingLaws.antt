@@ -1,26 +1,25 @@
 -- Standing in a segment that has rows, by the numbers of its first row and of the one behind it.
-use Rattle.std.proofs.Common.{◌≡◌, ◌⊎◌, ℕ, ◌+◌, ◌<◌, ◌≤◌, true, List, [], ◌∷◌, length, inl, inr, ap, Bool, false, cond, not, map, refl, sym, subst, ◌∙◌, arith, length-append}
+use Rattle.std.proofs.Common.{◌≡◌, ◌||◌, ◌⊎◌, ℕ, ◌+◌, ◌<◌, ◌≤◌, true, List, [], ◌∷◌, length, inl, inr, ap, Bool, false, cond, not, map, refl, sym, subst, ◌∙◌, arith, length-append}
 use Rattle.std.specs.Prelude.{All}
-use Rattle.std.specs.List.{flat_map}
+use Rattle.std.specs.List.{flat_map, list_any}
 use Rattle.std.proofs.lemmas.Bool.{cases_Bool, cases_lt}
 use Rattle.std.proofs.lemmas.List.{length-map}
 use Rattle.std.proofs.lemmas.List.Elements.{All-head, All-tail}
 use Rattle.std.proofs.lemmas.Bool.{true≢false}
 use Rattle.spec_script.specs.LongestRuns.{Group}
 use Rattle.spec_script.specs.Stanzas.{PlacedBlock}
-use Rattle.spec_script.proofs.RunSteps.{map_group}
 use Rattle.spec_pages.specs.Rows.{is_title, placed_rows, shifted_row}
 use Rattle.spec_layout.specs.Speakers.{Spoken}
 use Rattle.spec_layout.specs.Layout.{laid_out, rows_behind}
 use Rattle.spec_layout.proofs.LaidRows.{rows_behind-count}
-use Rattle.spec_relayout.specs.Touched.{block_in}
+use Rattle.spec_relayout.specs.Touched.{touches_element}
 use Rattle.spec_relayout.specs.TextItems.{Script, spoken_by, spoken_group, text_rows, element_items, in_text}
 use Rattle.spec_relayout.proofs.FairElements.{text_with}
 use Rattle.spec_relayout.proofs.ItemRows.{element-count}
 use Rattle.spec_labels.specs.Spots.{Bounds, BoundsFollow, AtMost}
 use Rattle.spec_text.specs.Ranges.{RangeOf}
 use Rattle.spec_relayout.specs.Items.{all_sights, Sight, Item, sights_in, rows_among, shapes_among, start_of, front_of}
-use Rattle.spec_relayout.proofs.Steps.{Step, before_of, after_of, Keeps, AreRising, TextOf, NoneTouchedStands}
+use Rattle.spec_relayout.proofs.Steps.{Step, before_of, after_of, Keeps, AreRising, touches, NoneTouchedStands}
 use Rattle.spec_layout.specs.Shown.{shape_of}
 use Rattle.spec_relayout.proofs.AmongLaws.{rows_among-append, shapes_among-append}
 use Rattle.spec_relayout.proofs.SplitLaws.{front-high}
@@ -39,13 +38,13 @@ stands-in s e before rows some (inr it) =
       | inr end ↦ inr (it.0, inl (omega (arith, some, end), (omega (arith, some, end), (let low = it.2 in omega (arith, low, some)))))
     ]
 
--- The blocks of an element, without what its script says of them.
-blocks-in : (script : Script) (more : List PlacedBlock) → map block_in (map (spoken_by script) more) ≡ more
-blocks-in script [] = refl
-blocks-in script (placed ∷ more) = ap (λ (those : List PlacedBlock). placed ∷ those) (blocks-in script more)
+-- An element is touched whatever its script says.
+any-in : (script : Script) (touched : PlacedBlock → Bool) (more : List PlacedBlock) → list_any (λ (it : Spoken). touched it.placed) (map (spoken_by script) more) ≡ list_any touched more
+any-in script touched [] = refl
+any-in script touched (placed ∷ more) = ap (λ b. touched placed || b) (any-in script touched more)
 
-group-in : (script : Script) (element : Group PlacedBlock) → map_group block_in (spoken_group script element) ≡ element
-group-in script element = ap (λ (more : List PlacedBlock). record { first = element.first; more = more }) (blocks-in script element.more)
+pub touched-in : (script : Script) (touched : PlacedBlock → Bool) (element : Group PlacedBlock) → touches_element touched (spoken_group script element) ≡ touches touched element
+touched-in script touched element = ap (λ b. touched element.first || b) (any-in script touched element.more)
 
 body-count : (script : Script) (element : Group PlacedBlock) → in_text element ≡ true → length (text_rows script element) ≡ length (laid_out script.lines (spoken_group script element)).rows
 body-count script element there = by (is_title element.first.block.kind) there
@@ -62,18 +61,18 @@ in-body element there = by (is_title element.first.block.kind) there
     by false h = refl
 
 -- Where no touched element stands in a segment that has rows, this is what the edit law asks.
-pub none-from : (script : Script) (touched : Group PlacedBlock → Bool) (s e n : ℕ) (elements : List (Group PlacedBlock)) → s < e
-    → NoneStands (λ (it : Group Spoken). touched (map_group block_in it)) script.lines s e n (map (spoken_group script) elements) → NoneTouchedStands (text_with script touched) s e n elements
+pub none-from : (script : Script) (touched : PlacedBlock → Bool) (s e n : ℕ) (elements : List (Group PlacedBlock)) → s < e
+    → NoneStands (touches_element touched) script.lines s e n (map (spoken_group script) elements) → NoneTouchedStands (text_with script (touches touched)) s e n elements
 none-from script touched s e n [] some none = tt
 none-from script touched s e n (it ∷ elements) some none =
     let count = element-count script it in
     let behind : rows_behind script.lines n (spoken_group script it) ≡ n + length (shapes_among (map (λ (item : Item). item.sight) (element_items script it))) =
     rows_behind-count script.lines n (spoken_group script it) ∙ ap (λ k. n + k) (sym count) in
     (
-      λ body is stands. none.0 (in-body it body) (ap touched (group-in script it) ∙ is)
+      λ body is stands. none.0 (in-body it body) (touched-in script touched it ∙ is)
           (subst (StandsIn s e n) (count ∙ body-count script it body) (stands-in s e n (length (shapes_among (all_sights (element_items script it)))) some stands)),
       none-from script touched s e (n + length (shapes_among (map (λ (item : Item). item.sight) (element_items script it)))) elements some
-          (subst (λ k. NoneStands (λ (it : Group Spoken). touched (map_group block_in it)) script.lines s e k (map (spoken_group script) elements)) behind none.1),
+          (subst (λ k. NoneStands (touches_element touched) script.lines s e k (map (spoken_group script) elements)) behind none.1),
     )
 
 -- A segment has as many rows as its bounds say.

@@ -1,5 +1,8 @@
 -- A text before and after an edit, element by element.
 use Rattle.std.specs.Prelude.{◌≡◌, ◌⊎◌, ℕ, ◌+◌, ◌<◌, ◌≤◌, Bool, true, false, List, [], ◌∷◌, ◌++◌, length, map, All, AllPairs}
+use Rattle.std.specs.List.{list_any}
+use Rattle.spec_script.specs.LongestRuns.{Group, members}
+use Rattle.spec_script.specs.Stanzas.{PlacedBlock}
 use Rattle.spec_text.specs.Ranges.{RangeOf, IsOutside}
 use Rattle.spec_pages.specs.OwnPages.{AreJoined}
 use Rattle.spec_labels.specs.Spots.{Spot, is_ahead, AtMost, Bounds, spot_after}
@@ -83,6 +86,10 @@ NoneStepStands there items s e before [] = Unit {0}
 NoneStepStands there items s e before (step ∷ steps) =
     (there step ≡ true → step.touched ≡ true → Stands s e before (items step) → ⊥)
     × NoneStepStands there items s e (before + length (shapes_among (map (λ (item : Item). item.sight) (items step)))) steps
+
+-- An element is touched where one of its blocks is.
+abbrev pub touches : (PlacedBlock → Bool) → Group PlacedBlock → Bool
+touches touched element = list_any touched (members element)
 
 -- Spots rise strictly over a text.
 abbrev pub AreRising : List Item → Type 0

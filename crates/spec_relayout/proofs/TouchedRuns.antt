@@ -6,8 +6,8 @@ use Rattle.std.proofs.lemmas.List.Elements.{All-nil, All-cons, All-head, All-tai
 use Rattle.spec_script.specs.LongestRuns.{Group, members, in_front}
 use Rattle.spec_script.specs.Stanzas.{PlacedBlock}
 use Rattle.spec_script.specs.Elements.{is_dual, alone, elements_in}
+use Rattle.spec_relayout.proofs.Steps.{touches}
 use Rattle.spec_reread.specs.Touched.{joins}
-use Rattle.spec_relayout.specs.Touched.{touches}
 
 -- The runs of a list that isn't empty: the first begins with its first element.
 record FirstOf {X : Type 0} (x : X) (groups : List (Group X)) : Type 0 where

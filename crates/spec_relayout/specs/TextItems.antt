@@ -1,8 +1,6 @@
 -- What stands in a text, element by element: the rows of its body and its page breaks.
-use Rattle.std.specs.Prelude.{ℕ, Bool, true, false, if◌then◌else◌, List, [], ◌∷◌, ◌++◌, map, Option, None}
+use Rattle.std.specs.Prelude.{ℕ, Bool, true, false, if◌then◌else◌, List, [], ◌∷◌, ◌++◌, map, Option}
 use Rattle.spec_text.specs.Lines.{LineState, line_texts}
-use Rattle.spec_script.specs.declared.Kind.{Kind}
-use Rattle.spec_script.specs.declared.Kind.TheVariants as kinds
 use Rattle.spec_script.specs.LongestRuns.{Group}
 use Rattle.spec_script.specs.Stanzas.{PlacedBlock}
 use Rattle.spec_pages.specs.Rows.{Row, is_title, placed_rows}
@@ -14,8 +12,8 @@ use Rattle.spec_layout.specs.Shown.{element_cue, shown_of}
 use Rattle.spec_relayout.specs.Items.{Item, page_break, row as shown_row}
 use Rattle.spec_relayout.specs.Touched.{line_of_block}
 
--- A text's lines, and what else its rows show: which speeches are continued, and the labels of headings, both by the line that
--- a block begins with.
+-- A text's lines, and what else its rows show: which speeches are continued, and what labels stand beside headings, both by the
+-- line that a block begins with.
 pub record Script : Type 0 where
   pub lines : List LineState
   pub continued : ℕ → Bool
@@ -28,13 +26,9 @@ spoken_by script placed = record { placed = placed; continued = script.continued
 abbrev pub spoken_group : Script → Group PlacedBlock → Group Spoken
 spoken_group script element = record { first = spoken_by script element.first; more = map (spoken_by script) element.more }
 
-abbrev pub is_heading_of : Kind → Bool
-is_heading_of kinds.Heading = true
-is_heading_of _ = false
-
--- The label of an element that is a heading.
+-- What is put beside an element that is a heading.
 abbrev pub element_label : Script → Group PlacedBlock → Option LabelOf
-element_label script element = if is_heading_of element.first.block.kind then script.label (line_of_block element.first) else None
+element_label script element = script.label (line_of_block element.first)
 
 -- The rows of an element in the body, with places in the text; a title page has none there.
 abbrev pub text_rows : Script → Group PlacedBlock → List Row

@@ -83,5 +83,5 @@ abbrev pub is_touched_new : EditBlocks → PlacedBlock → Bool
 is_touched_new edit placed = in_window edit.from edit.new_to placed || has_changed edit (place_before edit.range (line_of_block placed))
 
 -- An element is touched where one of its blocks is.
-abbrev pub touches : (PlacedBlock → Bool) → Group PlacedBlock → Bool
-touches touched element = list_any touched (members element)
+abbrev pub touches_element : (PlacedBlock → Bool) → Group Spoken → Bool
+touches_element touched element = list_any (λ (it : Spoken). touched it.placed) (members element)
