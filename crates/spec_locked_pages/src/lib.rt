@@ -1,2 +1,2 @@
-//! What locks and rounds leave of the sheets of a state. Laws alone, no program.
+//! The law of locked pages: what edits leave of the sheets of page records. Definitions and laws alone, no program.
 #![tactic(auto)]

@@ -1,2 +1,2 @@
-//! What locks and rounds leave of the sheets of a state. Laws alone, no program.
+//! What stands in a text, which elements an edit touches, and how it moves what it leaves. Definitions and laws alone, no program.
 #![tactic(auto)]
