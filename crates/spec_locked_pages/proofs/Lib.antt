@@ -1,1 +1,3 @@
 pub mod HeadingBlocks
+pub mod StateScripts
+pub mod HeadingRows
