@@ -1,3 +1,4 @@
 pub mod HeadingBlocks
 pub mod StateScripts
 pub mod HeadingRows
+pub mod RowsAgree
