@@ -2,3 +2,5 @@ pub mod HeadingBlocks
 pub mod StateScripts
 pub mod HeadingRows
 pub mod RowsAgree
+pub mod CutLaws
+pub mod RecordSheets

@@ -372,3 +372,26 @@ agree-steps lines scenes continued = record {
       (pair-begins lines (record { placed = left; continued = continued (line_of_block left) }) (record { placed = right; continued = continued (line_of_block right) }))
       (behind since);
 }
+
+-- ---- the rows of a state
+
+script-rows : (script : Script) (elements : List (Group PlacedBlock)) → rows_among (all_sights (flat_map (element_items script) elements)) ≡ flat_map (shown_texts script) elements
+script-rows script [] = refl
+script-rows script (element ∷ elements) =
+    let own = element_items script element in
+    let later = flat_map (element_items script) elements in
+    ap rows_among (map-append sight_of own later) ∙ rows_among-append (all_sights own) (all_sights later)
+    ∙ ap₂ (λ (a b : List Shown). a ++ b) (element-rows script element) (script-rows script elements)
+
+-- The rows of a state and those of its script.
+pub state-agree : (state : State) → IsText (text_of state) → Agree state.scenes (rows_in state) (rows_among (all_sights (items_of state)))
+state-agree state is =
+    let are = IsText-texts (text_of state) is in
+    let continued = (script_of state).continued in
+    let groups = blocks_in state in
+    let all = elements-sound (texts_of state) PlacedLined (RowsAgree state.lines state.scenes continued) (agree-steps state.lines state.scenes continued) (blocks-lined (texts_of state)) are.utf8 are.few in
+    subst (Agree state.scenes (rows_in state)) (sym (script-rows (script_of state) groups))
+    (subst (λ (rows : List Shown). Agree state.scenes rows (flat_map (shown_texts (script_of state)) groups))
+    (ap₂ (λ (blocks : List PlacedBlock) (elements : List (Group Spoken)). shown_rows state.lines (labels_among state.scenes state.lines 0 blocks) (map (laid_out state.lines) (filter in_body elements)))
+    ((longest_runs-exist is_dual (blocks_of (texts_of state))).all) (sym (elements-scripted state is)))
+    (all 0))
