@@ -4,3 +4,4 @@ pub mod HeadingRows
 pub mod RowsAgree
 pub mod CutLaws
 pub mod RecordSheets
+pub mod StateStarts

@@ -375,13 +375,13 @@ agree-steps lines scenes continued = record {
 
 -- ---- the rows of a state
 
-script-rows : (script : Script) (elements : List (Group PlacedBlock)) → rows_among (all_sights (flat_map (element_items script) elements)) ≡ flat_map (shown_texts script) elements
-script-rows script [] = refl
-script-rows script (element ∷ elements) =
-    let own = element_items script element in
-    let later = flat_map (element_items script) elements in
+script-rows : (it : Script) (elements : List (Group PlacedBlock)) → rows_among (all_sights (flat_map (element_items it) elements)) ≡ flat_map (shown_texts it) elements
+script-rows it [] = refl
+script-rows it (element ∷ elements) =
+    let own = element_items it element in
+    let later = flat_map (element_items it) elements in
     ap rows_among (map-append sight_of own later) ∙ rows_among-append (all_sights own) (all_sights later)
-    ∙ ap₂ (λ (a b : List Shown). a ++ b) (element-rows script element) (script-rows script elements)
+    ∙ ap₂ (λ (a b : List Shown). a ++ b) (element-rows it element) (script-rows it elements)
 
 -- The rows of a state and those of its script.
 pub state-agree : (state : State) → IsText (text_of state) → Agree state.scenes (rows_in state) (rows_among (all_sights (items_of state)))
