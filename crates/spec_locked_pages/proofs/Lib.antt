@@ -5,3 +5,4 @@ pub mod RowsAgree
 pub mod CutLaws
 pub mod RecordSheets
 pub mod StateStarts
+pub mod SegmentBytes

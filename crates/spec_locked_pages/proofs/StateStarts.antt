@@ -303,9 +303,9 @@ whole-anchors state whole some =
     subst (λ (p : Option (List PageRecordOf)). AreAnchors (items_of state) (end_spot state.lines) (spots_of state.lines (unwrap_or p []))) (sym is)
     (anchors-are state.lines (items_of state) some.first some.later (whole-Anchored state whole some.first some.later is) (state-within state whole.text))
 
-spots-count : (lines : List LineState) (records : List PageRecordOf) → length (spots_of lines records) ≡ length records
-spots-count lines [] = refl
-spots-count lines (it ∷ records) = ap suc (length-map records (spot_of lines))
+spots-count : (text : List LineState) (records : List PageRecordOf) → length (spots_of text records) ≡ length records
+spots-count text [] = refl
+spots-count text (it ∷ records) = ap suc (length-map records (spot_of text))
 
 pub segment-lies : (state : State) (i : ℕ) → IsWhole state → i < length (records_in state) → LiesBetween (items_of state) (anchors_in state) (bounds_at state i)
 segment-lies state i whole inside =
