@@ -6,3 +6,5 @@ pub mod CutLaws
 pub mod RecordSheets
 pub mod StateStarts
 pub mod SegmentBytes
+pub mod SameRows
+pub mod EditedStates

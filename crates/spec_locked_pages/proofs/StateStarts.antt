@@ -314,7 +314,7 @@ segment-lies state i whole inside =
 
 -- ---- the segment at an index
 
-segment-made : (rows : ℕ) (records : List PageRecordOf) (starts : List ℕ) (i : ℕ) (d : SegmentOf) → length starts ≡ length records → i < length records
+pub segment-made : (rows : ℕ) (records : List PageRecordOf) (starts : List ℕ) (i : ℕ) (d : SegmentOf) → length starts ≡ length records → i < length records
     → get_or (segments rows records starts) i d ≡ record { owner = get_or records i no_record; next = first_label (drop (i + 1) records); start = get_or starts i rows; end = get_or starts (i + 1) rows }
 segment-made rows [] starts i d same inside = absurd (omega (arith, inside))
 segment-made rows (it ∷ records) [] i d same inside = absurd (omega (arith, same))
