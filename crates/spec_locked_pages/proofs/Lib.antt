@@ -8,3 +8,4 @@ pub mod StateStarts
 pub mod SegmentBytes
 pub mod SameRows
 pub mod EditedStates
+pub mod LockedPage
