@@ -9,3 +9,4 @@ pub mod SegmentBytes
 pub mod SameRows
 pub mod EditedStates
 pub mod LockedPage
+pub mod ChainLaws

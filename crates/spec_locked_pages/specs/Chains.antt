@@ -1,12 +1,13 @@
 -- The law of locked pages along the entries of a memory, and from a lock or a round on (docs/RULES.md, "The desk").
-use Rattle.std.specs.Prelude.{◌≡◌, ℕ, ◌<◌, List, [], ◌∷◌, ◌++◌, length, drop}
+use Rattle.std.specs.Prelude.{◌≡◌, ℕ, ◌<◌, List, [], ◌∷◌, length, All}
 use Rattle.spec_text.specs.Edits.{Replacement}
 use Rattle.spec_text.specs.Ranges.{RangeOf, range_of}
 use Rattle.spec_state.specs.State.{State}
 use Rattle.spec_state.specs.Changes.{edited_state, CanEdit}
 use Rattle.spec_wire.specs.Commands.{CommandOf, edit, undo, redo, lock_scenes, lock_pages, next_round, speakers, paper}
 use Rattle.spec_machine.specs.Machine.{EntryOf, Memory}
-use Rattle.spec_locked_pages.specs.Segments.{records_in, segment_at, pages_at, IsLockedPage}
+use Rattle.spec_labels.specs.PageRecords.{SheetOf}
+use Rattle.spec_locked_pages.specs.Segments.{records_in, record_at, segment_at, sheets_at, IsLockedPage}
 use Rattle.spec_locked_pages.specs.LockedPages.{LeavesAlone, StaysLocked}
 
 -- An edit of this range makes one state into the other.
@@ -47,21 +48,31 @@ AllLeaveAlone i (entry ∷ entries) now = LeavesAlone entry.range entry.state (f
 pub record KeepsAlong (i : ℕ) (entries : List EntryOf) (now : State) : Type 0 where
   pub keeps : IsLockedPage (first_state entries now) i → AllLeaveAlone i entries now → StaysLocked (first_state entries now) now i
 
--- After a lock of pages or a round each segment with a row is a locked page and one sheet.
+-- The segment of a record is one sheet, and that has the record's label.
+pub record IsOneSheet (state : State) (i : ℕ) : Type 0 where
+  pub one : length (sheets_at state i) ≡ 1
+  pub label : All (λ (sheet : SheetOf). sheet.first ≡ (record_at state i).label) (sheets_at state i)
+
+-- Each record with a row is a locked page and one sheet.
 pub record IsOpened (state : State) : Type 0 where
   pub locked : (i : ℕ) → i < length (records_in state) → (segment_at state i).start < (segment_at state i).end → IsLockedPage state i
-  pub single : (i : ℕ) → i < length (records_in state) → (segment_at state i).start < (segment_at state i).end → pages_at state i ≡ (segment_at state i).start ∷ []
+  pub single : (i : ℕ) → i < length (records_in state) → (segment_at state i).start < (segment_at state i).end → IsOneSheet state i
 
--- A locked page of an earlier state is one sheet, with the record's label and the bytes that it had.
-pub record StaysOneSheet (old new : State) (i : ℕ) : Type 0 where
-  pub stays : StaysLocked old new i
-  pub one : pages_at new i ≡ (segment_at new i).start ∷ []
+-- Where a state was opened by a lock or a round, a record with a row in it that all steps since then leave alone has the one sheet
+-- that it had, with its label and its bytes.
+pub record KeepsOpened (opened : State) (memory : Memory) (i : ℕ) : Type 0 where
+  pub first : first_state memory.done memory.state ≡ opened
+  pub keeps : i < length (records_in opened) → (segment_at opened i).start < (segment_at opened i).end → AllLeaveAlone i memory.done memory.state
+      → StaysLocked opened memory.state i × IsOneSheet memory.state i
 
--- The command makes a new entry, goes along the entries or changes nothing: it drops none of the states before it.
+-- The command makes an entry, goes along the entries or changes nothing: none of the states before it is dropped.
 abbrev pub IsStep : CommandOf → Type 0
 IsStep lock_scenes = ⊥
 IsStep lock_pages = ⊥
 IsStep next_round = ⊥
 IsStep (speakers on) = ⊥
 IsStep (paper size) = ⊥
-IsStep command = Unit {0}
+IsStep _ = Unit {0}
+
+abbrev pub AreSteps : List CommandOf → Type 0
+AreSteps commands = All IsStep commands

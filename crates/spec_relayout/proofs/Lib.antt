@@ -23,3 +23,4 @@ pub mod AsideBlocks
 pub mod KeptElements
 pub mod StandingLaws
 pub mod LockedSights
+pub mod WindowExists
