@@ -10,3 +10,4 @@ pub mod SameRows
 pub mod EditedStates
 pub mod LockedPage
 pub mod ChainLaws
+pub mod OpeningLaws

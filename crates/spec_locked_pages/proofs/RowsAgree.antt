@@ -154,7 +154,7 @@ abbrev RowsAgree : List LineState → Option (List SceneRecordOf) → (ℕ → B
 RowsAgree lines scenes continued low high groups = (since : ℕ) → Agree scenes (rows_by lines scenes continued since groups) (flat_map (shown_texts (recorded_by lines scenes continued)) groups)
 
 -- Rows with places have the shapes of rows without.
-placed-of : (flag : Bool) (first : ℕ) (those : List Row) → All (IsOf flag) those → All (IsOf flag) (map (shifted_row first) those)
+pub placed-of : (flag : Bool) (first : ℕ) (those : List Row) → All (IsOf flag) those → All (IsOf flag) (map (shifted_row first) those)
 placed-of flag first [] all = All-nil (IsOf flag)
 placed-of flag first (row ∷ those) all =
     All-cons (IsOf flag) (shifted_row first row) (map (shifted_row first) those) (All-head (IsOf flag) row those all) (placed-of flag first those (All-tail (IsOf flag) row those all))
@@ -320,7 +320,7 @@ module _ (lines : List LineState) (continued : ℕ → Bool) (block : PlacedBloc
 -- ---- the elements of a text
 
 -- A heading's rows are of its line.
-heading-at : (lines : List LineState) (block : PlacedBlock) (c : Bool) → IsSound block → PlacedLined block → is_heading_block block ≡ true
+pub heading-at : (lines : List LineState) (block : PlacedBlock) (c : Bool) → IsSound block → PlacedLined block → is_heading_block block ≡ true
     → All (λ (row : Row). row.line ≡ line_of_block block) (placed_rows (laid_out lines (one_alone (record { placed = block; continued = c }))))
 heading-at lines block c sound lined is =
     let last = lined.last is in
@@ -375,7 +375,7 @@ agree-steps lines scenes continued = record {
 
 -- ---- the rows of a state
 
-script-rows : (it : Script) (elements : List (Group PlacedBlock)) → rows_among (all_sights (flat_map (element_items it) elements)) ≡ flat_map (shown_texts it) elements
+pub script-rows : (it : Script) (elements : List (Group PlacedBlock)) → rows_among (all_sights (flat_map (element_items it) elements)) ≡ flat_map (shown_texts it) elements
 script-rows it [] = refl
 script-rows it (element ∷ elements) =
     let own = element_items it element in

@@ -1,0 +1,311 @@
+-- After a lock of pages or a round each record with a row is a locked page and one sheet, and keeps it.
+use Rattle.std.proofs.Common.{◌≡◌, ℕ, zero, suc, ◌+◌, ◌-◌, ◌<◌, ◌≤◌, ◌==◌, Bool, true, false, cond, Option, Some, None, List, [], ◌∷◌, ◌++◌, length, map, take, drop, get_or, inl, inr, refl, sym, ap, ap₂, subst, ◌∙◌, arith, unwrap_or, length-take, length-drop, get_or-take, get_or-drop}
+use Rattle.std.specs.Prelude.{All, IfSome, filter, slice_range, is_some}
+use Rattle.std.specs.List.{flat_map}
+use Rattle.std.proofs.lemmas.Bool.{cases_Bool, true≢false}
+use Rattle.std.proofs.lemmas.List.{length-map, get_or-map}
+use Rattle.std.proofs.lemmas.List.Elements.{All-nil, All-cons, All-head, All-tail, All-append}
+use Rattle.spec_text.specs.Lines.{LineState, IsText, line_texts}
+use Rattle.spec_text.proofs.ListLaws.{take-All, drop-All}
+use Rattle.spec_script.specs.LongestRuns.{Group}
+use Rattle.spec_script.specs.Stanzas.{PlacedBlock, blocks_of}
+use Rattle.spec_script.specs.Elements.{is_dual, alone, pair}
+use Rattle.spec_script.proofs.RunSteps.{one_alone}
+use Rattle.spec_pages.specs.Pages.{is_heading, rows_on}
+use Rattle.spec_pages.specs.Rows.{Row, line_state, is_title, placed_rows}
+use Rattle.spec_labels.specs.Labels.{LabelOf}
+use Rattle.spec_labels.specs.Scenes.{HeadingOf, SceneRecordOf, extended_records, line_place}
+use Rattle.spec_labels.specs.PageRecords.{PageRecordOf, SegmentOf, SheetOf, segments, record_starts, page_sheets, page_sheet, segment_pages, extended_page_records}
+use Rattle.spec_labels.proofs.SceneStays.{no_heading}
+use Rattle.spec_layout.specs.Cells.{ShownCell}
+use Rattle.spec_layout.specs.Layout.{laid_out}
+use Rattle.spec_layout.specs.Shown.{Shown, element_cue, shown_of, key_of}
+use Rattle.spec_layout.proofs.RowLaws.{IsText-texts}
+use Rattle.spec_state.specs.State.{State, text_of}
+use Rattle.spec_state.specs.Keeping.{IsWhole}
+use Rattle.spec_state.specs.Headings.{is_heading_block, heading_of, headings_of}
+use Rattle.spec_state.specs.StateSheets.{pages_in, sheets_in, layout_in, rows_in, keys_in}
+use Rattle.spec_state.specs.Openings.{scenes_extended, pages_extended, pages_locked, round_begun}
+use Rattle.spec_state.specs.SoundStates.{AreLocked, IsSound}
+use Rattle.spec_state.proofs.StateKeys.{state-keys}
+use Rattle.spec_state.proofs.StateLaws.{whole-kept, whole-sound}
+use Rattle.spec_wire.specs.Commands.{CommandOf, edit, undo, redo, lock_scenes, lock_pages, next_round, speakers, paper}
+use Rattle.spec_machine.specs.Machine.{EntryOf, Memory, opened_memory, last_entry, without_last, entry_of, undone_to, redone_to, memory_after, Accepts, AcceptsAll, memory_behind, CanLockPages, CanBegin}
+use Rattle.spec_machine.specs.KeptMemories.{IsWholeMemory}
+use Rattle.spec_machine.proofs.DeskLaws.{opening-found}
+use Rattle.spec_machine.proofs.MachineLaws.{step-whole, steps-whole, opened-whole}
+use Rattle.spec_machine.proofs.WholeStates.{lock_pages-whole, round-whole}
+use Rattle.spec_rounds.proofs.SinglePages.{IsSingle}
+use Rattle.spec_rounds.proofs.OpeningLaw.{round-rows, lock-rows, rows-stay}
+use Rattle.spec_relayout.specs.Items.{rows_among, all_sights}
+use Rattle.spec_relayout.specs.Touched.{line_of_block}
+use Rattle.spec_relayout.specs.TextItems.{Script, spoken_by, spoken_group, element_label, text_rows}
+use Rattle.spec_relayout.proofs.ItemRows.{shown_texts}
+use Rattle.spec_relayout.proofs.SoundElements.{SoundSteps, elements-sound}
+use Rattle.spec_locked_pages.specs.Segments.{records_in, record_at, no_record, no_segment, segments_in, segment_at, rows_at, pages_of, pages_at, sheets_at, bytes_at, has_scene, HasScene, IsLockedPage}
+use Rattle.spec_locked_pages.specs.LockedPages.{StaysLocked}
+use Rattle.spec_locked_pages.specs.Chains.{AllLeaveAlone, first_state, IsOneSheet, IsOpened, KeepsOpened, IsStep, AreSteps, AreLinked}
+use Rattle.spec_locked_pages.proofs.HeadingBlocks.{PlacedLined, blocks-lined}
+use Rattle.spec_locked_pages.proofs.HeadingRows.{IsOf, alone-begins, pair-begins}
+use Rattle.spec_locked_pages.proofs.RowsAgree.{agree-has, state-agree, script-rows, placed-of, heading-at}
+use Rattle.spec_locked_pages.proofs.StateScripts.{script_of, texts_of, blocks_in, items_of}
+use Rattle.spec_locked_pages.proofs.StateStarts.{length-starts, segment-made}
+use Rattle.spec_locked_pages.proofs.ChainLaws.{memory-keeps, steps-linked, opened-linked, HasLast, has-last}
+
+-- ---- headings with records
+
+-- A block is no heading, or its line has a scene record.
+record IsReady (lines : List LineState) (scenes : Option (List SceneRecordOf)) (placed : PlacedBlock) : Type 0 where
+  lined : PlacedLined placed
+  has : is_heading_block placed ≡ true → has_scene scenes (line_state lines (line_of_block placed)).id ≡ true
+
+abbrev RowHas : List LineState → Option (List SceneRecordOf) → Row → Type 0
+RowHas lines scenes row = is_heading row.shape.kind ≡ true → has_scene scenes (line_state lines row.line).id ≡ true
+
+rows-have : (lines : List LineState) (scenes : Option (List SceneRecordOf)) (cue : List ShownCell) (label : Option LabelOf) (those : List Row) → All (RowHas lines scenes) those
+    → All (HasScene scenes) (map (shown_of lines cue label) those)
+rows-have lines scenes cue label [] all = All-nil (HasScene scenes)
+rows-have lines scenes cue label (row ∷ those) all =
+    All-cons (HasScene scenes) (shown_of lines cue label row) (map (shown_of lines cue label) those) (record { by = All-head (RowHas lines scenes) row those all })
+    (rows-have lines scenes cue label those (All-tail (RowHas lines scenes) row those all))
+
+plain-have : (lines : List LineState) (scenes : Option (List SceneRecordOf)) (those : List Row) → All (IsOf false) those → All (RowHas lines scenes) those
+plain-have lines scenes those all k d h is = absurd (true≢false (sym is ∙ all k d h))
+
+untitled : (lines : List LineState) (scenes : Option (List SceneRecordOf)) (b : Bool) (those : List Row) → All (RowHas lines scenes) those → All (RowHas lines scenes) (cond b [] those)
+untitled lines scenes true those all = All-nil (RowHas lines scenes)
+untitled lines scenes false those all = all
+
+module _ (script : Script) (scenes : Option (List SceneRecordOf)) where
+  abbrev AllHave : ℕ → ℕ → List (Group PlacedBlock) → Type 0
+  AllHave low high groups = All (HasScene scenes) (flat_map (shown_texts script) groups)
+
+  next-have : (element : Group PlacedBlock) (others : List (Group PlacedBlock)) → All (RowHas script.lines scenes) (placed_rows (laid_out script.lines (spoken_group script element)))
+      → All (HasScene scenes) (flat_map (shown_texts script) others) → All (HasScene scenes) (flat_map (shown_texts script) (element ∷ others))
+  next-have element others here behind =
+      All-append (HasScene scenes) (shown_texts script element) (flat_map (shown_texts script) others)
+      (rows-have script.lines scenes (element_cue (line_texts script.lines) (text_rows script element)) (element_label script element) (text_rows script element)
+      (untitled script.lines scenes (is_title element.first.block.kind) (placed_rows (laid_out script.lines (spoken_group script element))) here))
+      behind
+
+  have-steps : SoundSteps (IsReady script.lines scenes) AllHave
+  have-steps = record {
+    none = λ low high order. All-nil (HasScene scenes);
+    single = λ low high block others sound ready order behind.
+        next-have (alone block) others
+        (elim (cases_Bool (is_heading_block block)) [
+          | inl is ↦
+              let at = heading-at script.lines block (script.continued (line_of_block block)) sound ready.lined is in
+              λ k d h heading. subst (λ p. has_scene scenes (line_state script.lines p).id ≡ true) (sym (at k d h)) (ready.has is)
+          | inr plain ↦
+              let own = laid_out script.lines (one_alone (spoken_by script block)) in
+              let begins = alone-begins script.lines (spoken_by script block) ready.lined in
+              plain-have script.lines scenes (placed_rows own) (placed-of false own.first own.rows (subst (λ b. All (IsOf b) own.rows) plain begins.all))
+        ])
+        behind;
+    double = λ low high left right others l r dual places order apart behind.
+        next-have (pair left right) others
+        (let own = laid_out script.lines (spoken_group script (pair left right)) in
+        plain-have script.lines scenes (placed_rows own) (placed-of false own.first own.rows (pair-begins script.lines (spoken_by script left) (spoken_by script right)).all))
+        behind;
+  }
+
+-- Every heading of the text has a record.
+abbrev HeadingsHave : State → Option (List SceneRecordOf) → Type 0
+HeadingsHave state scenes = All (λ (heading : HeadingOf). has_scene scenes heading.id ≡ true) (headings_of state.lines)
+
+blocks-have : (lines : List LineState) (scenes : Option (List SceneRecordOf)) (blocks : List PlacedBlock) → All (λ (heading : HeadingOf). has_scene scenes heading.id ≡ true) (map (heading_of lines) (filter is_heading_block blocks))
+    → All (λ (placed : PlacedBlock). is_heading_block placed ≡ true → has_scene scenes (line_state lines (line_of_block placed)).id ≡ true) blocks
+blocks-have lines scenes [] all = All-nil _
+blocks-have lines scenes (block ∷ blocks) all = by (is_heading_block block) refl all (λ rest. blocks-have lines scenes blocks rest)
+  where
+    P : HeadingOf → Type 0
+    P heading = has_scene scenes heading.id ≡ true
+
+    Q : PlacedBlock → Type 0
+    Q placed = is_heading_block placed ≡ true → has_scene scenes (line_state lines (line_of_block placed)).id ≡ true
+
+    by : (b : Bool) → is_heading_block block ≡ b → All (λ (heading : HeadingOf). has_scene scenes heading.id ≡ true) (map (heading_of lines) (cond b (block ∷ filter is_heading_block blocks) (filter is_heading_block blocks)))
+        → (All (λ (heading : HeadingOf). has_scene scenes heading.id ≡ true) (map (heading_of lines) (filter is_heading_block blocks)) → All (λ (placed : PlacedBlock). is_heading_block placed ≡ true → has_scene scenes (line_state lines (line_of_block placed)).id ≡ true) blocks)
+        → All (λ (placed : PlacedBlock). is_heading_block placed ≡ true → has_scene scenes (line_state lines (line_of_block placed)).id ≡ true) (block ∷ blocks)
+    by true is all rest =
+        All-cons Q block blocks (λ h. All-head P (heading_of lines block) (map (heading_of lines) (filter is_heading_block blocks)) all)
+        (rest (All-tail P (heading_of lines block) (map (heading_of lines) (filter is_heading_block blocks)) all))
+    by false is all rest = All-cons Q block blocks (λ h. absurd (true≢false (sym h ∙ is))) (rest all)
+
+-- So has every heading's row.
+state-have : (state : State) → IsText (text_of state) → HeadingsHave state state.scenes → All (HasScene state.scenes) (rows_in state)
+state-have state is have =
+    let are = IsText-texts (text_of state) is in
+    let lined = blocks-lined (texts_of state) in
+    let each = blocks-have state.lines state.scenes (blocks_of (texts_of state)) have in
+    agree-has state.scenes (rows_in state) (rows_among (all_sights (items_of state))) (state-agree state is)
+    (subst (All (HasScene state.scenes)) (sym (script-rows (script_of state) (blocks_in state)))
+    (elements-sound (texts_of state) (IsReady state.lines state.scenes) (AllHave (script_of state) state.scenes) (have-steps (script_of state) state.scenes)
+    (λ k d h. record { lined = lined k d h; has = each k d h }) are.utf8 are.few))
+
+range-have : (scenes : Option (List SceneRecordOf)) (rows : List Shown) (s e : ℕ) → All (HasScene scenes) rows → All (HasScene scenes) (slice_range rows s e)
+range-have scenes rows s e all = take-All (HasScene scenes) (e - s) (drop s rows) (drop-All (HasScene scenes) s rows all)
+
+-- ---- one sheet
+
+one-label : (segment : SegmentOf) (pages : List ℕ) → length (page_sheets segment 0 pages) ≡ 1 → All (λ (sheet : SheetOf). sheet.first ≡ segment.owner.label) (page_sheets segment 0 pages)
+one-label segment [] one = absurd (omega (arith, one))
+one-label segment (page ∷ []) one = All-cons (λ (sheet : SheetOf). sheet.first ≡ segment.owner.label) (page_sheet segment 0 page []) [] refl (All-nil (λ (sheet : SheetOf). sheet.first ≡ segment.owner.label))
+one-label segment (page ∷ next ∷ later) one = absurd (omega (arith, one))
+
+owner-is : (state : State) (i : ℕ) → i < length (records_in state) → (segment_at state i).owner ≡ record_at state i
+owner-is state i there =
+    ap (λ (segment : SegmentOf). segment.owner) (segment-made (length (rows_in state)) (records_in state) (record_starts state.lines (keys_in state) (records_in state)) i no_segment (length-starts state (records_in state)) there)
+
+one-sheet : (state : State) (i : ℕ) → i < length (records_in state) → length (sheets_at state i) ≡ 1 → IsOneSheet state i
+one-sheet state i there one = record {
+  one = one;
+  label = subst (λ (owner : PageRecordOf). All (λ (sheet : SheetOf). sheet.first ≡ owner.label) (sheets_at state i)) (owner-is state i there) (one-label (segment_at state i) (pages_at state i) one);
+}
+
+length-segments : (rows : ℕ) (records : List PageRecordOf) (starts : List ℕ) → length starts ≡ length records → length (segments rows records starts) ≡ length records
+length-segments rows [] starts same = refl
+length-segments rows (it ∷ records) [] same = absurd (omega (arith, same))
+length-segments rows (it ∷ records) (start ∷ starts) same = ap suc (length-segments rows records starts (omega (arith, same)))
+
+single-sheet : (state : State) (i : ℕ) → All (IsSingle (pages_of state)) (segments_in state) → i < length (records_in state) → (segment_at state i).start < (segment_at state i).end → IsOneSheet state i
+single-sheet state i single there some =
+    let count = length-segments (length (rows_in state)) (records_in state) (record_starts state.lines (keys_in state) (records_in state)) (length-starts state (records_in state)) in
+    let one : pages_at state i ≡ (segment_at state i).start ∷ [] = single i no_segment (omega (arith, there, count)) some in
+    one-sheet state i there (ap (λ (pages : List ℕ). length (page_sheets (segment_at state i) 0 pages)) one)
+
+-- What makes a state opened.
+opened-by : (state : State) → IsText (text_of state) → (0 < length (records_in state) → HeadingsHave state state.scenes) → All (IsSingle (pages_of state)) (segments_in state) → IsOpened state
+opened-by state is have single = record {
+  locked = λ i there some. record {
+      there = there;
+      row = some;
+      scenes = range-have state.scenes (rows_in state) (segment_at state i).start (segment_at state i).end (state-have state is (have (omega (arith, there))));
+    };
+  single = λ i there some. single-sheet state i single there some;
+}
+
+-- ---- locks and rounds
+
+-- Every heading has a record once records are extended.
+extended-have : (state : State) → IsWhole state → is_some state.scenes ≡ true → HeadingsHave state (scenes_extended (headings_of state.lines) state.scenes)
+extended-have state whole some = by state.scenes refl
+  where
+    by : (scenes : Option (List SceneRecordOf)) → state.scenes ≡ scenes → HeadingsHave state (scenes_extended (headings_of state.lines) state.scenes)
+    by None is = absurd (true≢false (sym some ∙ ap is_some is))
+    by (Some records) is =
+        subst (λ (scenes : Option (List SceneRecordOf)). HeadingsHave state (scenes_extended (headings_of state.lines) scenes)) (sym is)
+        (λ k d h.
+        let found = opening-found state whole records is k h in
+        let same : get_or (headings_of state.lines) k no_heading ≡ get_or (headings_of state.lines) k d = default (headings_of state.lines) k d h in
+        subst (λ (heading : HeadingOf). is_some (line_place (extended_records records (headings_of state.lines)) heading.id) ≡ true) same (ap is_some found.at))
+      where
+        default : (headings : List HeadingOf) (k : ℕ) (d : HeadingOf) → k < length headings → get_or headings k no_heading ≡ get_or headings k d
+        default [] k d h = absurd (omega (arith, h))
+        default (heading ∷ headings) zero d h = refl
+        default (heading ∷ headings) (suc k) d h = default headings k d (omega (arith, h))
+
+-- What segments are with these rows and records.
+abbrev SingleWith : State → List Shown → Option (List PageRecordOf) → Type 0
+SingleWith state rows pages =
+    All (IsSingle (pages_in (rows_on state.paper) state.lines rows (layout_in state).breaks pages)) (segments (length rows) (unwrap_or pages []) (record_starts state.lines (map key_of rows) (unwrap_or pages [])))
+
+none-single : (pages : List ℕ) → All (IsSingle pages) []
+none-single pages = All-nil (IsSingle pages)
+
+pub round-opened : (state : State) → IsWhole state → CanBegin state → IsOpened (round_begun state)
+round-opened state whole can =
+    let after = round-whole state whole can in
+    opened-by (round_begun state) after.text have
+    (subst (λ (rows : List Shown). SingleWith state rows (pages_extended state state.pages)) (sym (rows-stay state sound)) (by state.pages refl sound.pages))
+  where
+    sound : IsSound state
+    sound = whole-sound state whole
+
+    have : 0 < length (records_in (round_begun state)) → HeadingsHave state (scenes_extended (headings_of state.lines) state.scenes)
+    have some = extended-have state whole ((whole-kept state whole).scened (locked state.pages refl some))
+      where
+        locked : (pages : Option (List PageRecordOf)) → state.pages ≡ pages → 0 < length (records_in (round_begun state)) → is_some state.pages ≡ true
+        locked None is some = (let none = ap (λ (p : Option (List PageRecordOf)). length (unwrap_or (pages_extended state p) [])) is in absurd (omega (arith, some, none)))
+        locked (Some records) is some = ap is_some is
+
+    by : (pages : Option (List PageRecordOf)) → state.pages ≡ pages → IfSome pages AreLocked → SingleWith state (rows_in state) (pages_extended state state.pages)
+    by None is locked =
+        subst (λ (p : Option (List PageRecordOf)). SingleWith state (rows_in state) (pages_extended state p)) (sym is)
+        (none-single (pages_in (rows_on state.paper) state.lines (rows_in state) (layout_in state).breaks None))
+    by (Some records) is locked =
+        let rows = rows_in state in
+        let breaks = (layout_in state).breaks in
+        let stays = round-rows state.paper state.lines rows breaks records (state-keys state whole.text) locked in
+        subst (λ (p : Option (List PageRecordOf)). SingleWith state rows p)
+        (sym (ap (pages_extended state) is ∙ ap (λ (p : Option (List PageRecordOf)). Some (extended_page_records records (sheets_in (rows_on state.paper) state.lines rows breaks p) (map key_of rows))) is))
+        stays.single
+
+pub lock-opened : (state : State) → IsWhole state → CanLockPages state → IsOpened (pages_locked state)
+lock-opened state whole can =
+    let after = lock_pages-whole state whole can in
+    let sound = whole-sound state whole in
+    let rows = rows_in state in
+    let breaks = (layout_in state).breaks in
+    let stays = lock-rows state.paper state.lines rows breaks (state-keys state whole.text) can.rows in
+    opened-by (pages_locked state) after.text (λ some. extended-have state whole can.scenes)
+    (subst (λ (those : List Shown). SingleWith state those (pages_locked state).pages) (sym (rows-stay state sound))
+    (subst (λ (p : Option (List PageRecordOf)). SingleWith state rows (Some (extended_page_records [] (sheets_in (rows_on state.paper) state.lines rows breaks p) (map key_of rows)))) (sym can.unlocked) stays.single))
+
+-- ---- from a lock or a round on
+
+first-more : (entries : List EntryOf) (entry : EntryOf) (now : State) → first_state (entries ++ entry ∷ []) now ≡ first_state entries entry.state
+first-more [] entry now = refl
+first-more (one ∷ entries) entry now = refl
+
+-- Steps leave the first state.
+step-first : (memory : Memory) (command : CommandOf) → IsStep command → Accepts memory command
+    → first_state (memory_after memory command).done (memory_after memory command).state ≡ first_state memory.done memory.state
+step-first memory (edit it) is can = first-more memory.done (entry_of memory.state _) _
+step-first memory undo is can =
+    let last = has-last memory.done can in
+    let entry = last.last in
+    ap (λ (o : Option EntryOf). first_state (undone_to memory o).done (undone_to memory o).state) last.is
+    ∙ sym (first-more (without_last memory.done) entry memory.state) ∙ sym (ap (λ (l : List EntryOf). first_state l memory.state) last.split)
+step-first memory redo is can =
+    let last = has-last memory.undone can in
+    let entry = last.last in
+    ap (λ (o : Option EntryOf). first_state (redone_to memory o).done (redone_to memory o).state) last.is ∙ first-more memory.done (entry_of memory.state entry.range) entry.state
+step-first memory lock_scenes is can = absurd is
+step-first memory lock_pages is can = absurd is
+step-first memory next_round is can = absurd is
+step-first memory (speakers on) is can = absurd is
+step-first memory (paper size) is can = absurd is
+step-first memory _ is can = refl
+
+steps-first : (memory : Memory) (commands : List CommandOf) → AreSteps commands → AcceptsAll memory commands
+    → first_state (memory_behind memory commands).done (memory_behind memory commands).state ≡ first_state memory.done memory.state
+steps-first memory [] are all = refl
+steps-first memory (command ∷ commands) are all =
+    steps-first (memory_after memory command) commands (All-tail IsStep command commands are) all.1 ∙ step-first memory command (All-head IsStep command commands are) all.0
+
+-- From a whole state that was opened, over accepted commands that drop no state, locked pages stay one sheet.
+pub opened-keeps : (state : State) (commands : List CommandOf) (i : ℕ) → IsWhole state → IsOpened state → AreSteps commands → AcceptsAll (opened_memory state) commands
+    → KeepsOpened state (memory_behind (opened_memory state) commands) i
+opened-keeps state commands i whole opened are all =
+    let memory = memory_behind (opened_memory state) commands in
+    let first : first_state memory.done memory.state ≡ state = steps-first (opened_memory state) commands are all in
+    let keeps = memory-keeps memory i 0 (steps-whole (opened_memory state) commands (opened-whole state whole) all) (steps-linked (opened_memory state) commands (opened-linked state) all) in
+    record {
+      first = first;
+      keeps = λ there some alone.
+          let locked = opened.locked i there some in
+          let stays : StaysLocked state memory.state i =
+          subst (λ (s : State). StaysLocked s memory.state i) first (keeps.keeps (subst (λ (s : State). IsLockedPage s i) (sym first) locked) alone) in
+          let single = opened.single i there some in
+          let now = stays.locked in
+          let size = length-bytes memory.state in
+          let was = length-bytes state in
+          let same = ap length stays.sheets in
+          let one = single.one in
+          (stays, one-sheet memory.state i now.there (omega (arith, size, was, same, one)));
+    }
+  where
+    length-bytes : (s : State) → length (bytes_at s i) ≡ length (sheets_at s i)
+    length-bytes s = length-map (sheets_at s i) _
