@@ -11,3 +11,5 @@ pub mod EditedStates
 pub mod LockedPage
 pub mod ChainLaws
 pub mod OpeningLaws
+pub mod SheetParts
+pub mod WorkedRows

@@ -164,7 +164,7 @@ one-sheet state i there one = record {
   label = subst (λ (owner : PageRecordOf). All (λ (sheet : SheetOf). sheet.first ≡ owner.label) (sheets_at state i)) (owner-is state i there) (one-label (segment_at state i) (pages_at state i) one);
 }
 
-length-segments : (rows : ℕ) (records : List PageRecordOf) (starts : List ℕ) → length starts ≡ length records → length (segments rows records starts) ≡ length records
+pub length-segments : (rows : ℕ) (records : List PageRecordOf) (starts : List ℕ) → length starts ≡ length records → length (segments rows records starts) ≡ length records
 length-segments rows [] starts same = refl
 length-segments rows (it ∷ records) [] same = absurd (omega (arith, same))
 length-segments rows (it ∷ records) (start ∷ starts) same = ap suc (length-segments rows records starts (omega (arith, same)))
@@ -309,3 +309,14 @@ opened-keeps state commands i whole opened are all =
   where
     length-bytes : (s : State) → length (bytes_at s i) ≡ length (sheets_at s i)
     length-bytes s = length-map (sheets_at s i) _
+
+-- From an accepted lock of pages on, and from a round on.
+pub lock-keeps : (memory : Memory) (commands : List CommandOf) (i : ℕ) → IsWholeMemory memory → Accepts memory lock_pages → AreSteps commands → AcceptsAll (memory_after memory lock_pages) commands
+    → KeepsOpened (pages_locked memory.state) (memory_behind (memory_after memory lock_pages) commands) i
+lock-keeps memory commands i whole can are all =
+    opened-keeps (pages_locked memory.state) commands i (lock_pages-whole memory.state whole.state can) (lock-opened memory.state whole.state can) are all
+
+pub round-keeps : (memory : Memory) (commands : List CommandOf) (i : ℕ) → IsWholeMemory memory → Accepts memory next_round → AreSteps commands → AcceptsAll (memory_after memory next_round) commands
+    → KeepsOpened (round_begun memory.state) (memory_behind (memory_after memory next_round) commands) i
+round-keeps memory commands i whole can are all =
+    opened-keeps (round_begun memory.state) commands i (round-whole memory.state whole.state can) (round-opened memory.state whole.state can) are all

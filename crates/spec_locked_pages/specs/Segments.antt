@@ -1,5 +1,5 @@
 -- The segments of page records, and their sheets (docs/RULES.md, "Page records").
-use Rattle.std.specs.Prelude.{◌≡◌, ℕ, ◌<◌, Bool, true, false, List, [], length, map, slice_range, slice_index_or, All, Option, Some, None, is_some, unwrap_or}
+use Rattle.std.specs.Prelude.{◌≡◌, ℕ, ◌<◌, Bool, true, false, List, [], ◌++◌, length, map, slice_range, slice_index_or, All, Option, Some, None, is_some, unwrap_or}
 use Rattle.spec_pages.specs.Pages.{is_heading, rows_on}
 use Rattle.spec_labels.specs.Scenes.{SceneRecordOf, line_place}
 use Rattle.spec_labels.specs.PageRecords.{PageRecordOf, SegmentOf, SheetOf, end_line, segments, record_starts, segment_pages, page_sheets}
@@ -60,3 +60,9 @@ pub record IsLockedPage (state : State) (i : ℕ) : Type 0 where
   pub there : i < length (records_in state)
   pub row : (segment_at state i).start < (segment_at state i).end
   pub scenes : All (HasScene state.scenes) (rows_at state i)
+
+-- These elements stand one behind the other in a list.
+pub record StandsAmong {X : Type 0} (part whole : List X) : Type 0 where
+  pub front : List X
+  pub back : List X
+  pub are : whole ≡ front ++ (part ++ back)
