@@ -1,8 +1,7 @@
 -- The law of locked pages for one edit, along the entries of a memory, and for every memory of a desk.
-use Rattle.std.proofs.Common.{◌≡◌, ℕ, zero, suc, ◌+◌, ◌-◌, ◌<◌, ◌≤◌, Option, Some, None, List, [], ◌∷◌, ◌++◌, length, map, take, drop, get_or, slice_get, refl, sym, ap, subst, ◌∙◌, arith}
+use Rattle.std.proofs.Common.{◌≡◌, ℕ, zero, suc, ◌-◌, ◌<◌, Option, Some, List, [], ◌∷◌, ◌++◌, length, take, drop, slice_get, refl, sym, ap, subst, ◌∙◌, arith}
 use Rattle.std.specs.Prelude.{All}
 use Rattle.std.proofs.lemmas.List.Elements.{All-head, All-tail}
-use Rattle.std.proofs.lemmas.Option.{slice_get-get_or}
 use Rattle.spec_text.specs.Lines.{line_texts}
 use Rattle.spec_text.specs.Edits.{Replacement, EditOf, replacement_of}
 use Rattle.spec_text.specs.Ranges.{RangeOf, range_of}
@@ -12,10 +11,10 @@ use Rattle.spec_state.specs.Changes.{edited_state, CanEdit}
 use Rattle.spec_wire.specs.Commands.{CommandOf, edit, undo, redo, lock_scenes, lock_pages, next_round, speakers, paper}
 use Rattle.spec_machine.specs.Machine.{EntryOf, Memory, opened_memory, last_entry, without_last, entry_of, undone_to, redone_to, memory_after, Accepts, AcceptsAll, memory_behind}
 use Rattle.spec_machine.specs.KeptMemories.{IsEntry, IsWholeMemory}
-use Rattle.spec_machine.proofs.MachineLaws.{taken-edit, step-whole}
+use Rattle.spec_machine.proofs.MachineLaws.{taken-edit}
 use Rattle.spec_machine.proofs.WholeStates.{edit-whole}
 use Rattle.spec_relayout.proofs.WindowExists.{window-exists}
-use Rattle.spec_locked_pages.specs.Segments.{IsLockedPage, bytes_at, record_at}
+use Rattle.spec_locked_pages.specs.Segments.{IsLockedPage}
 use Rattle.spec_locked_pages.specs.LockedPages.{LeavesAlone, StaysLocked, KeepsLockedPage}
 use Rattle.spec_locked_pages.specs.Chains.{IsEditOf, LeadTo, LeadFrom, AreLinked, first_state, AllLeaveAlone, KeepsAlong}
 use Rattle.spec_locked_pages.proofs.LockedPage.{window-locked}
@@ -37,7 +36,7 @@ made-locked range old new i whole made locked alone =
 
 -- ---- along entries
 
-stays-same : (state : State) (i : ℕ) → IsLockedPage state i → StaysLocked state state i
+pub stays-same : (state : State) (i : ℕ) → IsLockedPage state i → StaysLocked state state i
 stays-same state i locked = record { sheets = refl; label = refl; locked = locked }
 
 stays-then : (one two three : State) (i : ℕ) → StaysLocked one two i → StaysLocked two three i → StaysLocked one three i

@@ -1,20 +1,18 @@
 -- A text cut in three: what stands in the middle, by itself.
-use Rattle.std.proofs.Common.{◌≡◌, ◌⊎◌, ℕ, zero, suc, ◌+◌, ◌-◌, ◌<◌, ◌≤◌, Bool, true, false, not, ◌&&◌, ◌||◌, cond, ltb, leb, eqb, Option, Some, None, List, [], ◌∷◌, ◌++◌, map, length, take, drop, sum_by, slice_get, inl, inr, refl, sym, ap, ap₂, subst, ◌∙◌, arith, length-append, length-drop}
+use Rattle.std.proofs.Common.{◌≡◌, ◌⊎◌, ℕ, zero, suc, ◌+◌, ◌-◌, ◌<◌, ◌≤◌, Bool, true, false, ◌||◌, eqb, List, [], ◌∷◌, ◌++◌, map, length, take, drop, sum_by, slice_get, inl, inr, refl, sym, ap, ap₂, subst, ◌∙◌, arith, length-append, length-drop}
 use Rattle.std.specs.Prelude.{filter, All, slice_range}
 use Rattle.std.proofs.Math.Seq.{drop-append-add}
-use Rattle.std.proofs.lemmas.List.{map-append, take-append-le, drop-append-le, length-map}
-use Rattle.std.proofs.lemmas.Option.{slice_get_past}
-use Rattle.std.proofs.lemmas.Bool.{cases_lt, cases_eq, ne_eqb, eq-eqb, lt-ltb}
+use Rattle.std.proofs.lemmas.List.{take-append-le, drop-append-le}
+use Rattle.std.proofs.lemmas.Bool.{cases_lt, cases_eq, ne_eqb, eq-eqb}
 use Rattle.std.proofs.lemmas.List.Elements.{All-head, All-tail}
 use Rattle.spec_pages.specs.declared.Shape.{Shape}
-use Rattle.spec_pages.specs.Pages.{lead_of, carried, height_of, is_legal, may_part_at, page_starts, text_heights}
-use Rattle.spec_layout.specs.Shown.{Shown, shape_of}
-use Rattle.spec_relayout.specs.Items.{Sight, page_break, row, rows_among, breaks_among, shapes_among}
-use Rattle.spec_pages.specs.Heights.{Heights, starts_of}
-use Rattle.spec_pages.specs.OwnPages.{own_height, own_heights, left_open, AreJoined, is_among, lies_in, StopsAt}
+use Rattle.spec_pages.specs.Pages.{lead_of, carried, may_part_at, page_starts, text_heights}
+use Rattle.spec_relayout.specs.Items.{Sight, page_break, row, breaks_among, shapes_among}
+use Rattle.spec_pages.specs.Heights.{starts_of}
+use Rattle.spec_pages.specs.OwnPages.{own_heights, left_open, AreJoined, is_among, lies_in, StopsAt}
 use Rattle.spec_relayout.proofs.AmongLaws.{shapes_among-append, breaks_among-append}
 use Rattle.spec_pages.proofs.OwnPageLaws.{Agree}
-use Rattle.spec_pages.proofs.OwnStartLaws.{Segment, Matches, starts_of-segment}
+use Rattle.spec_pages.proofs.OwnStartLaws.{Segment, starts_of-segment}
 
 -- The first rows of the pages of a segment, by what stands in it alone.
 abbrev pub segment_starts : ℕ → List Sight → List ℕ

@@ -1,9 +1,9 @@
 -- What an edit leaves of a whole state's lines, blocks and page records.
-use Rattle.std.proofs.Common.{◌≡◌, ℕ, zero, suc, ◌+◌, ◌-◌, ◌<◌, ◌≤◌, Bool, true, false, cond, Option, Some, None, List, [], ◌∷◌, length, map, get_or, inl, inr, refl, sym, ap, ap₂, subst, ◌∙◌, arith, unwrap_or}
-use Rattle.std.specs.Prelude.{All, drop, option_map, slice_get, slice_range}
+use Rattle.std.proofs.Common.{◌≡◌, ℕ, zero, suc, ◌+◌, ◌-◌, ◌<◌, Bool, true, false, cond, Option, Some, None, List, [], ◌∷◌, length, map, get_or, inl, inr, refl, sym, ap, ap₂, subst, ◌∙◌, arith, unwrap_or}
+use Rattle.std.specs.Prelude.{drop, option_map, slice_get, slice_range}
 use Rattle.std.proofs.lemmas.Bool.{cases_lt}
 use Rattle.std.proofs.lemmas.List.{length-map, get_or-map, get_or_past}
-use Rattle.spec_text.specs.Lines.{LineState, line_texts}
+use Rattle.spec_text.specs.Lines.{LineState}
 use Rattle.spec_text.specs.Edits.{Replacement, stretch, line_ids, put_by}
 use Rattle.spec_text.specs.Ranges.{RangeOf, IsOutside, place_after, range_of}
 use Rattle.spec_text.specs.EditedLines.{IsEdited, no_line, line_of}
@@ -11,9 +11,9 @@ use Rattle.spec_text.proofs.EditLaws.{length-lines_put}
 use Rattle.spec_text.proofs.EditedLaws.{changed-IsEdited, text-HasIds}
 use Rattle.spec_script.specs.BlockParts.{Rise}
 use Rattle.spec_labels.specs.Labels.{LabelOf}
-use Rattle.spec_labels.specs.PageRecords.{PageRecordOf, SegmentOf, is_removed, line_from, carried, carried_records, first_label, record_start, record_starts}
+use Rattle.spec_labels.specs.PageRecords.{PageRecordOf, SegmentOf, is_removed, line_from, carried, carried_records, first_label, record_starts}
 use Rattle.spec_labels.specs.Spots.{Spot, anchor_after, Follows, BoundsFollow}
-use Rattle.spec_labels.specs.Anchors.{IsAnchored, Anchored, spot_of, end_spot, spots_of}
+use Rattle.spec_labels.specs.Anchors.{spot_of, end_spot, spots_of}
 use Rattle.spec_labels.proofs.SpotLaws.{anchor-follows, first-follows, end-follows}
 use Rattle.spec_labels.proofs.CarryLaws.{Edited}
 use Rattle.spec_labels.proofs.AnchorLaws.{first_spot, carried-spots}
@@ -25,7 +25,7 @@ use Rattle.spec_state.specs.Keeping.{IsWhole}
 use Rattle.spec_state.specs.StateLabels.{page_label_of, labels_of_pages}
 use Rattle.spec_state.specs.StateSheets.{rows_in, keys_in}
 use Rattle.spec_state.specs.SameRows.{same_rows}
-use Rattle.spec_state.specs.Changes.{text_after, carried_after, carried_state, rows_by_record, raised, raised_records, pages_raised, edited_state, CanEdit}
+use Rattle.spec_state.specs.Changes.{carried_state, rows_by_record, raised, raised_records, pages_raised, edited_state, CanEdit}
 use Rattle.spec_state.proofs.EditKeeps.{edited-labels}
 use Rattle.spec_machine.proofs.WholeStates.{edit-whole}
 use Rattle.spec_reread.specs.Windows as windows
@@ -39,7 +39,7 @@ use Rattle.spec_relayout.proofs.ElementMoves.{after-front, after-behind}
 use Rattle.spec_relayout.proofs.SoundElements.{blocks-rise}
 use Rattle.spec_relayout.proofs.WindowSides.{window-sides, front-ends, between-in}
 use Rattle.spec_relayout.proofs.WindowPartners.{Around}
-use Rattle.spec_locked_pages.specs.Segments.{records_in, no_record, no_segment, record_at, segment_at, rows_at}
+use Rattle.spec_locked_pages.specs.Segments.{records_in, no_record, no_segment, record_at, rows_at}
 use Rattle.spec_locked_pages.specs.LockedPages.{IsWindowOf, edit_blocks}
 use Rattle.spec_locked_pages.proofs.StateScripts.{texts_of, spoken-blocks}
 use Rattle.spec_locked_pages.proofs.StateStarts.{anchors_in, bounds_at, SomeRecords, some-records, whole-Anchored, length-starts, segment-made}

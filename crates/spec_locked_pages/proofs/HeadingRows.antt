@@ -10,9 +10,6 @@ use Rattle.spec_script.specs.declared.Kind.TheVariants as kinds
 use Rattle.spec_script.specs.declared.Part.{Part}
 use Rattle.spec_script.specs.declared.Part.TheVariants as parts
 use Rattle.spec_script.specs.BlockValues.{LineOf, BlockOf}
-use Rattle.spec_script.specs.Stanzas.{PlacedBlock}
-use Rattle.spec_script.specs.Elements.{is_dual}
-use Rattle.spec_script.proofs.ElementLaws.{dual-speech}
 use Rattle.spec_script.proofs.RunSteps.{one_alone, two_together}
 use Rattle.spec_pages.specs.declared.Side.{Side}
 use Rattle.spec_pages.specs.declared.Side.TheVariants as sides
@@ -24,7 +21,7 @@ use Rattle.spec_pages.specs.Wrapping.{WrappedRow, wrapped}
 use Rattle.spec_pages.proofs.WrapLaws.{wrapped-some}
 use Rattle.spec_layout.specs.Speakers.{Spoken}
 use Rattle.spec_layout.specs.Layout.{laid_out}
-use Rattle.spec_layout.specs.Shown.{opens_heading, is_heading_element, no_row}
+use Rattle.spec_layout.specs.Shown.{opens_heading, no_row}
 use Rattle.spec_state.specs.Headings.{is_heading_kind, is_heading_block}
 use Rattle.spec_locked_pages.proofs.HeadingBlocks.{OneLined, IsTextLine}
 

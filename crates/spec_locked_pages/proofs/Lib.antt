@@ -13,3 +13,4 @@ pub mod ChainLaws
 pub mod OpeningLaws
 pub mod SheetParts
 pub mod WorkedRows
+pub mod PageLaws

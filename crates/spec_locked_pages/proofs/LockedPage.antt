@@ -1,5 +1,5 @@
 -- The law of locked pages for one edit of a whole state.
-use Rattle.std.proofs.Common.{◌≡◌, ℕ, ◌+◌, ◌-◌, ◌<◌, ◌≤◌, Bool, Option, List, length, map, inl, inr, sym, ap, ap₂, subst, ◌∙◌, arith}
+use Rattle.std.proofs.Common.{◌≡◌, ℕ, ◌+◌, ◌-◌, ◌<◌, Bool, List, length, inl, inr, sym, ap, subst, ◌∙◌, arith}
 use Rattle.std.specs.Prelude.{All}
 use Rattle.spec_text.specs.Lines.{LineState}
 use Rattle.spec_text.specs.Edits.{Replacement}
@@ -11,16 +11,14 @@ use Rattle.spec_pages.specs.Pages.{rows_on}
 use Rattle.spec_pages.specs.Rows.{line_state}
 use Rattle.spec_labels.specs.PageRecords.{SegmentOf}
 use Rattle.spec_layout.specs.Speakers.{Spoken}
-use Rattle.spec_layout.specs.Shown.{Shown}
 use Rattle.spec_layout.proofs.RowLaws.{IsText-texts}
 use Rattle.spec_state.specs.State.{State, text_of}
 use Rattle.spec_state.specs.Keeping.{IsWhole}
-use Rattle.spec_state.specs.Changes.{edited_state, CanEdit}
+use Rattle.spec_state.specs.Changes.{CanEdit}
 use Rattle.spec_reread.specs.Touched.{old_blocks, new_blocks, window_blocks}
-use Rattle.spec_relayout.specs.Items.{Sight, sights_in, rows_among, start_of}
+use Rattle.spec_relayout.specs.Items.{Sight, rows_among, start_of}
 use Rattle.spec_relayout.specs.Touched.{line_of_block, EditBlocks, is_touched_old, is_touched_new, touches_element}
 use Rattle.spec_relayout.specs.Standing.{NoneStands}
-use Rattle.spec_relayout.specs.TextItems.{spoken_group}
 use Rattle.spec_relayout.proofs.Steps.{touches, NoneTouchedStands}
 use Rattle.spec_relayout.proofs.ElementMoves.{block_after, BlockLeft, line-after}
 use Rattle.spec_relayout.proofs.FairElements.{text_with, IsKnown, all-known}
@@ -28,7 +26,7 @@ use Rattle.spec_relayout.proofs.KeptElements.{Parted, parted}
 use Rattle.spec_relayout.proofs.LockedSights.{parted-rows, parted-sights}
 use Rattle.spec_relayout.proofs.StandingLaws.{none-from}
 use Rattle.spec_locked_pages.specs.Segments.{records_in, record_at, segment_at, rows_at, HasScene, IsLockedPage}
-use Rattle.spec_locked_pages.specs.LockedPages.{elements_in as state_elements, IsWindowOf, edit_blocks, NoneStandsAt, LeavesAlone, StaysLocked, KeepsLockedPage}
+use Rattle.spec_locked_pages.specs.LockedPages.{elements_in as state_elements, IsWindowOf, edit_blocks, NoneStandsAt, LeavesAlone, StaysLocked}
 use Rattle.spec_locked_pages.proofs.StateScripts.{record_label, script_of, texts_of, blocks_in, items_of, spoken-blocks, elements-scripted}
 use Rattle.spec_locked_pages.proofs.StateStarts.{bounds_at, state-rising, record-segment}
 use Rattle.spec_locked_pages.proofs.RecordSheets.{own_sheets, place-same}

@@ -1,21 +1,21 @@
 -- After a lock of pages or a round each record with a row is a locked page and one sheet, and keeps it.
-use Rattle.std.proofs.Common.{◌≡◌, ℕ, zero, suc, ◌+◌, ◌-◌, ◌<◌, ◌≤◌, ◌==◌, Bool, true, false, cond, Option, Some, None, List, [], ◌∷◌, ◌++◌, length, map, take, drop, get_or, inl, inr, refl, sym, ap, ap₂, subst, ◌∙◌, arith, unwrap_or, length-take, length-drop, get_or-take, get_or-drop}
+use Rattle.std.proofs.Common.{◌≡◌, ℕ, zero, suc, ◌-◌, ◌<◌, Bool, true, false, cond, Option, Some, None, List, [], ◌∷◌, ◌++◌, length, map, drop, get_or, inl, inr, refl, sym, ap, subst, ◌∙◌, arith, unwrap_or}
 use Rattle.std.specs.Prelude.{All, IfSome, filter, slice_range, is_some}
 use Rattle.std.specs.List.{flat_map}
 use Rattle.std.proofs.lemmas.Bool.{cases_Bool, true≢false}
-use Rattle.std.proofs.lemmas.List.{length-map, get_or-map}
+use Rattle.std.proofs.lemmas.List.{length-map}
 use Rattle.std.proofs.lemmas.List.Elements.{All-nil, All-cons, All-head, All-tail, All-append}
 use Rattle.spec_text.specs.Lines.{LineState, IsText, line_texts}
 use Rattle.spec_text.proofs.ListLaws.{take-All, drop-All}
 use Rattle.spec_script.specs.LongestRuns.{Group}
 use Rattle.spec_script.specs.Stanzas.{PlacedBlock, blocks_of}
-use Rattle.spec_script.specs.Elements.{is_dual, alone, pair}
+use Rattle.spec_script.specs.Elements.{alone, pair}
 use Rattle.spec_script.proofs.RunSteps.{one_alone}
 use Rattle.spec_pages.specs.Pages.{is_heading, rows_on}
 use Rattle.spec_pages.specs.Rows.{Row, line_state, is_title, placed_rows}
 use Rattle.spec_labels.specs.Labels.{LabelOf}
 use Rattle.spec_labels.specs.Scenes.{HeadingOf, SceneRecordOf, extended_records, line_place}
-use Rattle.spec_labels.specs.PageRecords.{PageRecordOf, SegmentOf, SheetOf, segments, record_starts, page_sheets, page_sheet, segment_pages, extended_page_records}
+use Rattle.spec_labels.specs.PageRecords.{PageRecordOf, SegmentOf, SheetOf, segments, record_starts, page_sheets, page_sheet, extended_page_records}
 use Rattle.spec_labels.proofs.SceneStays.{no_heading}
 use Rattle.spec_layout.specs.Cells.{ShownCell}
 use Rattle.spec_layout.specs.Layout.{laid_out}
@@ -30,10 +30,10 @@ use Rattle.spec_state.specs.SoundStates.{AreLocked, IsSound}
 use Rattle.spec_state.proofs.StateKeys.{state-keys}
 use Rattle.spec_state.proofs.StateLaws.{whole-kept, whole-sound}
 use Rattle.spec_wire.specs.Commands.{CommandOf, edit, undo, redo, lock_scenes, lock_pages, next_round, speakers, paper}
-use Rattle.spec_machine.specs.Machine.{EntryOf, Memory, opened_memory, last_entry, without_last, entry_of, undone_to, redone_to, memory_after, Accepts, AcceptsAll, memory_behind, CanLockPages, CanBegin}
+use Rattle.spec_machine.specs.Machine.{EntryOf, Memory, opened_memory, without_last, entry_of, undone_to, redone_to, memory_after, Accepts, AcceptsAll, memory_behind, CanLockPages, CanBegin}
 use Rattle.spec_machine.specs.KeptMemories.{IsWholeMemory}
 use Rattle.spec_machine.proofs.DeskLaws.{opening-found}
-use Rattle.spec_machine.proofs.MachineLaws.{step-whole, steps-whole, opened-whole}
+use Rattle.spec_machine.proofs.MachineLaws.{steps-whole, opened-whole}
 use Rattle.spec_machine.proofs.WholeStates.{lock_pages-whole, round-whole}
 use Rattle.spec_rounds.proofs.SinglePages.{IsSingle}
 use Rattle.spec_rounds.proofs.OpeningLaw.{round-rows, lock-rows, rows-stay}
@@ -42,15 +42,15 @@ use Rattle.spec_relayout.specs.Touched.{line_of_block}
 use Rattle.spec_relayout.specs.TextItems.{Script, spoken_by, spoken_group, element_label, text_rows}
 use Rattle.spec_relayout.proofs.ItemRows.{shown_texts}
 use Rattle.spec_relayout.proofs.SoundElements.{SoundSteps, elements-sound}
-use Rattle.spec_locked_pages.specs.Segments.{records_in, record_at, no_record, no_segment, segments_in, segment_at, rows_at, pages_of, pages_at, sheets_at, bytes_at, has_scene, HasScene, IsLockedPage}
+use Rattle.spec_locked_pages.specs.Segments.{records_in, record_at, no_segment, segments_in, segment_at, pages_of, pages_at, sheets_at, bytes_at, has_scene, HasScene, IsLockedPage}
 use Rattle.spec_locked_pages.specs.LockedPages.{StaysLocked}
-use Rattle.spec_locked_pages.specs.Chains.{AllLeaveAlone, first_state, IsOneSheet, IsOpened, KeepsOpened, IsStep, AreSteps, AreLinked}
+use Rattle.spec_locked_pages.specs.Chains.{first_state, IsOneSheet, IsOpened, KeepsOpened, IsStep, AreSteps}
 use Rattle.spec_locked_pages.proofs.HeadingBlocks.{PlacedLined, blocks-lined}
 use Rattle.spec_locked_pages.proofs.HeadingRows.{IsOf, alone-begins, pair-begins}
 use Rattle.spec_locked_pages.proofs.RowsAgree.{agree-has, state-agree, script-rows, placed-of, heading-at}
 use Rattle.spec_locked_pages.proofs.StateScripts.{script_of, texts_of, blocks_in, items_of}
 use Rattle.spec_locked_pages.proofs.StateStarts.{length-starts, segment-made}
-use Rattle.spec_locked_pages.proofs.ChainLaws.{memory-keeps, steps-linked, opened-linked, HasLast, has-last}
+use Rattle.spec_locked_pages.proofs.ChainLaws.{memory-keeps, steps-linked, opened-linked, has-last}
 
 -- ---- headings with records
 

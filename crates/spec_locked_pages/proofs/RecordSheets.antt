@@ -15,7 +15,7 @@ use Rattle.spec_print.specs.PageRows.{page_body}
 use Rattle.spec_state.specs.StateSheets.{shown_sheet}
 use Rattle.spec_relayout.specs.Items.{Sight, Item, sights_in, rows_among, shapes_among, breaks_among, all_sights, front_of, back_of, start_of, starts_of_spots}
 use Rattle.spec_relayout.proofs.Steps.{IsOne, LiesBetween, IsLaidOut}
-use Rattle.spec_relayout.proofs.AmongLaws.{rows_among-append, shapes_among-append}
+use Rattle.spec_relayout.proofs.AmongLaws.{shapes_among-append}
 use Rattle.spec_relayout.proofs.SplitLaws.{front-high, text-parts, start_of-rises}
 use Rattle.spec_locked_pages.proofs.CutLaws.{segment_starts, text_starts, range-middle, Cut, SpareInside, text_starts-middle}
 

@@ -1,37 +1,34 @@
 -- The rows of a state are those of its script, where the headings among them have scene records.
-use Rattle.std.proofs.Common.{◌≡◌, ◌⊎◌, ℕ, zero, suc, ◌+◌, ◌-◌, ◌<◌, ◌≤◌, ◌==◌, ◌&&◌, not, Bool, true, false, cond, Option, Some, None, List, [], ◌∷◌, ◌++◌, length, map, get_or, take, drop, inl, inr, refl, sym, ap, ap₂, subst, ◌∙◌, arith, unwrap_or}
+use Rattle.std.proofs.Common.{◌≡◌, ◌⊎◌, ℕ, zero, suc, ◌+◌, ◌-◌, ◌==◌, ◌&&◌, not, Bool, true, false, cond, Option, Some, None, List, [], ◌∷◌, ◌++◌, length, map, get_or, take, drop, inl, inr, refl, sym, ap, ap₂, subst, ◌∙◌, arith, unwrap_or}
 use Rattle.std.specs.Prelude.{All, filter, slice_get, slice_range, option_map, is_some}
 use Rattle.std.specs.List.{flat_map}
-use Rattle.std.specs.Str.{IsUtf8}
 use Rattle.std.proofs.lemmas.Bool.{cases_Bool, and_parts, true≢false}
 use Rattle.std.proofs.lemmas.List.Elements.{All-nil, All-cons, All-head, All-tail}
-use Rattle.spec_text.specs.Limits.{line_count_limit}
 use Rattle.spec_text.specs.Lines.{LineState, IsText, line_texts}
 use Rattle.spec_script.specs.LongestRuns.{Group, members}
 use Rattle.spec_script.specs.Stanzas.{PlacedBlock, blocks_of}
-use Rattle.spec_script.specs.Elements.{is_speech_kind, is_dual, alone, pair, elements_of}
+use Rattle.spec_script.specs.Elements.{is_speech_kind, is_dual, alone, pair}
 use Rattle.spec_script.specs.declared.Kind.{Kind}
 use Rattle.spec_script.specs.declared.Kind.TheVariants as kinds
-use Rattle.spec_script.proofs.ElementLaws.{dual-speech}
 use Rattle.spec_script.proofs.LongestRuns.{longest_runs-exist}
-use Rattle.spec_script.proofs.RunSteps.{one_alone, two_together}
+use Rattle.spec_script.proofs.RunSteps.{one_alone}
 use Rattle.spec_pages.specs.Pages.{is_heading}
 use Rattle.spec_pages.specs.declared.Shape.{Shape}
 use Rattle.spec_pages.specs.Rows.{Row, ElementOf, line_state, is_title, placed_rows, shifted_row}
 use Rattle.spec_labels.specs.declared.RowKey.{RowKey}
 use Rattle.spec_labels.specs.Labels.{LabelOf, plain_label}
-use Rattle.spec_labels.specs.Scenes.{HeadingOf, SceneRecordOf, line_place, record_places, first_place, label_between, label_at, labels_since, locked_labels}
+use Rattle.spec_labels.specs.Scenes.{SceneRecordOf, line_place, record_places, first_place, label_between, label_at, labels_since}
 use Rattle.spec_layout.specs.Cells.{ShownCell, shown_cells}
 use Rattle.spec_layout.specs.Speakers.{Spoken}
-use Rattle.spec_layout.specs.Layout.{laid_out, in_body, layout_of}
+use Rattle.spec_layout.specs.Layout.{laid_out, in_body}
 use Rattle.spec_layout.specs.Shown.{Shown, opens_heading, row_label, element_cue, shown_of, element_shown, is_heading_element, heading_label, labels_behind, shown_rows, shape_of, key_of}
 use Rattle.spec_layout.proofs.RowLaws.{IsText-texts}
 use Rattle.spec_state.specs.State.{State, text_of}
-use Rattle.spec_state.specs.Headings.{is_heading_kind, is_heading_block, heading_of, headings_of, heading_labels}
+use Rattle.spec_state.specs.Headings.{is_heading_kind, is_heading_block, heading_of}
 use Rattle.spec_state.specs.StateSheets.{rows_in}
-use Rattle.spec_relayout.specs.Items.{all_sights, sight_of, rows_among, shapes_among}
+use Rattle.spec_relayout.specs.Items.{all_sights, sight_of, rows_among}
 use Rattle.spec_relayout.specs.Touched.{line_of_block}
-use Rattle.spec_relayout.specs.TextItems.{Script, spoken_by, spoken_group, element_label, text_rows, element_items}
+use Rattle.spec_relayout.specs.TextItems.{Script, spoken_group, element_label, element_items}
 use Rattle.spec_relayout.proofs.AmongLaws.{rows_among-append}
 use Rattle.spec_relayout.proofs.ItemRows.{shown_texts, element-rows}
 use Rattle.spec_relayout.proofs.RowMoves.{RowAt, single-on}

@@ -1,17 +1,17 @@
 -- The rows and the sheets of a locked page are told by what stands in its segment.
-use Rattle.std.proofs.Common.{◌≡◌, ℕ, zero, suc, ◌+◌, ◌-◌, ◌<◌, ◌≤◌, Option, Some, List, [], ◌∷◌, ◌++◌, length, map, take, drop, refl, sym, ap, ap₂, subst, ◌∙◌, arith, length-append, length-take, unwrap_or}
+use Rattle.std.proofs.Common.{◌≡◌, ℕ, zero, suc, ◌+◌, ◌-◌, ◌<◌, ◌≤◌, Option, List, [], ◌∷◌, ◌++◌, length, map, take, drop, refl, sym, ap, ap₂, subst, ◌∙◌, arith, length-append, length-take, unwrap_or}
 use Rattle.std.specs.Prelude.{All, filter, slice_range}
 use Rattle.std.proofs.lemmas.List.{length-map}
 use Rattle.spec_pages.specs.Pages.{page_starts, rows_on}
 use Rattle.spec_pages.specs.OwnPages.{lies_in}
 use Rattle.spec_pages.specs.declared.Shape.{Shape}
 use Rattle.spec_labels.specs.Labels.{LabelOf}
-use Rattle.spec_labels.specs.PageRecords.{PageRecordOf, SegmentOf, SheetOf, first_label, record_starts, page_sheets}
+use Rattle.spec_labels.specs.PageRecords.{PageRecordOf, SegmentOf, first_label, record_starts, page_sheets}
 use Rattle.spec_layout.specs.Shown.{Shown, shape_of}
-use Rattle.spec_state.specs.State.{State, text_of}
+use Rattle.spec_state.specs.State.{State}
 use Rattle.spec_state.specs.Keeping.{IsWhole}
-use Rattle.spec_state.specs.StateSheets.{layout_in, rows_in, keys_in, locked_starts}
-use Rattle.spec_relayout.specs.Items.{front_of, back_of, Sight, Item, all_sights, sights_in, rows_among, shapes_among, start_of, starts_of_spots}
+use Rattle.spec_state.specs.StateSheets.{rows_in, keys_in, locked_starts}
+use Rattle.spec_relayout.specs.Items.{front_of, back_of, Sight, Item, all_sights, sights_in, rows_among, start_of, starts_of_spots}
 use Rattle.spec_relayout.proofs.AmongLaws.{rows_among-append}
 use Rattle.spec_relayout.proofs.SplitLaws.{text-parts}
 use Rattle.spec_relayout.proofs.StandingLaws.{segment-rows}
@@ -20,7 +20,7 @@ use Rattle.spec_locked_pages.proofs.CutLaws.{text_starts}
 use Rattle.spec_locked_pages.proofs.RecordSheets.{segment_of, printed, own_sheets, record_sheets-own}
 use Rattle.spec_locked_pages.proofs.RowsAgree.{Agree, agree-range, agree-same, agree-has, state-agree}
 use Rattle.spec_locked_pages.proofs.StateScripts.{items_of, breaks-scripted}
-use Rattle.spec_locked_pages.proofs.StateStarts.{anchors_in, bounds_at, state-rising, same-shapes, same-count, state-laid_out, starts-bridge, SomeRecords, some-records, segment-lies, record-segment, middle-rows}
+use Rattle.spec_locked_pages.proofs.StateStarts.{anchors_in, bounds_at, state-rising, same-shapes, same-count, state-laid_out, starts-bridge, some-records, segment-lies, record-segment, middle-rows}
 
 -- What stands in a record's segment.
 abbrev pub sights_at : State → ℕ → List Sight

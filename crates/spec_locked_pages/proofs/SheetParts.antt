@@ -1,12 +1,12 @@
 -- The sheets of a locked page stand one behind the other among those of its state.
-use Rattle.std.proofs.Common.{◌≡◌, ℕ, zero, suc, ◌+◌, ◌<◌, Bool, true, false, ◌&&◌, cond, Option, Some, None, List, [], ◌∷◌, ◌++◌, length, map, get_or, refl, sym, ap, ap₂, ◌∙◌, arith, unwrap_or}
+use Rattle.std.proofs.Common.{◌≡◌, ℕ, zero, suc, ◌<◌, Bool, true, false, ◌&&◌, cond, Option, Some, List, [], ◌∷◌, ◌++◌, length, map, get_or, refl, sym, ap, ◌∙◌, arith, unwrap_or}
 use Rattle.std.specs.List.{flat_map, list_all}
 use Rattle.std.proofs.lemmas.Bool.{lt-leb}
-use Rattle.std.proofs.lemmas.List.{map-append, append_assoc, length-map}
+use Rattle.std.proofs.lemmas.List.{map-append, append_assoc}
 use Rattle.std.proofs.lemmas.List.Concat.{flat_map-append}
 use Rattle.spec_pages.specs.Pages.{rows_on}
-use Rattle.spec_labels.specs.PageRecords.{PageRecordOf, SegmentOf, SheetOf, segments, record_starts, is_empty, onto_run, runs_of, run_sheets, page_sheets, segment_pages, omitted_sheet, sheets_of_records}
-use Rattle.spec_print.specs.Sheets.{Sheet, sheet_bytes}
+use Rattle.spec_labels.specs.PageRecords.{PageRecordOf, SegmentOf, SheetOf, segments, record_starts, is_empty, onto_run, runs_of, run_sheets, page_sheets, segment_pages, omitted_sheet}
+use Rattle.spec_print.specs.Sheets.{sheet_bytes}
 use Rattle.spec_state.specs.State.{State}
 use Rattle.spec_state.specs.StateSheets.{title_sheets, title_starts, titles_in, layout_in, rows_in, keys_in, pages_in, sheets_in, body_sheets, shown_sheet, sheets_of_state, bytes_of_state}
 use Rattle.spec_locked_pages.specs.Segments.{records_in, no_segment, segments_in, segment_at, pages_of, sheets_at, bytes_at, IsLockedPage, StandsAmong}

@@ -1,7 +1,7 @@
 -- A state's text as a script with the labels of its scene records, and its layout.
-use Rattle.std.proofs.Common.{◌≡◌, ◌≢◌, ℕ, suc, ◌+◌, ◌<◌, ◌≤◌, ◌==◌, ◌&&◌, ◌||◌, not, Bool, true, false, cond, Option, Some, None, List, [], ◌∷◌, ◌++◌, length, map, get_or, inl, inr, refl, sym, ap, ap₂, subst, ◌∙◌, arith, unwrap_or}
+use Rattle.std.proofs.Common.{◌≡◌, ◌≢◌, ℕ, ◌+◌, ◌<◌, ◌≤◌, ◌&&◌, ◌||◌, Bool, true, false, cond, Option, Some, None, List, [], ◌∷◌, ◌++◌, length, map, get_or, inl, inr, refl, sym, ap, ap₂, subst, ◌∙◌, arith, unwrap_or}
 use Rattle.std.specs.Prelude.{All, AllPairs, option_map}
-use Rattle.std.specs.List.{flat_map, list_any}
+use Rattle.std.specs.List.{flat_map}
 use Rattle.std.proofs.lemmas.Bool.{cases_Bool, eq-eqb, ne_eqb}
 use Rattle.std.proofs.lemmas.List.{map-append}
 use Rattle.std.proofs.lemmas.List.Elements.{All-nil, All-cons, All-head, All-tail}
@@ -11,15 +11,15 @@ use Rattle.spec_text.proofs.ListLaws.{pairs-head, pairs-tail, pairs-unmap}
 use Rattle.spec_script.specs.LongestRuns.{Group, members}
 use Rattle.spec_script.specs.BlockParts.{Rise}
 use Rattle.spec_script.specs.Stanzas.{PlacedBlock, blocks_of}
-use Rattle.spec_script.specs.Elements.{is_dual, elements_in, elements_of}
+use Rattle.spec_script.specs.Elements.{is_dual, elements_of}
 use Rattle.spec_script.proofs.LongestRuns.{longest_runs-exist}
 use Rattle.spec_script.proofs.RunSteps.{map_group}
 use Rattle.spec_pages.specs.Rows.{Row, line_state}
 use Rattle.spec_labels.specs.Labels.{LabelOf, plain_label}
 use Rattle.spec_labels.specs.Scenes.{SceneRecordOf, line_place, label_at}
 use Rattle.spec_layout.specs.Cells.{ShownCell}
-use Rattle.spec_layout.specs.Speakers.{Spoken, text_elements}
-use Rattle.spec_layout.specs.Layout.{KeyBelow, is_page_break, kind_of, rows_behind, breaks_from, placed_in, layout_of}
+use Rattle.spec_layout.specs.Speakers.{Spoken}
+use Rattle.spec_layout.specs.Layout.{KeyBelow, is_page_break, rows_behind, breaks_from, placed_in}
 use Rattle.spec_layout.specs.Shown.{element_cue}
 use Rattle.spec_layout.proofs.ElementPlaces.{placed_from, placed_to}
 use Rattle.spec_layout.proofs.LaidRows.{body_rows, layout-body, rows_behind-count}
@@ -28,9 +28,9 @@ use Rattle.spec_layout.proofs.RowLaws.{IsText-texts}
 use Rattle.spec_layout.proofs.SpokenLaws.{placed_of, spoken_elements-placed}
 use Rattle.spec_state.specs.State.{State, text_of}
 use Rattle.spec_state.specs.StateSheets.{layout_in}
-use Rattle.spec_relayout.specs.Items.{Sight, Item, all_sights, sight_of, shapes_among, breaks_among}
+use Rattle.spec_relayout.specs.Items.{Item, all_sights, sight_of, shapes_among, breaks_among}
 use Rattle.spec_relayout.specs.Touched.{line_of_block, is_continued, block_in}
-use Rattle.spec_relayout.specs.TextItems.{Script, spoken_by, spoken_group, element_label, text_rows, row_item, row_items, break_items, element_items}
+use Rattle.spec_relayout.specs.TextItems.{Script, spoken_by, spoken_group, element_label, text_rows, row_item, row_items, element_items}
 use Rattle.spec_relayout.proofs.AmongLaws.{breaks_among-append}
 use Rattle.spec_relayout.proofs.ItemRows.{break-some, no-break, element-count}
 use Rattle.spec_relayout.proofs.ItemsRise.{all_rows}

@@ -1,5 +1,5 @@
 -- Where the segments of a state begin and end, by ids and by spots.
-use Rattle.std.proofs.Common.{◌≡◌, ◌⊎◌, ℕ, zero, suc, ◌+◌, ◌-◌, ◌<◌, ◌≤◌, Bool, true, false, not, cond, Option, Some, None, List, [], ◌∷◌, ◌++◌, length, map, get_or, take, inl, inr, refl, sym, ap, ap₂, subst, ◌∙◌, arith, length-append, append-nil, unwrap_or}
+use Rattle.std.proofs.Common.{◌≡◌, ℕ, zero, suc, ◌+◌, ◌-◌, ◌<◌, ◌≤◌, Bool, true, false, not, cond, Option, Some, None, List, [], ◌∷◌, ◌++◌, length, map, get_or, take, inl, inr, refl, sym, ap, ap₂, subst, ◌∙◌, arith, length-append, append-nil, unwrap_or}
 use Rattle.std.specs.Prelude.{All, AllPairs, IfSome, filter, drop, slice_range}
 use Rattle.std.specs.List.{flat_map}
 use Rattle.std.proofs.lemmas.Bool.{cases_lt, cases_eq}
@@ -16,9 +16,9 @@ use Rattle.spec_pages.specs.OwnPages.{AreJoined}
 use Rattle.spec_pages.specs.Rows.{Row, line_state}
 use Rattle.spec_labels.specs.declared.RowKey.{RowKey}
 use Rattle.spec_labels.specs.Labels.{LabelOf}
-use Rattle.spec_labels.specs.PageRecords.{PageRecordOf, SegmentOf, line_at, first_label, segments, record_start, record_starts}
+use Rattle.spec_labels.specs.PageRecords.{PageRecordOf, SegmentOf, first_label, segments, record_start, record_starts}
 use Rattle.spec_labels.specs.Spots.{Spot, is_ahead, Bounds, AtMost}
-use Rattle.spec_labels.specs.Anchors.{spot_of, end_spot, spots_of, IsAnchored, Anchored, AreKeys, ArePresent}
+use Rattle.spec_labels.specs.Anchors.{spot_of, end_spot, spots_of, IsAnchored, Anchored, ArePresent}
 use Rattle.spec_labels.proofs.SpotLaws.{ahead-from, ahead-not}
 use Rattle.spec_labels.proofs.CarryLaws.{place-is}
 use Rattle.spec_labels.proofs.AnchorLaws.{first_spot}
@@ -44,10 +44,10 @@ use Rattle.spec_relayout.proofs.Steps.{AreRising, IsOne, LiesBetween, IsLaidOut}
 use Rattle.spec_relayout.proofs.AmongLaws.{rows_among-append, shapes_among-append}
 use Rattle.spec_relayout.proofs.SplitLaws.{front-high, front-back, rising-front, text-parts}
 use Rattle.spec_relayout.proofs.ItemsRise.{items-rise, items-within}
-use Rattle.spec_locked_pages.specs.Segments.{records_in, record_at, no_record, no_segment, segments_in, segment_at}
+use Rattle.spec_locked_pages.specs.Segments.{records_in, record_at, no_record, no_segment, segment_at}
 use Rattle.spec_locked_pages.proofs.CutLaws.{range-middle}
 use Rattle.spec_locked_pages.proofs.RecordSheets.{segment_of}
-use Rattle.spec_locked_pages.proofs.StateScripts.{script_of, texts_of, blocks_in, items_of, state-rise}
+use Rattle.spec_locked_pages.proofs.StateScripts.{script_of, blocks_in, items_of, state-rise}
 use Rattle.spec_locked_pages.proofs.RowsAgree.{agree-shapes, agree-keys, state-agree}
 
 -- ---- keys and spots of items

@@ -4,7 +4,7 @@ use Rattle.spec_text.specs.Edits.{Replacement}
 use Rattle.spec_text.specs.Ranges.{RangeOf, range_of}
 use Rattle.spec_state.specs.State.{State}
 use Rattle.spec_state.specs.Changes.{edited_state, CanEdit}
-use Rattle.spec_wire.specs.Commands.{CommandOf, edit, undo, redo, lock_scenes, lock_pages, next_round, speakers, paper}
+use Rattle.spec_wire.specs.Commands.{CommandOf, lock_scenes, lock_pages, next_round, speakers, paper}
 use Rattle.spec_machine.specs.Machine.{EntryOf, Memory}
 use Rattle.spec_labels.specs.PageRecords.{SheetOf}
 use Rattle.spec_locked_pages.specs.Segments.{records_in, record_at, segment_at, sheets_at, IsLockedPage}

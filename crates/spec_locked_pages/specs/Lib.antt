@@ -1,3 +1,4 @@
 pub mod Segments
 pub mod LockedPages
 pub mod Chains
+pub mod Promises
