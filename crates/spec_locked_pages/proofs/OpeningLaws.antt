@@ -179,10 +179,10 @@ single-sheet state i single there some =
 opened-by : (state : State) → IsText (text_of state) → (0 < length (records_in state) → HeadingsHave state state.scenes) → All (IsSingle (pages_of state)) (segments_in state) → IsOpened state
 opened-by state is have single = record {
   locked = λ i there some. record {
-      there = there;
-      row = some;
-      scenes = range-have state.scenes (rows_in state) (segment_at state i).start (segment_at state i).end (state-have state is (have (omega (arith, there))));
-    };
+    there = there;
+    row = some;
+    scenes = range-have state.scenes (rows_in state) (segment_at state i).start (segment_at state i).end (state-have state is (have (omega (arith, there))));
+  };
   single = λ i there some. single-sheet state i single there some;
 }
 

@@ -352,16 +352,16 @@ agree-steps : (lines : List LineState) (scenes : Option (List SceneRecordOf)) (c
 agree-steps lines scenes continued = record {
   none = λ low high order since. tt;
   single = λ low high block others sound lined order behind since. elim (cases_Bool (is_heading_block block)) [
-      | inl is ↦
-          heading-element lines continued block others is
-          (λ c. subst (λ b. Begins b (laid_out lines (one_alone (record { placed = block; continued = c }))).rows) is (alone-begins lines (record { placed = block; continued = c }) lined))
-          (λ c. heading-at lines block c sound lined is) scenes since behind
-      | inr plain ↦
-          plain-element lines scenes continued (alone block) others since
-          (ap (λ b. cond b (block ∷ filter is_heading_block (flat_map members others)) (filter is_heading_block (flat_map members others))) plain)
-          (subst (λ b. Begins b (laid_out lines (one_alone (record { placed = block; continued = continued (line_of_block block) }))).rows) plain (alone-begins lines (record { placed = block; continued = continued (line_of_block block) }) lined))
-          (behind since)
-    ];
+    | inl is ↦
+        heading-element lines continued block others is
+        (λ c. subst (λ b. Begins b (laid_out lines (one_alone (record { placed = block; continued = c }))).rows) is (alone-begins lines (record { placed = block; continued = c }) lined))
+        (λ c. heading-at lines block c sound lined is) scenes since behind
+    | inr plain ↦
+        plain-element lines scenes continued (alone block) others since
+        (ap (λ b. cond b (block ∷ filter is_heading_block (flat_map members others)) (filter is_heading_block (flat_map members others))) plain)
+        (subst (λ b. Begins b (laid_out lines (one_alone (record { placed = block; continued = continued (line_of_block block) }))).rows) plain (alone-begins lines (record { placed = block; continued = continued (line_of_block block) }) lined))
+        (behind since)
+  ];
   double = λ low high left right others l r dual places order apart behind since.
       let plain = pair-plain left right dual in
       plain-element lines scenes continued (pair left right) others since

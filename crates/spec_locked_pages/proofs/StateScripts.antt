@@ -93,8 +93,7 @@ blocks-later low high [] rise = (All-nil _, λ i j d less inside. absurd (omega 
 blocks-later low high (block ∷ blocks) rise =
     let rest = blocks-later (placed_to block) high blocks rise.2 in
     let some = rise.1 in
-    let begin = rise.0 in
-    (
+    let begin = rise.0 in (
       All-cons (λ (block : PlacedBlock). low ≤ line_of_block block) block blocks begin (λ k d h. let here = rest.0 k d h in omega (arith, here, some, begin)),
       AllPairs-cons (λ (one other : PlacedBlock). line_of_block one < line_of_block other) block blocks (λ k d h. let here = rest.0 k d h in omega (arith, here, some)) rest.1,
     )

@@ -65,7 +65,6 @@ rows-rise lines cue label those all =
     pairs-map Ahead (row_item lines cue label) those (λ i j d below inside.
     ahead-from (row_item lines cue label (get_or those i d)).spot (row_item lines cue label (get_or those j d)).spot (all i j d below inside))
 
-
 rows-inside : (lines : List LineState) (cue : List ShownCell) (label : Option LabelOf) (low high : ℕ) (those : List Row) → All (RowAt (λ place. (low ≤ place) × (place < high))) those
     → All (IsBetween low high) (map (row_item lines cue label) those)
 rows-inside lines cue label low high [] all = All-nil (IsBetween low high)

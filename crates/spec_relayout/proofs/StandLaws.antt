@@ -5,6 +5,7 @@ use Rattle.std.specs.List.{flat_map}
 use Rattle.std.proofs.lemmas.Bool.{cases_Bool}
 use Rattle.std.proofs.lemmas.List.{map-append, append_assoc, get_or_append_left}
 use Rattle.std.proofs.lemmas.List.Elements.{All-nil, All-cons, All-head, All-tail, filter-append}
+use Rattle.spec_text.proofs.ListLaws.{filter-whole}
 use Rattle.spec_labels.specs.Spots.{Spot, is_ahead, Bounds, is_within}
 use Rattle.spec_relayout.specs.Items.{Sight, page_break, row, Item, sight_of, is_inside, sights_in, shapes_among, is_front, all_sights, start_of}
 use Rattle.spec_relayout.proofs.Steps.{Step, AreRising, Stands, NoneStepStands}
@@ -34,12 +35,6 @@ row_count-filter p (x ∷ xs) = by (p x) x.sight (row_count-filter p xs)
     by true (row it) rest = omega (arith, rest)
     by false page_break rest = rest
     by false (row it) rest = omega (arith, rest)
-
-pub filter-whole : {X : Type 0} (p : X → Bool) (xs : List X) → All (λ x. p x ≡ true) xs → filter p xs ≡ xs
-filter-whole p [] all = refl
-filter-whole {X} p (x ∷ xs) all =
-    let P : X → Type 0 = λ x. p x ≡ true in
-    ap (λ b. cond b (x ∷ filter p xs) (filter p xs)) (All-head P x xs all) ∙ ap (λ (zs : List X). x ∷ zs) (filter-whole p xs (All-tail P x xs all))
 
 pairs-behind : {X : Type 0} (R : X → X → Type 0) (xs ys : List X) → AllPairs R (xs ++ ys) → AllPairs R ys
 pairs-behind R xs ys all i j d less inside =

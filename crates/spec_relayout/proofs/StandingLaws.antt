@@ -67,8 +67,7 @@ none-from script touched s e n [] some none = tt
 none-from script touched s e n (it ∷ elements) some none =
     let count = element-count script it in
     let behind : rows_behind script.lines n (spoken_group script it) ≡ n + length (shapes_among (map (λ (item : Item). item.sight) (element_items script it))) =
-    rows_behind-count script.lines n (spoken_group script it) ∙ ap (λ k. n + k) (sym count) in
-    (
+    rows_behind-count script.lines n (spoken_group script it) ∙ ap (λ k. n + k) (sym count) in (
       λ body is stands. none.0 (in-body it body) (touched-in script touched it ∙ is)
           (subst (StandsIn s e n) (count ∙ body-count script it body) (stands-in s e n (length (shapes_among (all_sights (element_items script it)))) some stands)),
       none-from script touched s e (n + length (shapes_among (map (λ (item : Item). item.sight) (element_items script it)))) elements some
