@@ -5,6 +5,7 @@ behind `< `. The replies were found by another program, which has the same rules
 """
 
 import pathlib
+import re
 import subprocess
 import sys
 import tempfile
@@ -17,7 +18,7 @@ PROGRAM = TOP / "crates/fountain_cli/out/fountain_cli"
 
 def sessions():
     for path in sorted((TOP / "checks/sessions").glob("*.session")):
-        for part in path.read_text().split("# ")[1:]:
+        for part in re.split(r"^# ", path.read_text(), flags=re.M)[1:]:
             title, *lines = part.splitlines()
             told = {mark: [line[2:] for line in lines if line.startswith(mark)] for mark in "|><"}
             yield title, told["|"], told[">"], told["<"]
