@@ -6,3 +6,4 @@ pub mod MachineLaws
 pub mod RefusalLaws
 pub mod LabelLaw
 pub mod DeskLaws
+pub mod StepLaws

@@ -24,7 +24,7 @@ none-of : (one other : Option RefusalOf) → first_of one other ≡ None → Non
 none-of None other is = record { first = refl; second = is }
 none-of (Some reason) other is = absurd (let bad : ⊥ = cc in bad)
 
-no-reason : (holds : Bool) (reason : RefusalOf) → reason_if holds reason ≡ None → holds ≡ false
+pub no-reason : (holds : Bool) (reason : RefusalOf) → reason_if holds reason ≡ None → holds ≡ false
 no-reason false reason is = refl
 no-reason true reason is = absurd (let bad : ⊥ = cc in bad)
 
