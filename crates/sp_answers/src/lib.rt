@@ -1,11 +1,13 @@
-//! What a desk answers that is asked for its sheets, their labels or its blocks (docs/RULES.md, "Replies").
+//! What a desk answers that is asked for its sheets, their labels, its blocks or its round (docs/RULES.md, "Replies").
 #![tactic(auto)]
 
 mod blocks;
 mod growing;
+mod rounds;
 mod sheets;
 
 pub use blocks::block_replies;
+pub use rounds::round_name;
 pub use sheets::{sheet_label, sheet_reply};
 
 #[cfg(test)]

@@ -1,5 +1,5 @@
 -- What the calls of a script make of a desk are the steps of its machine.
-use Rattle.std.proofs.Common.{◌≡◌, ℕ, ◌<◌, ◌==◌, Bool, false, Option, Some, None, List, [], ◌∷◌, ◌++◌, length, get_or, refl, sym, ap, subst, ◌∙◌, arith}
+use Rattle.std.proofs.Common.{◌≡◌, ℕ, ◌<◌, ◌==◌, Bool, false, Option, Some, None, Result, Ok, Err, List, [], ◌∷◌, ◌++◌, length, get_or, refl, sym, ap, subst, ◌∙◌, arith}
 use Rattle.std.specs.Prelude.{All, option_map, is_some, nat_le, slice_get}
 use Rattle.std.proofs.lemmas.List.{length-append}
 use Rattle.std.proofs.Math.Seq.{get_or-append_seam}
@@ -10,20 +10,32 @@ use Rattle.spec_text.specs.Edits.{EditOf, Replacement, replacement_of, refusal_o
 use Rattle.spec_text.specs.Ranges.{RangeOf, range_of}
 use Rattle.spec_pages.specs.declared.Paper.{Paper}
 use Rattle.spec_state.specs.State.{State, text_of}
-use Rattle.spec_state.specs.Changes.{text_after, carried_state, carried_after, pages_raised, edited_state}
+use Rattle.spec_state.specs.Changes.{text_after, edited_state}
+use Rattle.spec_state.specs.Openings.{scenes_locked, pages_locked, round_begun}
 use Rattle.spec_state.specs.Keeping.{IsWhole}
 use Rattle.spec_state.specs.StateSheets.{sheets_of_state}
 use Rattle.spec_print.specs.Sheets.{Sheet}
-use Rattle.spec_wire.specs.Commands.{CommandOf, edit, undo, redo, sheet, speakers, paper}
-use Rattle.spec_wire.specs.Replies.{RefusalOf, refused, nothing_to_undo, nothing_to_redo, pages_locked, no_sheet}
-use Rattle.spec_machine.specs.Machine.{EntryOf, Memory, opened_memory, last_entry, without_last, entry_of, edited_memory, undone_to, redone_to, memory_after}
+use Rattle.spec_wire.specs.Commands.{CommandOf, edit, undo, redo, lock_scenes, lock_pages, next_round, sheet, speakers, paper}
+use Rattle.spec_wire.specs.Replies as replies
+use Rattle.spec_wire.specs.Replies.{RefusalOf, refused, nothing_to_undo, nothing_to_redo, no_sheet}
+use Rattle.spec_machine.specs.Machine.{EntryOf, Memory, opened_memory, last_entry, without_last, entry_of, edited_memory, undone_to, redone_to, memory_after, Accepts}
 use Rattle.spec_machine.specs.KeptMemories.{IsEntry, IsWholeMemory}
-use Rattle.spec_machine.specs.Refusals.{refusal_to, edit_refusal, reason_if}
+use Rattle.spec_machine.specs.Refusals.{refusal_to, edit_refusal, reason_if, scenes_refusal, pages_refusal, round_refusal, setting_refusal}
 use Rattle.spec_machine.specs.Answers.{step_by, step_of, accepted_reply, found_sheet, sheet_reply}
 use Rattle.spec_machine.proofs.MachineLaws.{opened-whole, step-whole}
+use Rattle.spec_machine.proofs.StepLaws.{Keeps, same-Keeps, step-Keeps}
+use Rattle.spec_machine.proofs.RefusalLaws.{free-scenes, free-pages, free-round}
 use Rattle.sp_state.specs.Entries.{EntryState, undone_state, redone_state, done_range, undone_range, CanUndo, CanRedo, LeadsBack, LeadsForth}
+use Rattle.sp_wire.specs.declared.reply.Reply.{Reply}
+use Rattle.sp_wire.specs.Values.{reply_of}
+use Rattle.sp_wire.specs.Values as values
+use Rattle.sp_desk.specs.declared.fault.DeskFault.{DeskFault}
+use Rattle.sp_desk.specs.declared.fault.DeskFault.TheVariants.{Refused, NoMemory}
 use Rattle.sp_desk.specs.Memories.{entries_by, CanTurnAll, memory_by, IsDesk}
-use Rattle.sp_desk.specs.Answers.{step_to}
+use Rattle.sp_state.specs.declared.fault.OpeningFault.{OpeningFault}
+use Rattle.sp_state.specs.declared.fault.OpeningFault.TheVariants as faults
+use Rattle.sp_state.specs.Openings.{IsReason}
+use Rattle.sp_desk.specs.Answers.{IsAnswer, opening_fault_of, step_to}
 use Rattle.sp_desk.proofs.EntryLaws.{last-more, front-more, entries-more, can-more, can-last, can-front, entries-same, can-same}
 
 -- ---- steps
@@ -94,9 +106,6 @@ last-whole turn range state other entries entry all =
 
 -- ---- an edit
 
-no-pages : (state : State) (it : Replacement) → state.pages ≡ None → (edited_state state it).pages ≡ None
-no-pages state it none = ap (λ pages. pages_raised state (carried_state state it) pages (carried_after state it)) none
-
 edited-memory : (old new : State) (done undone : List EntryState) (entry : EntryState) (it : Replacement) → new ≡ edited_state old it → LeadsBack old new entry → done_range entry ≡ range_of it
     → memory_by new (done ++ entry ∷ []) [] ≡ edited_memory (memory_by old done undone) it
 edited-memory old new done undone entry it is leads range =
@@ -115,8 +124,6 @@ edit-step old new done undone entry it desk free is text leads range =
         whole = subst IsWholeMemory (sym same) (step-whole memory (edit it) desk.whole (record { taken = free; text = there }));
         can_undo = can-more CanUndo undone_state new done entry leads.can (subst (λ (s : State). CanTurnAll CanUndo undone_state s done) (sym leads.back) desk.can_undo);
         can_redo = tt;
-        pages = ap (λ (s : State). s.pages) is ∙ no-pages old (replacement_of old.lines it) desk.pages;
-        scenes = ap (λ (s : State). s.scenes) is ∙ desk.scenes;
       };
     }
 
@@ -141,8 +148,6 @@ undo-step old new done undone entry again desk is leads range =
         whole = subst IsWholeMemory (sym same) (step-whole memory undo desk.whole (longer undone_state done_range old done entry));
         can_undo = subst (λ (s : State). CanTurnAll CanUndo undone_state s done) (sym is) (can-front CanUndo undone_state old done entry desk.can_undo);
         can_redo = can-more CanRedo redone_state new undone again leads.can (subst (λ (s : State). CanTurnAll CanRedo redone_state s undone) (sym leads.forth) desk.can_redo);
-        pages = ap (λ (s : State). s.pages) is ∙ ap (option_map _) desk.pages;
-        scenes = ap (λ (s : State). s.scenes) is ∙ desk.scenes;
       };
     }
 
@@ -171,8 +176,6 @@ redo-step old new done undone entry again desk is leads range =
         whole = subst IsWholeMemory (sym same) (step-whole memory redo desk.whole (longer redone_state undone_range old undone entry));
         can_undo = can-more CanUndo undone_state new done again leads.can (subst (λ (s : State). CanTurnAll CanUndo undone_state s done) (sym leads.back) desk.can_undo);
         can_redo = subst (λ (s : State). CanTurnAll CanRedo redone_state s undone) (sym is) (can-front CanRedo redone_state old undone entry desk.can_redo);
-        pages = ap (λ (s : State). s.pages) is ∙ ap (option_map _) desk.pages;
-        scenes = ap (λ (s : State). s.scenes) is ∙ desk.scenes;
       };
     }
 
@@ -240,7 +243,7 @@ handed-desk state new done undone dones undones is same undos redos desk =
     subst (λ (s : State). IsSameDesk (memory_by state done undone) s dones undones) (sym is)
     (record {
       same = same;
-      desk = record { whole = subst IsWholeMemory (sym same) desk.whole; can_undo = undos; can_redo = redos; pages = desk.pages; scenes = desk.scenes };
+      desk = record { whole = subst IsWholeMemory (sym same) desk.whole; can_undo = undos; can_redo = redos };
     })
 
 pub undo-back : (old new : State) (done undone front dones undones : List EntryState) (entry back : EntryState) → IsDesk old done undone → done ≡ front ++ entry ∷ [] → new ≡ old
@@ -269,40 +272,67 @@ redo-back old new done undone front dones undones entry back desk last is can th
     handed-desk old new done undone dones undones is (memory-same _ _ _ _ _ _ refl (ap (entries_by undone_state done_range old) rest) entries)
     (subst (CanTurnAll CanUndo undone_state old) (sym rest) desk.can_undo) turns desk
 
--- ---- settings, and what is opened
+-- ---- locks, rounds and settings, and what is opened
 
-pub speakers-step : (old new : State) (done undone : List EntryState) (on : Bool) → IsDesk old done undone → new ≡ record old { speakers = on } → IsStep (memory_by old done undone) (speakers on) new [] []
-speakers-step old new done undone on desk is =
+-- They empty both lists.
+opening-step : (old new : State) (done undone : List EntryState) (command : CommandOf) → IsDesk old done undone → refusal_to (memory_by old done undone) command ≡ None
+    → Accepts (memory_by old done undone) command → opened_memory new ≡ memory_after (memory_by old done undone) command → IsStep (memory_by old done undone) command new [] []
+opening-step old new done undone command desk free can same =
     let memory = memory_by old done undone in
-    let same : opened_memory new ≡ memory_after memory (speakers on) = ap opened_memory is in
     record {
-      step = accepted-step memory (opened_memory new) (speakers on) (ap (λ pages. reason_if (is_some pages) pages_locked) desk.pages) same;
-      desk = record {
-        whole = subst IsWholeMemory (sym same) (step-whole memory (speakers on) desk.whole desk.pages);
-        can_undo = tt;
-        can_redo = tt;
-        pages = ap (λ (s : State). s.pages) is ∙ desk.pages;
-        scenes = ap (λ (s : State). s.scenes) is ∙ desk.scenes;
-      };
+      step = accepted-step memory (opened_memory new) command free same;
+      desk = record { whole = subst IsWholeMemory (sym same) (step-whole memory command desk.whole can); can_undo = tt; can_redo = tt };
     }
 
-pub paper-step : (old new : State) (done undone : List EntryState) (size : Paper) → IsDesk old done undone → new ≡ record old { paper = size } → IsStep (memory_by old done undone) (paper size) new [] []
-paper-step old new done undone size desk is =
-    let memory = memory_by old done undone in
-    let same : opened_memory new ≡ memory_after memory (paper size) = ap opened_memory is in
-    record {
-      step = accepted-step memory (opened_memory new) (paper size) (ap (λ pages. reason_if (is_some pages) pages_locked) desk.pages) same;
-      desk = record {
-        whole = subst IsWholeMemory (sym same) (step-whole memory (paper size) desk.whole desk.pages);
-        can_undo = tt;
-        can_redo = tt;
-        pages = ap (λ (s : State). s.pages) is ∙ desk.pages;
-        scenes = ap (λ (s : State). s.scenes) is ∙ desk.scenes;
-      };
-    }
+-- The lists as the journal has them.
+emptied : (old new : State) (done undone dones undones : List EntryState) (command : CommandOf) → dones ≡ [] → undones ≡ [] → IsStep (memory_by old done undone) command new [] [] → IsStep (memory_by old done undone) command new dones undones
+emptied old new done undone dones undones command first second step =
+    subst (λ (es : List EntryState). IsStep (memory_by old done undone) command new es undones) (sym first)
+    (subst (λ (es : List EntryState). IsStep (memory_by old done undone) command new [] es) (sym second) step)
 
-pub opened-desk : (state : State) → IsWhole state → state.pages ≡ None → state.scenes ≡ None → IsDesk state [] []
-opened-desk state whole pages scenes = record { whole = opened-whole state whole; can_undo = tt; can_redo = tt; pages = pages; scenes = scenes }
+pub scenes-step : (old new : State) (done undone dones undones : List EntryState) → IsDesk old done undone → scenes_refusal old ≡ None → new ≡ scenes_locked old → dones ≡ [] → undones ≡ []
+    → IsStep (memory_by old done undone) lock_scenes new dones undones
+scenes-step old new done undone dones undones desk free is first second =
+    emptied old new done undone dones undones lock_scenes first second (opening-step old new done undone lock_scenes desk free (free-scenes old free) (ap opened_memory is))
+
+pub pages-step : (old new : State) (done undone dones undones : List EntryState) → IsDesk old done undone → pages_refusal old ≡ None → new ≡ pages_locked old → dones ≡ [] → undones ≡ []
+    → IsStep (memory_by old done undone) lock_pages new dones undones
+pages-step old new done undone dones undones desk free is first second =
+    emptied old new done undone dones undones lock_pages first second (opening-step old new done undone lock_pages desk free (free-pages old free) (ap opened_memory is))
+
+pub round-step : (old new : State) (done undone dones undones : List EntryState) → IsDesk old done undone → round_refusal old ≡ None → new ≡ round_begun old → dones ≡ [] → undones ≡ []
+    → IsStep (memory_by old done undone) next_round new dones undones
+round-step old new done undone dones undones desk free is first second =
+    emptied old new done undone dones undones next_round first second (opening-step old new done undone next_round desk free (free-round old free) (ap opened_memory is))
+
+-- Pages aren't locked.
+free-setting : (state : State) → state.pages ≡ None → setting_refusal state ≡ None
+free-setting state none = ap (λ pages. reason_if (is_some pages) replies.pages_locked) none
+
+pub speakers-step : (old new : State) (done undone dones undones : List EntryState) (on : Bool) → IsDesk old done undone → old.pages ≡ None → new ≡ record old { speakers = on } → dones ≡ [] → undones ≡ []
+    → IsStep (memory_by old done undone) (speakers on) new dones undones
+speakers-step old new done undone dones undones on desk none is first second =
+    emptied old new done undone dones undones (speakers on) first second (opening-step old new done undone (speakers on) desk (free-setting old none) none (ap opened_memory is))
+
+pub paper-step : (old new : State) (done undone dones undones : List EntryState) (size : Paper) → IsDesk old done undone → old.pages ≡ None → new ≡ record old { paper = size } → dones ≡ [] → undones ≡ []
+    → IsStep (memory_by old done undone) (paper size) new dones undones
+paper-step old new done undone dones undones size desk none is first second =
+    emptied old new done undone dones undones (paper size) first second (opening-step old new done undone (paper size) desk (free-setting old none) none (ap opened_memory is))
+
+pub opened-desk : (state : State) → IsWhole state → IsDesk state [] []
+opened-desk state whole = record { whole = opened-whole state whole; can_undo = tt; can_redo = tt }
+
+-- What refuses a lock or a round is told.
+pub refused-opening : (memory : Memory) (command : CommandOf) (fault : OpeningFault) → IsReason (refusal_to memory command) fault → IsAnswer memory command memory (Err (opening_fault_of fault))
+refused-opening memory command faults.ScenesLocked is = refused-step memory command replies.scenes_locked is
+refused-opening memory command (faults.SceneForm place) is = refused-step memory command (replies.scene_form place) is
+refused-opening memory command (faults.SceneOrder place) is = refused-step memory command (replies.scene_order place) is
+refused-opening memory command faults.ScenesNotLocked is = refused-step memory command replies.scenes_not_locked is
+refused-opening memory command faults.PagesLocked is = refused-step memory command replies.pages_locked is
+refused-opening memory command faults.NoPages is = refused-step memory command replies.no_pages is
+refused-opening memory command faults.RoundsFull is = refused-step memory command replies.rounds_full is
+refused-opening memory command faults.RecordsFull is = refused-step memory command replies.records_full is
+refused-opening memory command faults.NoMemory is = refl
 
 -- ---- sheets
 
@@ -313,3 +343,11 @@ sheet-found memory index it at =
   where
     within : (count : ℕ) → index < count → nat_le count index ≡ false
     within count inside = grind (arith, nat_tests)
+
+-- ---- every answer
+
+-- What every answer keeps: labels are as promised and none is lost, and a lock of pages and a new round leave the bytes of every sheet.
+pub answer-Keeps : (old new : Memory) (command : CommandOf) (result : Result Reply DeskFault) → IsWholeMemory old → IsWholeMemory new → IsAnswer old command new result → Keeps old command new
+answer-Keeps old new command (Ok reply) whole after is = step-Keeps old new command (step_to new (reply_of reply)) whole after is refl
+answer-Keeps old new command (Err (Refused reason)) whole after is = step-Keeps old new command (step_to new (refused (values.refusal_of reason))) whole after is refl
+answer-Keeps old new command (Err NoMemory) whole after is = same-Keeps old new command whole is

@@ -2,10 +2,12 @@
 use Rattle.std.specs.Prelude.{◌≡◌}
 use Rattle.std.specs.declared.result.Result.{Result}
 use Rattle.std.specs.declared.result.Result.TheVariants.{Ok, Err}
-use Rattle.spec_wire.specs.Commands.{CommandOf, lock_scenes, lock_pages, next_round}
+use Rattle.spec_wire.specs.Commands.{CommandOf}
 use Rattle.spec_wire.specs.Replies.{ReplyOf, refused}
 use Rattle.spec_machine.specs.Machine.{Memory}
 use Rattle.spec_machine.specs.Answers.{Step, step_of}
+use Rattle.sp_state.specs.declared.fault.OpeningFault.{OpeningFault}
+use Rattle.sp_state.specs.declared.fault.OpeningFault.TheVariants as openings
 use Rattle.sp_text.specs.declared.fault.EditFault.{EditFault}
 use Rattle.sp_text.specs.declared.fault.EditFault.TheVariants as faults
 use Rattle.sp_wire.specs.declared.reply.Refusal.TheVariants as refusals
@@ -13,13 +15,6 @@ use Rattle.sp_wire.specs.declared.reply.Reply.{Reply}
 use Rattle.sp_wire.specs.Values.{reply_of, refusal_of}
 use Rattle.sp_desk.specs.declared.fault.DeskFault.{DeskFault}
 use Rattle.sp_desk.specs.declared.fault.DeskFault.TheVariants.{Refused, NoMemory}
-
--- The command locks nothing and begins no round.
-abbrev pub LocksNothing : CommandOf → Type 0
-LocksNothing lock_scenes = ⊥
-LocksNothing lock_pages = ⊥
-LocksNothing next_round = ⊥
-LocksNothing _ = Unit {0}
 
 abbrev pub step_to : Memory → ReplyOf → Step
 step_to after reply = record { after = after; reply = reply }
@@ -39,3 +34,15 @@ fault_of faults.LineFull = Refused refusals.LineFull
 fault_of faults.TextFull = Refused refusals.TextFull
 fault_of faults.IdsSpent = Refused refusals.IdsSpent
 fault_of faults.NoMemory = NoMemory
+
+-- The fault of a lock or a round as a desk tells it.
+abbrev pub opening_fault_of : OpeningFault → DeskFault
+opening_fault_of openings.ScenesLocked = Refused refusals.ScenesLocked
+opening_fault_of (openings.SceneForm place) = Refused (refusals.SceneForm place)
+opening_fault_of (openings.SceneOrder place) = Refused (refusals.SceneOrder place)
+opening_fault_of openings.ScenesNotLocked = Refused refusals.ScenesNotLocked
+opening_fault_of openings.PagesLocked = Refused refusals.PagesLocked
+opening_fault_of openings.NoPages = Refused refusals.NoPages
+opening_fault_of openings.RoundsFull = Refused refusals.RoundsFull
+opening_fault_of openings.RecordsFull = Refused refusals.RecordsFull
+opening_fault_of openings.NoMemory = NoMemory

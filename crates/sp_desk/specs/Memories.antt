@@ -1,5 +1,5 @@
 -- The memory of whole states that a state and two lists of entries stand for (docs/RULES.md, "The desk").
-use Rattle.std.specs.Prelude.{◌≡◌, List, [], ◌∷◌, None}
+use Rattle.std.specs.Prelude.{List, [], ◌∷◌}
 use Rattle.spec_text.specs.Ranges.{RangeOf}
 use Rattle.spec_state.specs.State.{State}
 use Rattle.spec_machine.specs.Machine.{EntryOf, Memory, entry_of}
@@ -29,10 +29,8 @@ memory_by state done undone = record {
   undone = entries_by redone_state undone_range state undone;
 }
 
--- The memory is whole, every entry can be undone or redone in its turn, and nothing is locked yet.
+-- The memory is whole, and every entry can be undone or redone in its turn.
 pub record IsDesk (state : State) (done undone : List EntryState) : Type 0 where
   pub whole : IsWholeMemory (memory_by state done undone)
   pub can_undo : CanTurnAll CanUndo undone_state state done
   pub can_redo : CanTurnAll CanRedo redone_state state undone
-  pub pages : state.pages ≡ None
-  pub scenes : state.scenes ≡ None

@@ -1,5 +1,5 @@
 //! A script with the journal of its edits.
-ghost use Rattle.std.specs.Prelude.{◌≡◌, ◌≤◌, false, None, Some, length, slice_get, IfOk, IfNone, IfSome};
+ghost use Rattle.std.specs.Prelude.{◌≡◌, ◌≤◌, false, Some, length, slice_get, IfOk, IfNone, IfSome, OnOk};
 ghost use Rattle.spec_text.specs.Lines.{line_texts, read_lines};
 ghost use Rattle.spec_state.specs.State.{opened_state, text_of};
 ghost use Rattle.spec_state.specs.Keeping.{IsWhole, records_of, state_of};
@@ -7,15 +7,17 @@ ghost use Rattle.spec_state.specs.StateSheets.{sheets_of_state};
 ghost use Rattle.spec_wire.specs.Commands as commands;
 ghost use Rattle.spec_wire.specs.Replies.{is_refused};
 ghost use Rattle.spec_machine.specs.KeptMemories.{IsWholeMemory};
+ghost use Rattle.spec_machine.specs.LabelPromises.{AreLabelled, LosesNone};
+ghost use Rattle.spec_machine.specs.SheetPromises.{KeepsSheets};
 ghost use Rattle.spec_machine.specs.Machine.{opened_memory};
 ghost use Rattle.sp_text.specs.Gap.{text_of as lines_text};
 ghost use Rattle.sp_text.specs.Changing.{edit_of};
 ghost use Rattle.sp_wire.specs.Values.{command_of, reply_of};
-ghost use Rattle.sp_desk.specs.Answers.{IsAnswer, LocksNothing};
+ghost use Rattle.sp_desk.specs.Answers.{IsAnswer};
 
 use crate::DeskFault;
-use crate::replies::{edited_reply, sheet_labels};
-use sp_answers::{block_replies, sheet_reply};
+use crate::replies::{edited_reply, next_after, page_count, scene_count, sheet_labels};
+use sp_answers::{block_replies, round_name, sheet_reply};
 use sp_journal::Journal;
 use sp_kit::Steps;
 use sp_print::PageView;
@@ -61,7 +63,7 @@ impl Desk {
         })
     }
 
-    /// The desk of these lines with these records, which have no locked scenes or pages. Nothing can be undone or redone.
+    /// The desk of these lines with these records. Nothing can be undone or redone.
     /// `AllocError` comes for want of memory alone.
     pub fn open<S: Steps>(
         alloc: Global,
@@ -69,9 +71,7 @@ impl Desk {
         records: Records,
         steps: &mut S,
     ) -> Result<Desk, AllocError>
-        requires whole { IsWhole (state_of (lines_text lines) records) }
-        requires scenes { records.scenes ≡ None }
-        requires pages { records.pages ≡ None }
+        requires { IsWhole (state_of (lines_text lines) records) }
         ensures { IfOk result (λ desk. desk ≡ opened_memory (state_of (lines_text lines) records)) }
     {
         let script = Script::open(alloc, lines, records, steps)?;
@@ -82,16 +82,33 @@ impl Desk {
     }
 
     /// Answers a command, as the machine does: what it makes of the memory, and the reply; a refusal is a fault and never
-    /// `Reply::Refused`. NoMemory may come in place of any answer, and then nothing is changed. Locks and rounds aren't
-    /// answered yet. An edit, an undo, a redo and a setting lay out
-    /// the whole text and fill each page of the body once; the other commands lay out nothing (docs/RULES.md, "The desk").
+    /// `Reply::Refused`. NoMemory may come in place of any answer, and then nothing is changed. An edit, an undo, a redo and
+    /// a setting lay out the whole text and fill each page of the body once; the other commands, locks and rounds among
+    /// them, lay out nothing (docs/RULES.md, "The desk"). No command loses a locked label, and an accepted lock of pages or
+    /// a new round leaves the bytes of every sheet as they were (docs/RULES.md, "Page records" and "Scene numbers").
     pub fn apply<S: Steps>(
         &mut self,
         alloc: Global,
         command: Command,
         steps: &mut S,
     ) -> Result<Reply, DeskFault>
-        requires { LocksNothing (command_of command) }
+        ensures step { IsAnswer self.old (command_of command) self.new result }
+        ensures unrefused { IfOk result (λ reply. is_refused (reply_of reply) ≡ false) }
+        ensures labels { AreLabelled (self.new).state × LosesNone (self.old).state (self.new).state }
+        ensures opening { OnOk result (KeepsSheets (command_of command) self.old self.new) }
+    {
+        let _before = self.sheets();
+        let answer = self.answer(alloc, command, steps);
+        let _after = self.sheets();
+        answer
+    }
+
+    fn answer<S: Steps>(
+        &mut self,
+        alloc: Global,
+        command: Command,
+        steps: &mut S,
+    ) -> Result<Reply, DeskFault>
         ensures step { IsAnswer self.old (command_of command) self.new result }
         ensures unrefused { IfOk result (λ reply. is_refused (reply_of reply) ≡ false) }
     {
@@ -99,6 +116,9 @@ impl Desk {
             Command::Edit(edit) => self.edit(alloc, edit, steps),
             Command::Undo => self.undo(alloc, steps),
             Command::Redo => self.redo(alloc, steps),
+            Command::LockScenes => self.lock_scenes(alloc),
+            Command::LockPages => self.lock_pages(alloc),
+            Command::NextRound => self.next_round(alloc),
             Command::Sheet(index) => self.sheet_answer(alloc, index),
             Command::Labels => self.labels_answer(alloc),
             Command::Blocks => self.blocks_answer(alloc),
@@ -107,7 +127,6 @@ impl Desk {
             Command::Outline | Command::Save | Command::Packet => {
                 Err(DeskFault::Refused(Refusal::UnknownCommand))
             }
-            Command::LockScenes | Command::LockPages | Command::NextRound => unreachable!(),
         }
     }
 
@@ -166,6 +185,35 @@ impl Desk {
         }
     }
 
+    fn lock_scenes(&mut self, alloc: Global) -> Result<Reply, DeskFault>
+        ensures step { IsAnswer self.old commands.lock_scenes self.new result }
+        ensures unrefused { IfOk result (λ reply. is_refused (reply_of reply) ≡ false) }
+    {
+        self.script.lock_scenes(alloc)?;
+        self.journal.clear();
+        Ok(Reply::Scenes(scene_count(self.script.records())))
+    }
+
+    fn lock_pages(&mut self, alloc: Global) -> Result<Reply, DeskFault>
+        ensures step { IsAnswer self.old commands.lock_pages self.new result }
+        ensures unrefused { IfOk result (λ reply. is_refused (reply_of reply) ≡ false) }
+    {
+        self.script.lock_pages(alloc)?;
+        self.journal.clear();
+        Ok(Reply::Pages(page_count(self.script.records())))
+    }
+
+    fn next_round(&mut self, alloc: Global) -> Result<Reply, DeskFault>
+        ensures step { IsAnswer self.old commands.next_round self.new result }
+        ensures unrefused { IfOk result (λ reply. is_refused (reply_of reply) ≡ false) }
+    {
+        let round = next_after(self.script.records());
+        let name = round_name(alloc, round)?;
+        self.script.next_round(alloc)?;
+        self.journal.clear();
+        Ok(Reply::Round { name, round })
+    }
+
     fn set_speakers<S: Steps>(
         &mut self,
         alloc: Global,
@@ -175,6 +223,9 @@ impl Desk {
         ensures step { IsAnswer self.old (commands.speakers on) self.new result }
         ensures unrefused { IfOk result (λ reply. is_refused (reply_of reply) ≡ false) }
     {
+        if self.script.records().pages.is_some() {
+            return Err(DeskFault::Refused(Refusal::PagesLocked));
+        }
         self.script.set_speakers(alloc, on, steps)?;
         self.journal.clear();
         Ok(Reply::Set {
@@ -191,6 +242,9 @@ impl Desk {
         ensures step { IsAnswer self.old (commands.paper paper) self.new result }
         ensures unrefused { IfOk result (λ reply. is_refused (reply_of reply) ≡ false) }
     {
+        if self.script.records().pages.is_some() {
+            return Err(DeskFault::Refused(Refusal::PagesLocked));
+        }
         self.script.set_paper(alloc, paper, steps)?;
         self.journal.clear();
         Ok(Reply::Set {

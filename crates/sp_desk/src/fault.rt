@@ -1,3 +1,4 @@
+use sp_state::OpeningFault;
 use sp_text::EditFault;
 use sp_wire::Refusal;
 use std::alloc::AllocError;
@@ -37,6 +38,27 @@ impl From<EditFault> for DeskFault {
             EditFault::TextFull => DeskFault::Refused(Refusal::TextFull),
             EditFault::IdsSpent => DeskFault::Refused(Refusal::IdsSpent),
             EditFault::NoMemory => DeskFault::NoMemory,
+        }
+    }
+}
+
+impl From<OpeningFault> for DeskFault {
+    ghost use Rattle.std.specs.Prelude.{◌≡◌};
+    ghost use Rattle.sp_desk.specs.Answers.{opening_fault_of};
+
+    ghost from_gives = { λ opening fault. fault ≡ opening_fault_of opening };
+
+    fn from(fault: OpeningFault) -> DeskFault {
+        match fault {
+            OpeningFault::ScenesLocked => DeskFault::Refused(Refusal::ScenesLocked),
+            OpeningFault::SceneForm(place) => DeskFault::Refused(Refusal::SceneForm(place)),
+            OpeningFault::SceneOrder(place) => DeskFault::Refused(Refusal::SceneOrder(place)),
+            OpeningFault::ScenesNotLocked => DeskFault::Refused(Refusal::ScenesNotLocked),
+            OpeningFault::PagesLocked => DeskFault::Refused(Refusal::PagesLocked),
+            OpeningFault::NoPages => DeskFault::Refused(Refusal::NoPages),
+            OpeningFault::RoundsFull => DeskFault::Refused(Refusal::RoundsFull),
+            OpeningFault::RecordsFull => DeskFault::Refused(Refusal::RecordsFull),
+            OpeningFault::NoMemory => DeskFault::NoMemory,
         }
     }
 }

@@ -1,12 +1,13 @@
 //! What is told of a script.
-ghost use Rattle.std.specs.Prelude.{◌≡◌, map, string_bytes, IfOk};
+ghost use Rattle.std.specs.Prelude.{◌≡◌, ◌+◌, ◌≤◌, map, string_bytes, IfOk};
 ghost use Rattle.spec_text.specs.Lines.{IsText};
 ghost use Rattle.spec_state.specs.State.{text_of};
 ghost use Rattle.spec_state.specs.StateSheets.{sheets_of_state};
-ghost use Rattle.spec_machine.specs.Answers.{edited_reply, label_of_sheet};
+ghost use Rattle.spec_machine.specs.Answers.{edited_reply, label_of_sheet, record_count};
 ghost use Rattle.sp_wire.specs.Values.{reply_of};
 
 use sp_answers::sheet_label;
+use sp_records::Records;
 use sp_state::Script;
 use sp_wire::Reply;
 use std::alloc::{AllocError, Global};
@@ -20,6 +21,34 @@ pub fn edited_reply(script: &Script) -> Reply
         lines: script.lines().len() as u64,
         sheets: script.sheets() as u64,
     }
+}
+
+/// How many scene records there are.
+pub fn scene_count(records: &Records) -> u64
+    ensures { result ≡ record_count records.now.scenes }
+{
+    match &records.scenes {
+        None => 0,
+        Some(scenes) => scenes.len() as u64,
+    }
+}
+
+/// How many page records there are.
+pub fn page_count(records: &Records) -> u64
+    ensures { result ≡ record_count records.now.pages }
+{
+    match &records.pages {
+        None => 0,
+        Some(pages) => pages.len() as u64,
+    }
+}
+
+/// The round after that of the records.
+pub fn next_after(records: &Records) -> u8
+    requires { records.now.round ≤ 99 }
+    ensures { result ≡ records.now.round + 1 }
+{
+    records.round + 1
 }
 
 /// The labels of its sheets.

@@ -6,3 +6,4 @@ mod SheetPlaces
 mod MadeLaws
 pub mod EntryLaws
 mod EditedScripts
+mod OpeningMade

@@ -114,7 +114,7 @@ locked-of items state pages_of body breaks firsts pages whole records elements s
     (subst (λ (it : List ElementOf). IfSome pages_of (λ those. LockedSheets (row_count it) (items those) firsts (page_starts limit (shapes_in it) ((layout_in state).breaks ++ firsts)))) (sym elements)
     (locked items state pages_of firsts whole records first)))
 
-sheets-by : (state : State) (o : Option (List PageRecordOf)) → let firsts = key_starts state.lines (keys_in state) o in let body = (layout_in state).body in
+pub sheets-by : (state : State) (o : Option (List PageRecordOf)) → let firsts = key_starts state.lines (keys_in state) o in let body = (layout_in state).body in
     marked_or_locked body o firsts (page_starts (rows_on state.paper) (shapes_in body) ((layout_in state).breaks ++ firsts)) ≡ sheets_in (rows_on state.paper) state.lines (rows_in state) (layout_in state).breaks o
 sheets-by state None =
     let body = (layout_in state).body in

@@ -4,7 +4,9 @@
 
 mod editing;
 mod entry;
+mod fault;
 mod headings;
+mod locking;
 mod made;
 mod numbered;
 mod script;
@@ -12,4 +14,5 @@ mod stops;
 mod views;
 
 pub use entry::{Entry, Unturned, redo_entry, undo_entry};
+pub use fault::OpeningFault;
 pub use script::Script;

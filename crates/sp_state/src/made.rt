@@ -49,6 +49,7 @@ impl Model for Made {
       stanzas = m.stanzas.stanzas;
       titles = m.titles.elements;
       body = m.body.elements;
+      keys = m.body.keys;
       labels = option_map (λ those. those.items) m.labels;
       title_starts = m.title_pages.starts;
       sheets = m.sheets.items;

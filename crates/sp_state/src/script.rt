@@ -6,14 +6,19 @@ ghost use Rattle.spec_text.specs.Ranges.{range_of};
 ghost use Rattle.spec_script.specs.Stanzas.{stanzas_of};
 ghost use Rattle.spec_state.specs.State.{opened_state, text_of as state_text};
 ghost use Rattle.spec_state.specs.Changes.{edited_state};
+ghost use Rattle.spec_state.specs.Openings.{pages_locked, round_begun, scenes_locked};
+ghost use Rattle.spec_machine.specs.Refusals.{pages_refusal, round_refusal, scenes_refusal};
 ghost use Rattle.sp_text.specs.Changing.{Refuses, edit_of};
 ghost use Rattle.spec_state.specs.Keeping.{IsWhole, records_of, state_of};
 ghost use Rattle.sp_text.specs.Gap.{text_of};
 ghost use Rattle.spec_state.specs.StateSheets.{sheets_of_state};
+ghost use Rattle.sp_state.specs.Openings.{IsOpening};
 ghost use Rattle.sp_state.specs.Entries.{CanRedo, CanUndo, IsSameEntry, LeadsBack, LeadsForth, done_range, redone_state, undone_range, undone_state};
 
 use crate::editing::{edit_made, made_on, made_with_speakers, redo_made, undo_made};
 use crate::entry::{Entry, Unturned};
+use crate::fault::OpeningFault;
+use crate::locking::{lock_pages_made, lock_scenes_made, next_round_made};
 use crate::made::{Made, make};
 use crate::views::{made_sheet, made_title, sheet_count, title_count};
 use sp_kit::Steps;
@@ -226,5 +231,33 @@ impl Script {
         let made = made_on(alloc, &self.lines, &mut self.records, paper, steps)?;
         self.made = made;
         Ok(())
+    }
+
+    /// Locks scenes: each heading gets a record of the label that it has without records (docs/RULES.md, "Scene numbers").
+    /// No stanza is read and no page filled. It is refused as docs/RULES.md says in "The desk"; NoMemory may come in place
+    /// of any answer. On a fault nothing is changed.
+    pub fn lock_scenes(&mut self, alloc: Global) -> Result<(), OpeningFault>
+        ensures { IsOpening (scenes_refusal self.old) (scenes_locked self.old) self.old self.new result }
+    {
+        lock_scenes_made(alloc, &self.lines, &mut self.records, &mut self.made)
+    }
+
+    /// Locks pages: each page gets a record, and each heading that has none (docs/RULES.md, "Page records"). No stanza is
+    /// read and no page filled, and the sheets stay as they are. It is refused as docs/RULES.md says in "The desk";
+    /// NoMemory may come in place of any answer. On a fault nothing is changed.
+    pub fn lock_pages(&mut self, alloc: Global) -> Result<(), OpeningFault>
+        ensures { IsOpening (pages_refusal self.old) (pages_locked self.old) self.old self.new result }
+    {
+        lock_pages_made(alloc, &self.lines, &mut self.records, &self.made)
+    }
+
+    /// Begins the next round: where scenes or pages are locked, each heading and each page that has no record gets one
+    /// (docs/RULES.md, "Scene numbers" and "Page records"). No stanza is read and no page filled, and the sheets stay as
+    /// they are. It is refused as docs/RULES.md says in "The desk"; NoMemory may come in place of any answer. On a fault
+    /// nothing is changed.
+    pub fn next_round(&mut self, alloc: Global) -> Result<(), OpeningFault>
+        ensures { IsOpening (round_refusal self.old) (round_begun self.old) self.old self.new result }
+    {
+        next_round_made(alloc, &self.lines, &mut self.records, &self.made)
     }
 }

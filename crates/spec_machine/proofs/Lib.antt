@@ -3,5 +3,7 @@ pub mod RecordOrder
 pub mod PageKeeps
 pub mod WholeStates
 pub mod MachineLaws
+pub mod RefusalLaws
 pub mod LabelLaw
 pub mod DeskLaws
+pub mod StepLaws

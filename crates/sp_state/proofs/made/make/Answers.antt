@@ -8,6 +8,7 @@ use Rattle.spec_records.specs.Kept.{RecordsOf}
 use Rattle.spec_state.specs.State.{State}
 use Rattle.spec_state.specs.Keeping.{state_of}
 use Rattle.spec_state.specs.StateSheets.{layout_in}
+use Rattle.spec_state.proofs.StateKeys.{state-row_keys}
 use Rattle.sp_text.specs.Gap.{text_of}
 use Rattle.sp_layout.specs.Bodies.{shapes_in}
 use Rattle.sp_layout.specs.LaidOut.{LayoutOf}
@@ -22,6 +23,7 @@ returns g c =
       stanzas = c.in_ok-stanzas.ensures.list;
       titles = titles;
       body = ap (λ (l : LayoutOf). l.body.elements) laid;
+      keys = ap (λ (l : LayoutOf). l.body.keys) laid ∙ sym (state-row_keys state);
       labels = c.in_ok-layout.ensures.labels;
       title_starts = c.in_ok-title_pages.ensures
           ∙ ap (λ (paper : Paper). page_starts (rows_on paper) (shapes_in c.layout.inside.titles.elements) []) (ap (λ (records : RecordsOf). records.paper) c.records.view_is)
