@@ -36,7 +36,6 @@ cell-own texts first cell = by cell.fixed
 
 -- ---- cells
 
-
 -- Written numbers are left out before cells are shown.
 pub bare-is : (texts : List (List ℕ)) (first : ℕ) (cells : List Cell) → bare_cells texts first cells ≡ map (λ (cell : Cell). shown_cell texts (shifted_cell first cell)) (without_numbers cells)
 bare-is texts first [] = refl

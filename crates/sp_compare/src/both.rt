@@ -48,12 +48,7 @@ fn row_at(body: &Body, row: usize) -> (u64, &Row)
 
 impl<'a> BothTexts<'a> {
     /// A text before a change and after it, with its rows.
-    pub fn new(
-        old: OldLines<'a>,
-        olds: &'a Body,
-        new: &'a Lines,
-        news: &'a Body,
-    ) -> BothTexts<'a>
+    pub fn new(old: OldLines<'a>, olds: &'a Body, new: &'a Lines, news: &'a Body) -> BothTexts<'a>
         requires olds { AreLaid old olds.now }
         requires news { AreLaid new.now.lines news.now }
         ensures { result ≡ record { old = old.entry; olds = olds.now.elements; new = new.now.lines; news = news.now.elements } }

@@ -15,6 +15,7 @@ use spec_script::Run;
 
 /// What a fixed cell shows.
 const CONTINUED: &str = "(CONT'D)";
+
 const WHOLE: &[Run] = &[Run {
     from: 0,
     to: 8,
