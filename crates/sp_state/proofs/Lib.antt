@@ -4,5 +4,7 @@ mod HeadingMade
 mod PageRows
 mod SheetPlaces
 mod MadeLaws
+mod RaisedLaws
+mod CarriedLaws
 pub mod EntryLaws
 mod EditedScripts

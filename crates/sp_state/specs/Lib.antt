@@ -2,4 +2,5 @@ pub mod Numbered
 pub mod Entries
 pub mod Numbers
 pub mod Made
+pub mod Raised
 pub mod Places

@@ -2,11 +2,13 @@
 //! are undone and redone.
 #![tactic(auto)]
 
+mod carrying;
 mod editing;
 mod entry;
 mod headings;
 mod made;
 mod numbered;
+mod raising;
 mod script;
 mod stops;
 mod views;

@@ -11,7 +11,7 @@ use Rattle.spec_state.specs.StateSheets.{layout_in}
 use Rattle.sp_text.specs.Gap.{text_of}
 use Rattle.sp_layout.specs.Bodies.{shapes_in}
 use Rattle.sp_layout.specs.LaidOut.{LayoutOf}
-use Rattle.sp_state.proofs.made.make.Goals as goal
+use Rattle.sp_state.proofs.made.make_of.Goals as goal
 
 pub returns : goal.returns
 returns g c =
