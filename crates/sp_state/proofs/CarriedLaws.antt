@@ -1,6 +1,6 @@
 -- Page records that an edit carries and raises.
 use Rattle.std.proofs.Common.{◌≡◌, ◌≢◌, ℕ, zero, suc, ◌+◌, ◌<◌, ◌≤◌, Bool, true, false, cond, Option, Some, None, List, [], ◌∷◌, ◌++◌, length, map, take, drop, get_or, inl, inr, refl, sym, ap, ◌∙◌, subst, arith}
-use Rattle.std.specs.Prelude.{◌==◌, ◌||◌, IsTrue, All, IfSome, is_some, option_map, nat_lt}
+use Rattle.std.specs.Prelude.{◌==◌, ◌||◌, IsTrue, All, IfSome, is_some, option_map, nat_lt, not}
 use Rattle.std.specs.List.{list_any}
 use Rattle.std.proofs.lemmas.Bool.{eq-eqb, lt-ltb}
 use Rattle.std.proofs.lemmas.List.{length-map}
@@ -85,7 +85,7 @@ present-any : (lines : List LineState) (id : ℕ) → line_at lines id < length 
 present-any [] id inside = absurd (omega (arith, inside))
 present-any (line ∷ lines) id inside = by (present-any lines id) (line.id == id) inside
   where
-    by : (line_at lines id < length lines → list_any (λ (it : LineState). it.id == id) lines ≡ true) → (b : Bool) → cond b 0 (suc (line_at lines id)) < suc (length lines) → (b || list_any (λ (it : LineState). it.id == id) lines) ≡ true
+    by : (line_at lines id < length lines → list_any (λ (it : LineState). it.id == id) lines ≡ true) → (b : Bool) → cond (not b) (1 + line_at lines id) 0 < suc (length lines) → (b || list_any (λ (it : LineState). it.id == id) lines) ≡ true
     by rest true h = refl
     by rest false h = rest (omega (arith, h))
 
@@ -93,7 +93,7 @@ any-present : (lines : List LineState) (id : ℕ) → list_any (λ (line : LineS
 any-present [] id any = absurd (let bad : ⊥ = cc in bad)
 any-present (line ∷ lines) id any = by (any-present lines id) (line.id == id) any
   where
-    by : (list_any (λ (it : LineState). it.id == id) lines ≡ true → line_at lines id < length lines) → (b : Bool) → (b || list_any (λ (it : LineState). it.id == id) lines) ≡ true → cond b 0 (suc (line_at lines id)) < suc (length lines)
+    by : (list_any (λ (it : LineState). it.id == id) lines ≡ true → line_at lines id < length lines) → (b : Bool) → (b || list_any (λ (it : LineState). it.id == id) lines) ≡ true → cond (not b) (1 + line_at lines id) 0 < suc (length lines)
     by rest true h = omega arith
     by rest false h = let e = rest h in omega (arith, e)
 
@@ -140,9 +140,10 @@ can-carry lines gone first stands it anchored = by (it.line == end_line) refl
     by false is =
         let other : it.line ≢ end_line = λ e. (let t = eq-eqb it.line end_line e in let bad : ⊥ = cc in bad) in
         let any = any-exchanged (λ (line : LineState). line.id == it.line) lines first stands gone (present-any (exchanged lines first stands gone) it.line (anchored other)) in
+        let yes : IsTrue true = tt in
         subst IsTrue
         (sym (or-first (list_any (λ (line : LineState). line.id == it.line) lines) (is_present lines it.line) (list_any (λ (line : LineState). line.id == it.line) gone) any
-        (λ h. lt-ltb (line_at lines it.line) (length lines) (any-present lines it.line h)))) tt
+        (λ h. lt-ltb (line_at lines it.line) (length lines) (any-present lines it.line h)))) yes
 
 all-carry : (lines gone : List LineState) (first stands : ℕ) (state : State) (pages : Option (List PageRecordOf)) → state.lines ≡ exchanged lines first stands gone → IsWhole state → state.pages ≡ pages
     → IfSome pages (All (CanCarry lines gone))
