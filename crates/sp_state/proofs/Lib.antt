@@ -4,6 +4,8 @@ mod HeadingMade
 mod PageRows
 mod SheetPlaces
 mod MadeLaws
+mod RaisedLaws
+mod CarriedLaws
 pub mod EntryLaws
 mod EditedScripts
 mod OpeningMade

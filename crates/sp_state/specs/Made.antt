@@ -9,12 +9,13 @@ use Rattle.spec_labels.specs.Labels.{LabelOf}
 use Rattle.spec_labels.specs.PageRecords.{PageRecordOf, SheetOf, ArePageRecords, ArePages, AreStarts, record_starts, sheets_of_records}
 use Rattle.spec_state.specs.State.{State}
 use Rattle.sp_layout.specs.Bodies.{row_count, marks_in}
+use Rattle.sp_layout.specs.LaidOut.{LayoutOf, keyed}
 use Rattle.sp_state.specs.Numbered.{marked_sheets}
 use Rattle.spec_state.specs.Headings.{heading_labels}
 use Rattle.spec_state.specs.StateSheets.{layout_in, keys_in, title_starts, body_sheets}
 
--- Its stanzas, its elements laid out, the keys of its rows, the labels of its headings, the first rows of its title sheets, and its
--- other sheets.
+-- Its stanzas, its elements laid out, the keys of its body's rows, the labels of its headings, the first rows of its title
+-- sheets, and its other sheets.
 pub record MadeOf : Type 0 where
   pub stanzas : List StanzaOf
   pub titles : List ElementOf
@@ -33,6 +34,18 @@ pub record IsMadeOf (state : State) (it : MadeOf) : Type 0 where
   pub labels : it.labels ≡ heading_labels state.lines state.scenes
   pub title_starts : it.title_starts ≡ title_starts state
   pub sheets : it.sheets ≡ body_sheets state
+
+-- Its stanzas, its text laid out, and the labels of its headings.
+pub record LaidOf : Type 0 where
+  pub stanzas : List StanzaOf
+  pub layout : LayoutOf
+  pub labels : Option (List LabelOf)
+
+-- They are those of the state, and ask nothing of its page records.
+pub record IsLaidOf (state : State) (it : LaidOf) : Type 0 where
+  pub stanzas : it.stanzas ≡ stanzas_of (line_texts state.lines)
+  pub layout : it.layout ≡ keyed state.lines (layout_in state)
+  pub labels : it.labels ≡ heading_labels state.lines state.scenes
 
 -- The first rows of page records by the keys of all rows; none where pages aren't locked.
 abbrev pub key_starts : List LineState → List RowKey → Option (List PageRecordOf) → List ℕ

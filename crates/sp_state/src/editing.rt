@@ -1,5 +1,5 @@
 //! What is made of a state after a change of its parts; where there is no memory for it the change is taken back.
-ghost use Rattle.std.specs.Prelude.{◌≡◌, None, IfErr, IfOk, OnOk, OnErr};
+ghost use Rattle.std.specs.Prelude.{◌≡◌, IfErr, IfOk, OnOk, OnErr};
 ghost use Rattle.spec_text.specs.Edits.{refusal_of, replacement_of};
 ghost use Rattle.spec_text.specs.Ranges.{range_of};
 ghost use Rattle.spec_state.specs.Changes.{edited_state};
@@ -10,7 +10,7 @@ ghost use Rattle.sp_state.specs.Made.{IsMadeOf};
 ghost use Rattle.sp_state.specs.Entries.{CanRedo, CanUndo, HasRoom, IsRedone, IsSameEntry, IsUndone, LeadsBack, LeadsForth, done_range, redone_state, undone_range, undone_state};
 
 use crate::entry::{Entry, Unturned, edit_entry, redo_entry, undo_entry};
-use crate::made::{Made, make};
+use crate::made::{Made, make, make_of};
 use sp_kit::Steps;
 use sp_records::Records;
 use sp_text::{Edit, EditFault, Lines};
@@ -92,16 +92,17 @@ fn redo_in_room(lines: &mut Lines, records: &mut Records, entry: Entry) -> Entry
     }
 }
 
-/// Makes an edit where pages aren't locked, and makes all anew.
+/// Makes an edit, and makes all anew. `before` is what was made of the state before it.
 pub(crate) fn edit_made<S: Steps>(
     alloc: Global,
     lines: &mut Lines,
     records: &mut Records,
+    before: &Made,
     edit: Edit,
     steps: &mut S,
 ) -> Result<(Entry, Made), EditFault>
-    requires unlocked { records.old.pages ≡ None }
     requires whole { IsWhole (state_of (text_of lines.old) records.old) }
+    requires before { IsMadeOf (state_of (text_of lines.old) records.old) before.now }
     ensures refuses { Refuses (refusal_of (text_of lines.old) (edit_of edit)) result }
     ensures state { OnOk result (state_of (text_of lines.new) records.new ≡ edited_state (state_of (text_of lines.old) records.old) (replacement_of lines.old.lines (edit_of edit))) }
     ensures whole { OnOk result (IsWhole (state_of (text_of lines.new) records.new)) }
@@ -110,8 +111,8 @@ pub(crate) fn edit_made<S: Steps>(
     ensures made { IfOk result (λ it. IsMadeOf (state_of (text_of lines.new) records.new) it.1) }
     ensures same { OnErr result (state_of (text_of lines.new) records.new ≡ state_of (text_of lines.old) records.old) }
 {
-    let entry = edit_entry(alloc, lines, records, edit)?;
-    match make(alloc, lines, records, steps) {
+    let (entry, laid) = edit_entry(alloc, lines, records, &before.body, edit, steps)?;
+    match make_of(alloc, lines, records, laid, steps) {
         Ok(made) => Ok((entry, made)),
         Err(_) => {
             let _other = undo_in_room(lines, records, entry);

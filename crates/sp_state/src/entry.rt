@@ -1,13 +1,21 @@
 //! What an edit displaced.
-ghost use Rattle.std.specs.Prelude.{◌≡◌, ◌≤◌, None, IfOk, IfErr, IsOk, OnOk, OnErr};
-ghost use Rattle.spec_text.specs.Edits.{refusal_of, replacement_of};
+ghost use Rattle.std.specs.Prelude.{◌≡◌, ◌+◌, ◌-◌, ◌≤◌, IfOk, IfErr, IsOk, OnOk, OnErr, length};
+ghost use Rattle.spec_text.specs.Edits.{refusal_of, replacement_of, restored};
+ghost use Rattle.spec_text.specs.Lines.{IsText};
 ghost use Rattle.spec_text.specs.Ranges.{range_of};
 ghost use Rattle.spec_state.specs.Changes.{edited_state};
 ghost use Rattle.spec_state.specs.Keeping.{IsWhole, state_of};
+ghost use Rattle.spec_state.specs.StateSheets.{keys_in, layout_in};
 ghost use Rattle.sp_text.specs.Changing.{Refuses, edit_of};
+ghost use Rattle.sp_text.specs.DisplacedLines.{displaced_of};
 ghost use Rattle.sp_text.specs.Gap.{text_of};
 ghost use Rattle.sp_state.specs.Entries.{CanUndo, CanRedo, HasRoom, IsRedone, IsUndone, LeadsBack, LeadsForth, undone_state, redone_state, undone_range, done_range};
+ghost use Rattle.sp_state.specs.Made.{IsLaidOf};
 
+use crate::carrying::{Turned, carry_and_raise};
+use crate::made::{Laid, record_starts};
+use sp_kit::Steps;
+use sp_layout::Body;
 use sp_locks::put_back;
 use sp_records::Records;
 use sp_text::{Displaced, Edit, EditFault, Lines, Unrestored};
@@ -37,31 +45,69 @@ pub struct Unturned {
     pub back: Entry,
 }
 
-/// Makes an edit where pages aren't locked, and answers the entry that undoes it. A refused edit changes nothing.
-pub(crate) fn edit_entry(
+/// Puts displaced lines back where there is room.
+fn restore_in_room(lines: &mut Lines, back: Displaced)
+    requires place { back.first + back.stands ≤ length lines.old.lines }
+    requires keeps { IsText (restored (text_of lines.old) (displaced_of back)) }
+    requires room { length lines.old.lines - back.stands + length back.lines ≤ lines.old.room }
+    requires back_room { back.stands ≤ back.room }
+    ensures { text_of lines.new ≡ restored (text_of lines.old) (displaced_of back) }
+{
+    match lines.restore(back) {
+        Ok(_) => {}
+        Err(_) => unreachable!(),
+    }
+}
+
+/// Makes an edit, and answers the entry that undoes it, and the text laid out after it. `olds` are the rows of the body
+/// before it. A refused edit changes nothing.
+pub(crate) fn edit_entry<S: Steps>(
     alloc: Global,
     lines: &mut Lines,
-    records: &Records,
+    records: &mut Records,
+    olds: &Body,
     edit: Edit,
-) -> Result<Entry, EditFault>
-    requires unlocked { records.now.pages ≡ None }
-    requires whole { IsWhole (state_of (text_of lines.old) records.now) }
+    steps: &mut S,
+) -> Result<(Entry, Laid), EditFault>
+    requires whole { IsWhole (state_of (text_of lines.old) records.old) }
+    requires olds { olds.now.elements ≡ (layout_in (state_of (text_of lines.old) records.old)).body }
+    requires keys { olds.now.keys ≡ keys_in (state_of (text_of lines.old) records.old) }
     ensures refuses { Refuses (refusal_of (text_of lines.old) (edit_of edit)) result }
-    ensures state { OnOk result (state_of (text_of lines.new) records.now ≡ edited_state (state_of (text_of lines.old) records.now) (replacement_of lines.old.lines (edit_of edit))) }
-    ensures whole { OnOk result (IsWhole (state_of (text_of lines.new) records.now)) }
-    ensures back { IfOk result (LeadsBack (state_of (text_of lines.old) records.now) (state_of (text_of lines.new) records.now)) }
-    ensures range { IfOk result (λ it. done_range it ≡ range_of (replacement_of lines.old.lines (edit_of edit))) }
-    ensures room { IfOk result (HasRoom lines.new) }
-    ensures same { OnErr result (text_of lines.new ≡ text_of lines.old) }
+    ensures state { OnOk result (state_of (text_of lines.new) records.new ≡ edited_state (state_of (text_of lines.old) records.old) (replacement_of lines.old.lines (edit_of edit))) }
+    ensures whole { OnOk result (IsWhole (state_of (text_of lines.new) records.new)) }
+    ensures back { IfOk result (λ it. LeadsBack (state_of (text_of lines.old) records.old) (state_of (text_of lines.new) records.new) it.0) }
+    ensures range { IfOk result (λ it. done_range it.0 ≡ range_of (replacement_of lines.old.lines (edit_of edit))) }
+    ensures room { IfOk result (λ it. HasRoom lines.new it.0) }
+    ensures laid { IfOk result (λ it. IsLaidOf (state_of (text_of lines.new) records.new) it.1) }
+    ensures same { OnErr result (state_of (text_of lines.new) records.new ≡ state_of (text_of lines.old) records.old) }
 {
     let _count = lines.len();
+    let before = match record_starts(alloc, lines, olds.keys(), &records.pages) {
+        Ok(before) => before,
+        Err(_) => return Err(EditFault::NoMemory),
+    };
     let displaced = lines.change(edit, records.round)?;
     let _changed = lines.len();
-    Ok(Entry {
-        lines: displaced,
-        moved: Vec::new(alloc),
-        raised: Vec::new(alloc),
-    })
+    match carry_and_raise(alloc, lines, &displaced, records, &before, olds, steps) {
+        Ok(
+            Turned {
+                laid,
+                moved,
+                raised,
+            },
+        ) => Ok((
+            Entry {
+                lines: displaced,
+                moved,
+                raised,
+            },
+            laid,
+        )),
+        Err(_) => {
+            restore_in_room(lines, displaced);
+            Err(EditFault::NoMemory)
+        }
+    }
 }
 
 /// Undoes an edit by its entry, and answers the entry that does it again. It takes memory only where the lines or the

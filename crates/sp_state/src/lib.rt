@@ -2,6 +2,7 @@
 //! are undone and redone.
 #![tactic(auto)]
 
+mod carrying;
 mod editing;
 mod entry;
 mod fault;
@@ -9,6 +10,7 @@ mod headings;
 mod locking;
 mod made;
 mod numbered;
+mod raising;
 mod script;
 mod stops;
 mod views;

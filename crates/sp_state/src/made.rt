@@ -10,7 +10,7 @@ ghost use Rattle.spec_state.specs.Keeping.{IsWhole, state_of};
 ghost use Rattle.sp_text.specs.Gap.{text_of};
 ghost use Rattle.sp_layout.specs.Bodies.{row_count, shapes_in};
 ghost use Rattle.sp_layout.specs.LaidOut.{keyed};
-ghost use Rattle.sp_state.specs.Made.{AskedOfPages, IsMadeOf, key_starts, marked_or_locked};
+ghost use Rattle.sp_state.specs.Made.{AskedOfPages, IsLaidOf, IsMadeOf, key_starts, marked_or_locked};
 
 use crate::headings::{headings_among, scene_labels};
 use crate::numbered::marked_sheets;
@@ -112,7 +112,7 @@ fn body_pages<S: Steps>(
 }
 
 /// The first rows of page records; none where pages aren't locked.
-fn record_starts(
+pub(crate) fn record_starts(
     alloc: Global,
     lines: &Lines,
     keys: &[RowKey],
@@ -162,19 +162,60 @@ fn made_sheets<S: Steps>(
     sheets_of_pages(alloc, body, &records.pages, &firsts, pages.starts())
 }
 
-/// What is made of a state. Each stanza is read once, and each page of the body filled once. `AllocError` comes for want
-/// of memory alone.
-pub fn make<S: Steps>(
+/// The stanzas of a state, its elements laid out, and the labels of its headings where scenes are locked.
+#[derive(Drop)]
+pub(crate) struct Laid {
+    pub stanzas: Stanzas,
+    pub layout: Layout,
+    pub labels: Option<Vec<Label>>,
+}
+
+impl Model for Laid {
+    ghost use Rattle.std.specs.Prelude.{option_map};
+    ghost use Rattle.sp_state.specs.Made.{LaidOf};
+
+    ghost Value = { LaidOf };
+
+    ghost view = { λ l. record { stanzas = l.stanzas.stanzas; layout = l.layout; labels = option_map (λ those. those.items) l.labels } };
+}
+
+/// The text of a state laid out. Each stanza is read once. `AllocError` comes for want of memory alone.
+pub(crate) fn lay<S: Steps>(
     alloc: Global,
     lines: &Lines,
     records: &Records,
     steps: &mut S,
-) -> Result<Made, AllocError>
+) -> Result<Laid, AllocError>
     requires { IsWhole (state_of (text_of lines.now) records.now) }
-    ensures { IfOk result (IsMadeOf (state_of (text_of lines.now) records.now)) }
+    ensures { IfOk result (IsLaidOf (state_of (text_of lines.now) records.now)) }
 {
     let stanzas = Stanzas::new(alloc, lines, steps)?;
     let (layout, labels) = laid_text(alloc, lines, &stanzas, records)?;
+    Ok(Laid {
+        stanzas,
+        layout,
+        labels,
+    })
+}
+
+/// What is made of a state whose text is laid out. Each page of the body is filled once. `AllocError` comes for want of
+/// memory alone.
+pub(crate) fn make_of<S: Steps>(
+    alloc: Global,
+    lines: &Lines,
+    records: &Records,
+    laid: Laid,
+    steps: &mut S,
+) -> Result<Made, AllocError>
+    requires whole { IsWhole (state_of (text_of lines.now) records.now) }
+    requires laid { IsLaidOf (state_of (text_of lines.now) records.now) laid }
+    ensures { IfOk result (IsMadeOf (state_of (text_of lines.now) records.now)) }
+{
+    let Laid {
+        stanzas,
+        layout,
+        labels,
+    } = laid;
     let title_pages = title_pages(alloc, &layout.titles, records.paper)?;
     let sheets = made_sheets(alloc, lines, records, &layout, steps)?;
     let Layout { titles, body, .. } = layout;
@@ -186,4 +227,19 @@ pub fn make<S: Steps>(
         title_pages,
         sheets,
     })
+}
+
+/// What is made of a state. Each stanza is read once, and each page of the body filled once. `AllocError` comes for want
+/// of memory alone.
+pub fn make<S: Steps>(
+    alloc: Global,
+    lines: &Lines,
+    records: &Records,
+    steps: &mut S,
+) -> Result<Made, AllocError>
+    requires { IsWhole (state_of (text_of lines.now) records.now) }
+    ensures { IfOk result (IsMadeOf (state_of (text_of lines.now) records.now)) }
+{
+    let laid = lay(alloc, lines, records, steps)?;
+    make_of(alloc, lines, records, laid, steps)
 }

@@ -1,5 +1,5 @@
 //! A state and its sheets.
-ghost use Rattle.std.specs.Prelude.{◌≡◌, ◌≤◌, [], None, Some, length, slice_get, IfErr, IfSome, IfNone, IfOk, OnOk, OnErr};
+ghost use Rattle.std.specs.Prelude.{◌≡◌, ◌≤◌, [], Some, length, slice_get, IfErr, IfSome, IfNone, IfOk, OnOk, OnErr};
 ghost use Rattle.spec_text.specs.Lines.{line_texts, read_lines};
 ghost use Rattle.spec_text.specs.Edits.{refusal_of, replacement_of};
 ghost use Rattle.spec_text.specs.Ranges.{range_of};
@@ -136,15 +136,15 @@ impl Script {
         made_sheet(&self.lines, &self.made, i - count)
     }
 
-    /// Makes an edit where pages aren't locked, and answers the entry that undoes it. All is made anew. On a fault nothing
-    /// is changed; NoMemory may come in place of any answer, and the others come as docs/RULES.md says in "Edits".
+    /// Makes an edit, and answers the entry that undoes it. All is made anew. Where pages are locked their records are
+    /// carried, and those whose rows differ get the round (docs/RULES.md, "Edits and records"). On a fault nothing is
+    /// changed; NoMemory may come in place of any answer, and the others come as docs/RULES.md says in "Edits".
     pub fn edit<S: Steps>(
         &mut self,
         alloc: Global,
         edit: Edit,
         steps: &mut S,
     ) -> Result<Entry, EditFault>
-        requires unlocked { self.old.pages ≡ None }
         ensures whole { IsWhole self.old }
         ensures refuses { Refuses (refusal_of (state_text self.old) (edit_of edit)) result }
         ensures state { OnOk result (self.new ≡ edited_state self.old (replacement_of self.old.lines (edit_of edit))) }
@@ -152,7 +152,14 @@ impl Script {
         ensures range { IfOk result (λ it. done_range it ≡ range_of (replacement_of self.old.lines (edit_of edit))) }
         ensures same { OnErr result (self.new ≡ self.old) }
     {
-        let (entry, made) = edit_made(alloc, &mut self.lines, &mut self.records, edit, steps)?;
+        let (entry, made) = edit_made(
+            alloc,
+            &mut self.lines,
+            &mut self.records,
+            &self.made,
+            edit,
+            steps,
+        )?;
         self.made = made;
         Ok(entry)
     }

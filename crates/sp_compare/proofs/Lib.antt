@@ -1,0 +1,4 @@
+pub mod Exchanged
+pub mod CellLists
+pub mod RowLists
+pub mod RowPlaces

@@ -1,0 +1,85 @@
+-- Rows, compared one by one.
+use Rattle.std.proofs.Common.{◌≡◌, ◌≢◌, ℕ, zero, suc, ◌+◌, ◌-◌, ◌<◌, ◌≤◌, Bool, true, false, Option, List, [], ◌∷◌, ◌++◌, length, map, take, drop, get_or, refl, sym, ap, ap₂, ◌∙◌, arith, length-drop}
+use Rattle.std.specs.Prelude.{◌&&◌, All, slice_range}
+use Rattle.std.proofs.lemmas.List.{drop_more, length-map, length-take, map-append}
+use Rattle.spec_text.specs.Lines.{LineState, line_texts}
+use Rattle.spec_pages.specs.Rows.{Row, ElementOf, placed_rows}
+use Rattle.spec_labels.specs.Labels.{LabelOf}
+use Rattle.spec_layout.specs.Cells.{ShownCell}
+use Rattle.spec_layout.specs.Layout.{placed_in}
+use Rattle.spec_layout.specs.Shown.{Shown, element_cue, heading_label, labels_behind, shown_of, shown_rows}
+use Rattle.spec_state.specs.SameRows.{BareRow, bare_of, same_list, same_row}
+use Rattle.sp_compare.specs.BareRows.{bare_row, bare_rows}
+
+-- ---- rows, as an edit sees them
+
+own-bare : (lines : List LineState) (cue : List ShownCell) (label : Option LabelOf) (rows : List Row) → map bare_of (map (shown_of lines cue label) rows) ≡ map (bare_row lines) rows
+own-bare lines cue label [] = refl
+own-bare lines cue label (row ∷ rows) = ap (λ (those : List BareRow). bare_row lines row ∷ those) (own-bare lines cue label rows)
+
+-- Labels don't matter.
+pub shown-bare : (lines : List LineState) (labels : Option (List LabelOf)) (elements : List ElementOf) → map bare_of (shown_rows lines labels elements) ≡ map (bare_row lines) (placed_in elements)
+shown-bare lines labels [] = refl
+shown-bare lines labels (element ∷ elements) =
+    let label = heading_label labels element in
+    let rows = placed_rows element in
+    let cue = element_cue (line_texts lines) rows in
+    map-append bare_of (map (shown_of lines cue label) rows) (shown_rows lines (labels_behind labels element) elements)
+    ∙ ap₂ (λ (xs ys : List BareRow). xs ++ ys) (own-bare lines cue label rows) (shown-bare lines (labels_behind labels element) elements)
+    ∙ sym (map-append (bare_row lines) rows (placed_in elements))
+
+map-take : {X Y : Type 0} (f : X → Y) (n : ℕ) (xs : List X) → map f (take n xs) ≡ take n (map f xs)
+map-take f zero xs = refl
+map-take f (suc n) [] = refl
+map-take {Y = Y} f (suc n) (x ∷ xs) = ap (λ (ys : List Y). f x ∷ ys) (map-take f n xs)
+
+map-drop : {X Y : Type 0} (f : X → Y) (n : ℕ) (xs : List X) → map f (drop n xs) ≡ drop n (map f xs)
+map-drop f zero xs = refl
+map-drop f (suc n) [] = refl
+map-drop f (suc n) (x ∷ xs) = map-drop f n xs
+
+pub map-slice : {X Y : Type 0} (f : X → Y) (xs : List X) (from to : ℕ) → map f (slice_range xs from to) ≡ slice_range (map f xs) from to
+map-slice f xs from to = map-take f (to - from) (drop from xs) ∙ ap (take (to - from)) (map-drop f from xs)
+
+pub slice-bare : (lines : List LineState) (labels : Option (List LabelOf)) (elements : List ElementOf) (from to : ℕ)
+    → map bare_of (slice_range (shown_rows lines labels elements) from to) ≡ bare_rows lines elements from to
+slice-bare lines labels elements from to =
+    map-slice bare_of (shown_rows lines labels elements) from to
+    ∙ ap (λ (rows : List BareRow). slice_range rows from to) (shown-bare lines labels elements)
+    ∙ sym (map-slice (bare_row lines) (placed_in elements) from to)
+
+-- ---- one by one
+
+pub list-differ : (xs ys : List BareRow) → length xs ≢ length ys → same_list xs ys ≡ false
+list-differ [] [] ne = absurd (ne refl)
+list-differ [] (y ∷ ys) ne = refl
+list-differ (x ∷ xs) [] ne = refl
+list-differ (x ∷ xs) (y ∷ ys) ne = ap (λ b. same_row x y && b) (list-differ xs ys (λ e. ne (ap suc e))) ∙ and-false (same_row x y)
+  where
+    and-false : (b : Bool) → (b && false) ≡ false
+    and-false true = refl
+    and-false false = refl
+
+slice-size : {X : Type 0} (xs : List X) (from to : ℕ) → from ≤ to → to ≤ length xs → length (slice_range xs from to) ≡ to - from
+slice-size xs from to order within =
+    let a = length-take (to - from) (drop from xs) in
+    let b = length-drop from xs in
+    omega (arith, a, b, order, within)
+
+pub length-bare : (lines : List LineState) (elements : List ElementOf) (from to : ℕ) → from ≤ to → to ≤ length (placed_in elements) → length (bare_rows lines elements from to) ≡ to - from
+length-bare lines elements from to order within =
+    length-map (slice_range (placed_in elements) from to) (bare_row lines) ∙ slice-size (placed_in elements) from to order within
+
+slice-more : {X : Type 0} (xs : List X) (from to : ℕ) (d : X) → from < to → to ≤ length xs → slice_range xs from to ≡ get_or xs from d ∷ slice_range xs (from + 1) to
+slice-more {X = X} xs from to d order within =
+    let e : to - from ≡ suc (to - (from + 1)) = omega (arith, order) in
+    ap (λ n. take n (drop from xs)) e ∙ ap (take (suc (to - (from + 1)))) (drop_more xs from d (omega (arith, order, within)))
+
+pub slice-none : {X : Type 0} (xs : List X) (from to : ℕ) → to ≤ from → slice_range xs from to ≡ []
+slice-none xs from to past = let e : to - from ≡ 0 = omega (arith, past) in ap (λ n. take n (drop from xs)) e
+
+pub rows-step : (old new : List LineState) (olds news : List ElementOf) (from to start end : ℕ) (d : Row) → from < to → to ≤ length (placed_in olds) → start < end → end ≤ length (placed_in news)
+    → same_list (bare_rows old olds from to) (bare_rows new news start end)
+    ≡ (same_row (bare_row old (get_or (placed_in olds) from d)) (bare_row new (get_or (placed_in news) start d)) && same_list (bare_rows old olds (from + 1) to) (bare_rows new news (start + 1) end))
+rows-step old new olds news from to start end d order within order' within' =
+    ap₂ (λ (xs ys : List Row). same_list (map (bare_row old) xs) (map (bare_row new) ys)) (slice-more (placed_in olds) from to d order within) (slice-more (placed_in news) start end d order' within')

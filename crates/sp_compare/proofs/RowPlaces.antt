@@ -1,0 +1,35 @@
+-- A row of elements, by the element that it stands in.
+use Rattle.std.proofs.Common.{◌≡◌, ℕ, ◌+◌, ◌-◌, ◌<◌, ◌≤◌, List, [], ◌∷◌, ◌++◌, length, take, get_or, append_assoc, append-nil, refl, sym, ap, subst, ◌∙◌, arith, length-append}
+use Rattle.std.proofs.lemmas.List.{get_or-map, length-map, take_more}
+use Rattle.std.proofs.lemmas.List.Concat.{get_or-flat_map}
+use Rattle.spec_pages.specs.Rows.{Row, ElementOf, placed_rows, shifted_row}
+use Rattle.spec_layout.specs.Layout.{placed_in}
+use Rattle.sp_layout.specs.Bodies.{StandsIn, row_count}
+
+placed_in-append : (elements others : List ElementOf) → placed_in (elements ++ others) ≡ placed_in elements ++ placed_in others
+placed_in-append [] others = refl
+placed_in-append (element ∷ elements) others =
+    ap (λ (rows : List Row). placed_rows element ++ rows) (placed_in-append elements others) ∙ sym (append_assoc (placed_rows element) (placed_in elements) (placed_in others))
+
+placed_in-push : (elements : List ElementOf) (element : ElementOf) → placed_in (elements ++ element ∷ []) ≡ placed_in elements ++ placed_rows element
+placed_in-push elements element = placed_in-append elements (element ∷ []) ∙ ap (λ (rows : List Row). placed_in elements ++ rows) (append-nil (placed_rows element))
+
+pub row-there : (elements : List ElementOf) (row place start : ℕ) (element : ElementOf) (it d : Row) → StandsIn elements row place → start ≡ row_count (take place elements)
+    → element ≡ get_or elements place element → it ≡ get_or element.rows (row - start) it → get_or (placed_in elements) row d ≡ shifted_row element.first it
+row-there elements row place start element it d stands begin is own =
+    let inside = stands.inside in
+    let from = stands.from in
+    let to = stands.to in
+    let more : row_count (take (place + 1) elements) ≡ length (placed_in (take place elements) ++ placed_rows element) =
+    ap row_count (take_more elements place element inside ∙ ap (λ (e : ElementOf). take place elements ++ e ∷ []) (sym is)) ∙ ap length (placed_in-push (take place elements) element) in
+    let both = length-append (placed_in (take place elements)) (placed_rows element) in
+    let size = length-map element.rows (shifted_row element.first) in
+    let low : row - start < length element.rows = omega (arith, begin, from, to, more, both, size) in
+    let here : row - start < length (placed_rows (get_or elements place element)) =
+    subst (λ (e : ElementOf). row - start < length (placed_rows e)) is (omega (arith, low, size)) in
+    let at : row ≡ row_count (take place elements) + (row - start) = omega (arith, begin, from) in
+    ap (λ n. get_or (placed_in elements) n d) at
+    ∙ get_or-flat_map placed_rows elements place (row - start) element d inside here
+    ∙ ap (λ (e : ElementOf). get_or (placed_rows e) (row - start) d) (sym is)
+    ∙ get_or-map (shifted_row element.first) element.rows (row - start) it d low
+    ∙ ap (shifted_row element.first) (sym own)

@@ -1,0 +1,24 @@
+use Rattle.std.proofs.Common.{◌≡◌, ◌+◌, ◌-◌, ℕ, List, length, ne_eqb, ap, ap₂, sym, ◌∙◌, arith}
+use Rattle.spec_layout.specs.Layout.{placed_in}
+use Rattle.spec_state.specs.SameRows.{BareRow, same_list}
+use Rattle.sp_compare.specs.BareRows.{bare_rows}
+use Rattle.sp_compare.proofs.RowLists.{length-bare, list-differ, slice-bare}
+use Rattle.sp_compare.proofs.both.BothTexts.same_rows.Goals as goal
+
+pub returns-then-to-from : goal.returns-then-to-from
+returns-then-to-from c = λ olds news.
+    let it = c.args.self.now in
+    let to : c.args.from + (c.args.to - c.args.from) ≡ c.args.to = omega (arith, c.requires.old) in
+    let end : c.args.start + (c.args.to - c.args.from) ≡ c.args.end = omega (arith, c.if-to-from.true, c.requires.new) in
+    c.same_run.ensures
+    ∙ ap₂ (λ (n m : ℕ). same_list (bare_rows it.old it.olds c.args.from n) (bare_rows it.new it.news c.args.start m)) to end
+    ∙ sym (ap₂ same_list (slice-bare it.old olds it.olds c.args.from c.args.to) (slice-bare it.new news it.news c.args.start c.args.end))
+
+pub returns-else-to-from : goal.returns-else-to-from
+returns-else-to-from c = λ olds news.
+    let it = c.args.self.now in
+    let one = length-bare it.old it.olds c.args.from c.args.to c.requires.old c.requires.old_within in
+    let other = length-bare it.new it.news c.args.start c.args.end c.requires.new c.requires.new_within in
+    ne_eqb (c.args.to - c.args.from) (c.args.end - c.args.start) c.if-to-from.false
+    ∙ sym (list-differ (bare_rows it.old it.olds c.args.from c.args.to) (bare_rows it.new it.news c.args.start c.args.end) (λ e. c.if-to-from.false (sym one ∙ e ∙ other)))
+    ∙ sym (ap₂ same_list (slice-bare it.old olds it.olds c.args.from c.args.to) (slice-bare it.new news it.news c.args.start c.args.end))

@@ -1,0 +1,11 @@
+//! Rows of a text before and after a change of its lines: whether they are the same to an edit (docs/RULES.md, "Edits and
+//! records").
+#![tactic(auto)]
+
+mod both;
+mod cells;
+mod old_lines;
+mod shapes;
+
+pub use both::BothTexts;
+pub use old_lines::OldLines;

@@ -1,0 +1,62 @@
+-- Page records in an edit, by the text after it and what it displaced (docs/RULES.md, "Edits and records").
+use Rattle.std.specs.Prelude.{◌≡◌, ℕ, ◌+◌, ◌≤◌, ◌==◌, ◌||◌, IsTrue, false, if◌then◌else◌, List, [], ◌∷◌, length, All, AllPairs, Option, Some, None, option_map, IfSome}
+use Rattle.std.specs.List.{list_any}
+use Rattle.spec_text.specs.Lines.{LineState, TextState}
+use Rattle.spec_text.specs.Edits.{Displacement, restored}
+use Rattle.spec_labels.specs.declared.Moved.{Moved}
+use Rattle.spec_labels.specs.PageRecords.{PageRecordOf, carried_records, end_line, is_present, moved_of, put_back_records}
+use Rattle.spec_layout.specs.Shown.{Shown}
+use Rattle.spec_records.specs.Kept.{RecordsOf}
+use Rattle.spec_state.specs.State.{State}
+use Rattle.spec_state.specs.Keeping.{state_of}
+use Rattle.spec_state.specs.SameRows.{same_rows}
+use Rattle.spec_state.specs.Changes.{pages_raised, raised, rows_by_record}
+use Rattle.sp_state.specs.Entries.{FitRecords}
+
+-- Records with other page records, and with what was kept for these put back.
+abbrev pub with_pages : RecordsOf → Option (List PageRecordOf) → RecordsOf
+with_pages records pages = record records { pages = pages }
+
+abbrev pub put_back_in : List Moved → RecordsOf → RecordsOf
+put_back_in moved records = with_pages records (option_map (put_back_records moved) records.pages)
+
+abbrev pub FitPages : RecordsOf → List Moved → Type 0
+FitPages records moved = IfSome records.pages (FitRecords moved)
+
+-- The state before the edit.
+abbrev pub state_before : TextState → Displacement → RecordsOf → State
+state_before text back records = state_of (restored text back) records
+
+-- The records carried, and those whose rows differ raised.
+abbrev pub records_carried : TextState → Displacement → RecordsOf → RecordsOf
+records_carried text back records = with_pages records (option_map (carried_records text.lines (back.first + back.stands)) records.pages)
+
+abbrev pub records_raised : TextState → Displacement → RecordsOf → RecordsOf
+records_raised text back records =
+    with_pages records (pages_raised (state_before text back records) (state_of text (records_carried text back records)) records.pages (records_carried text back records).pages)
+
+-- A record's line is in the text, is the end, or is displaced.
+abbrev pub CanCarry : List LineState → List LineState → PageRecordOf → Type 0
+CanCarry lines displaced it = IsTrue ((it.line == end_line) || is_present lines it.line || list_any (λ (line : LineState). line.id == it.line) displaced)
+
+abbrev pub AreCarried : List LineState → List LineState → RecordsOf → Type 0
+AreCarried lines displaced records = IfSome records.pages (All (CanCarry lines displaced))
+
+-- Starts of so many segments in so many rows.
+pub record AreSegments (rows count : ℕ) (starts : List ℕ) : Type 0 where
+  pub many : length starts ≡ count
+  pub order : AllPairs (λ (one other : ℕ). one ≤ other) starts
+  pub within : All (λ (start : ℕ). start ≤ rows) starts
+
+-- The rounds that records get whose rows differ, where so many records stand before these.
+abbrev pub raises : ℕ → ℕ → List (List Shown) → List (List Shown) → List PageRecordOf → List Moved
+raises round index [] news records = []
+raises round index (old ∷ olds) [] records = []
+raises round index (old ∷ olds) (new ∷ news) [] = []
+raises round index (old ∷ olds) (new ∷ news) (it ∷ records) =
+    if same_rows old new then raises round (index + 1) olds news records else moved_of index (raised round false it) ∷ raises round (index + 1) olds news records
+
+-- Those that the page records of a state get, whose rows were these before.
+abbrev pub raises_in : List (List Shown) → State → Option (List PageRecordOf) → List Moved
+raises_in olds state None = []
+raises_in olds state (Some records) = raises state.round 0 olds (rows_by_record state records) records

@@ -1,0 +1,64 @@
+//! The page records whose rows an edit changed.
+ghost use Rattle.std.specs.Prelude.{◌≡◌, ◌+◌, ◌<◌, Option, List, IfOk, length, slice_index, slice_index_or, slice_range};
+ghost use Rattle.spec_labels.specs.Labels.{LabelOf};
+ghost use Rattle.spec_layout.specs.Shown.{shown_rows};
+ghost use Rattle.spec_state.specs.Changes.{segment_rows};
+ghost use Rattle.spec_state.specs.SameRows.{same_rows};
+ghost use Rattle.sp_layout.specs.Bodies.{row_count};
+ghost use Rattle.sp_state.specs.Raised.{AreSegments, raises};
+
+use sp_compare::BothTexts;
+use sp_locks::PageRecord;
+use spec_labels::Moved;
+use std::alloc::{AllocError, Global};
+
+/// The row behind the segment at a place: the start of the next one, or the number of rows.
+fn segment_end(starts: &[usize], place: usize, rows: usize) -> usize
+    requires { place < length starts.now }
+    ensures { result ≡ slice_index_or starts.now (place + 1) rows }
+{
+    if place + 1 < starts.len() {
+        starts[place + 1]
+    } else {
+        rows
+    }
+}
+
+/// Whether a segment's rows before a change are the same as after it.
+fn same_segment(texts: &BothTexts<'_>, before: &[usize], after: &[usize], place: usize) -> bool
+    requires before { AreSegments (row_count texts.now.olds) (length before.now) before.now }
+    requires after { AreSegments (row_count texts.now.news) (length before.now) after.now }
+    requires inside { place < length before.now }
+    ensures { (olds news : Option (List LabelOf)) → result ≡ same_rows (slice_range (shown_rows texts.now.old olds texts.now.olds) (slice_index before.now place) (slice_index_or before.now (place + 1) (row_count texts.now.olds))) (slice_range (shown_rows texts.now.new news texts.now.news) (slice_index after.now place) (slice_index_or after.now (place + 1) (row_count texts.now.news))) }
+{
+    let to = segment_end(before, place, texts.rows_before());
+    let end = segment_end(after, place, texts.rows_after());
+    texts.same_rows(before[place], to, after[place], end)
+}
+
+/// The rounds that the records get whose rows a change made others. Each row is looked at once.
+pub(crate) fn raises(
+    alloc: Global,
+    texts: &BothTexts<'_>,
+    before: &[usize],
+    after: &[usize],
+    records: &[PageRecord],
+    round: u8,
+) -> Result<Vec<Moved>, AllocError>
+    requires before { AreSegments (row_count texts.now.olds) (length records.now) before.now }
+    requires after { AreSegments (row_count texts.now.news) (length records.now) after.now }
+    ensures { IfOk result (λ moved. (olds news : Option (List LabelOf)) → moved.items ≡ raises round 0 (segment_rows (shown_rows texts.now.old olds texts.now.olds) before.now) (segment_rows (shown_rows texts.now.new news texts.now.news) after.now) records.now) }
+{
+    let mut moved = Vec::new(alloc);
+    for (index, record) in records.iter().enumerate() {
+        if !same_segment(texts, before, after, index) {
+            moved.push(Moved {
+                index: index as u64,
+                line: record.line,
+                row: record.row,
+                changed: round,
+            })?;
+        }
+    }
+    Ok(moved)
+}
