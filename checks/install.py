@@ -12,7 +12,9 @@ from report import tell
 TOP = pathlib.Path(__file__).resolve().parent.parent
 PROGRAM = TOP / "crates/fountain_cli/out/fountain_cli"
 SCRIPT = TOP / "examples/the-lighthouse.fountain"
-PLACES = ("bin/fountain", "share/man/man1/fountain.1", "share/bash-completion/completions/fountain", "share/doc/fountain/GUIDE.md")
+PLACES = {
+    "bin/fountain", "share/man/man1/fountain.1", "share/bash-completion/completions/fountain", "share/doc/fountain/GUIDE.md",
+}
 
 
 def call(*words, **how):

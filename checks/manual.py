@@ -46,8 +46,8 @@ def told(words):
 def faults():
     rules, page = (TOP / "docs/RULES.md").read_text(), PAGE.read_text()
     forms = re.search(r"fountain: usage: (.*?)`", rules)[1].split(", ")
-    synopsis = [" ".join(it.replace("\n.RI", "").replace("\n.I", "").split()) for it in part(page, "SYNOPSIS", ".SH").split(".br")]
-    synopsis = [it.removeprefix(".B fountain ").replace("[ FILE ]", "[FILE]") for it in synopsis]
+    synopsis = re.sub(r"\n\.R?I", "", part(page, "SYNOPSIS", ".SH")).replace("[ FILE ]", "[FILE]").split(".br")
+    synopsis = [" ".join(it.split()).removeprefix(".B fountain ") for it in synopsis]
     yield from differences("the form", forms, synopsis)
     heads = [plain(it) for it in re.findall(r"^\.TP\n(.*)", part(page, "COMMANDS", ".SH"), re.M)]
     yield from differences("a paragraph on", forms, heads)

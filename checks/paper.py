@@ -12,10 +12,13 @@ from report import tell
 TOP = pathlib.Path(__file__).resolve().parent.parent
 PROGRAM = TOP / "crates/fountain_cli/out/fountain_cli"
 MAKER = TOP / "examples/print-to-pdf"
-PACKAGES = {"ps2pdf": "ghostscript", "paps": "paps", "enscript": "enscript", "pdftotext": "poppler-utils", "pdftoppm": "poppler-utils"}
-# Pixels an inch, and those of a cell, at ten columns and six rows an inch; the first row stands half an inch below the edge.
+PACKAGES = {
+    "ps2pdf": "ghostscript", "paps": "paps", "enscript": "enscript", "pdftotext": "poppler-utils", "pdftoppm": "poppler-utils",
+}
+# Pixels an inch, and those of a cell, at ten columns and six rows an inch; and where the letters of the first row begin, whose
+# line begins half an inch below the edge.
 INCH = 120
-WIDTH, HEIGHT, TOP_EDGE = INCH // 10, INCH // 6, INCH // 2
+WIDTH, HEIGHT, TOP_EDGE = INCH // 10, INCH // 6, INCH // 2 + 8
 
 
 def sheets_of(script):
@@ -32,6 +35,8 @@ def placed(rows):
 
 def texts_of(pdf):
     text = subprocess.run(["pdftotext", "-fixed", "7.2", pdf, "-"], capture_output=True, check=True).stdout.decode()
+    # Courier has its quotes curved.
+    text = text.translate({0x2018: "`", 0x2019: "'"})
     return [page.split("\n") for page in text.split("\f")[:-1]]
 
 
@@ -43,12 +48,12 @@ def pictures_of(pdf, folder):
         yield int(size.split()[0]), pixels
 
 
-def is_inked(picture, column, row, first, last):
-    """Whether there is ink in a cell, between these columns of its pixels."""
+def is_inked(picture, column, row, edge):
+    """Whether there is ink in a cell, so many pixels away from its edges."""
     width, pixels = picture
-    for y in range(TOP_EDGE + HEIGHT * row, TOP_EDGE + HEIGHT * (row + 1)):
+    for y in range(TOP_EDGE + HEIGHT * row + edge, TOP_EDGE + HEIGHT * (row + 1) - edge):
         begin = width * y + WIDTH * column
-        if any(pixel < 160 for pixel in pixels[begin + first : begin + last]):
+        if any(pixel < 160 for pixel in pixels[begin + edge : begin + WIDTH - edge]):
             return True
     return False
 
@@ -59,9 +64,9 @@ def ink_faults(sheet, picture):
             continue
         for column in range(80):
             is_empty = text[column : column + 1] in ("", " ")
-            if is_empty and is_inked(picture, column, row, 4, 8):
+            if is_empty and is_inked(picture, column, row, 4):
                 yield f"row {row} has ink in column {column}, where the sheet has none"
-            if not is_empty and not is_inked(picture, column, row, 0, WIDTH):
+            if not is_empty and not is_inked(picture, column, row, 0):
                 yield f"row {row} has no ink in column {column}, where the sheet has {text[column]}"
 
 
@@ -74,8 +79,8 @@ def page_faults(script, sheets, options, folder):
         yield f"it has {len(pages)} pages of {len(sheets)} sheets"
     for number, (sheet, page) in enumerate(zip(sheets, pages), 1):
         if is_text and placed(sheet) != placed(page):
-            wrong = next((pair for pair in zip(placed(sheet), placed(page)) if pair[0] != pair[1]), "their numbers of rows differ")
-            yield f"page {number} isn't its sheet: {wrong}"
+            pairs = zip(placed(sheet), placed(page))
+            yield f"page {number} isn't its sheet: {next((it for it in pairs if it[0] != it[1]), 'it has other rows')}"
         for fault in () if is_text else ink_faults(sheet, page):
             yield f"page {number}, {fault}"
 
