@@ -93,23 +93,25 @@ def is_latin(script):
         return False
 
 
-def lacks(*tools):
-    missing = [tool for tool in tools if not shutil.which(tool)]
-    for tool in missing:
+def ways():
+    """The options of each way of printing that this machine has the tools for."""
+    missing = {tool for tool in PACKAGES if not shutil.which(tool)}
+    for tool in sorted(missing):
         print(f"paper: skipped: {tool} is missing, of the Debian package {PACKAGES[tool]}")
-    return missing
+    if not missing & {"ps2pdf", "paps", "pdftoppm"}:
+        yield from ([], ["--a4"])
+    if not missing & {"ps2pdf", "enscript", "pdftotext"}:
+        yield from (["--courier"], ["--courier", "--a4"])
 
 
 def main():
     if not PROGRAM.exists():
         return tell("paper", "no page was made", ["the program isn't built"])
-    ways = [] if lacks("ps2pdf", "paps", "pdftoppm") else [[], ["--a4"]]
-    ways += [] if lacks("ps2pdf", "enscript", "pdftotext") else [["--courier"], ["--courier", "--a4"]]
-    faults, made = [], 0
+    faults, made, all_ways = [], 0, list(ways())
     with tempfile.TemporaryDirectory() as folder:
         for script in sorted((TOP / "examples").glob("*.fountain")):
             sheets = sheets_of(script)
-            for options in ways:
+            for options in all_ways:
                 if "--courier" in options and not is_latin(script):
                     continue
                 made += 1
