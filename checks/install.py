@@ -16,6 +16,8 @@ PLACES = {
     "bin/fountain", "share/man/man1/fountain.1", "share/bash-completion/completions/fountain", "share/doc/fountain/GUIDE.md",
 }
 
+OF_LIBC = {"linux-vdso.so.1", "libc.so.6", "libm.so.6", "/lib64/ld-linux-x86-64.so.2"}
+
 
 def call(*words, **how):
     return subprocess.run(words, capture_output=True, text=True, **how)
@@ -85,6 +87,9 @@ def packaging(folder):
     there = folder / "there"
     there.mkdir()
     call("dpkg-deb", "-x", package, there)
+    libraries = {line.split()[0] for line in call("ldd", there / "usr/bin/fountain").stdout.splitlines()}
+    if libraries - OF_LIBC:
+        yield f"the packaged program needs {sorted(libraries - OF_LIBC)}, which aren't in libc6"
     if not prints(there / "usr/bin/fountain", folder):
         yield "the packaged program prints something else"
     if not (there / "usr/share/man/man1/fountain.1.gz").is_file():
