@@ -1,25 +1,32 @@
 -- Page records that an edit carries and raises.
-use Rattle.std.proofs.Common.{◌≡◌, ◌≢◌, ℕ, zero, suc, ◌+◌, ◌<◌, ◌≤◌, Bool, true, false, cond, Option, Some, None, List, [], ◌∷◌, ◌++◌, length, map, take, drop, get_or, inl, inr, refl, sym, ap, ◌∙◌, subst, arith}
-use Rattle.std.specs.Prelude.{◌==◌, ◌||◌, IsTrue, All, IfSome, is_some, option_map, nat_lt, not}
+use Rattle.std.proofs.Common.{◌≡◌, ◌≢◌, ℕ, zero, suc, ◌+◌, ◌<◌, ◌≤◌, Bool, true, false, cond, Option, Some, None, Result, Ok, Err, List, [], ◌∷◌, ◌++◌, length, map, take, drop, get_or, inl, inr, refl, sym, ap, ◌∙◌, subst, arith}
+use Rattle.std.specs.Prelude.{◌==◌, ◌||◌, IsTrue, All, IfOk, IfSome, is_some, option_map, nat_lt, not}
 use Rattle.std.specs.List.{list_any}
 use Rattle.std.proofs.lemmas.Bool.{eq-eqb, lt-ltb}
 use Rattle.std.proofs.lemmas.List.{length-map}
 use Rattle.std.proofs.lemmas.List.Folds.{list_any-append}
-use Rattle.spec_text.specs.Lines.{LineState, TextState, IsText}
+use Rattle.spec_text.specs.Lines.{LineState, TextState, IsText, line_texts}
 use Rattle.spec_text.specs.Edits.{Displacement, EditOf, Replacement, changed, displaced_by, exchanged, refusal_of, replacement_of, restored}
 use Rattle.spec_text.specs.Ranges.{range_of}
 use Rattle.spec_text.proofs.TakenEdits.{taken-inside}
 use Rattle.spec_text.proofs.EditedLaws.{text-HasIds, changed-IsEdited}
+use Rattle.spec_pages.specs.Rows.{ElementOf}
 use Rattle.spec_labels.specs.declared.Moved.{Moved}
+use Rattle.spec_labels.specs.declared.RowKey.{RowKey}
+use Rattle.spec_labels.specs.Labels.{LabelOf}
 use Rattle.spec_labels.specs.Scenes.{SceneRecordOf, scene_step_limit}
 use Rattle.spec_labels.specs.PageRecords.{PageRecordOf, carried, carried_records, end_line, is_present, line_at, put_back_records, record_starts}
 use Rattle.spec_labels.proofs.CarryLaws.{Edited}
 use Rattle.spec_labels.proofs.PageRecordLaws.{carried-labels}
-use Rattle.spec_layout.specs.Shown.{Shown}
+use Rattle.spec_layout.specs.Cells.{RowShows}
+use Rattle.spec_layout.specs.Layout.{Layout, placed_in}
+use Rattle.spec_layout.specs.Shown.{Shown, row_key, shown_rows}
+use Rattle.spec_layout.proofs.LayoutLaws.{layout_of-show}
 use Rattle.spec_records.specs.Kept.{AreKeptScenes, KeepsScenes, RecordsOf}
 use Rattle.spec_state.specs.State.{State, text_of}
 use Rattle.spec_state.specs.Changes.{CanEdit, carried_state, edited_state, pages_raised, rows_by_record, segment_rows, text_after}
 use Rattle.spec_state.specs.StateSheets.{keys_in, layout_in, rows_in}
+use Rattle.spec_state.specs.Headings.{heading_labels}
 use Rattle.spec_state.specs.Keeping.{IsWhole, state_kept, state_of}
 use Rattle.spec_state.specs.KeptStates.{ArePagesKept, IsKept, IsKeptWhole}
 use Rattle.spec_state.specs.SoundStates.{AreLocked}
@@ -27,11 +34,14 @@ use Rattle.spec_state.proofs.EditKeeps.{edit-keeps, same-locked}
 use Rattle.spec_state.proofs.RulesLaws.{parts-whole, whole-parts}
 use Rattle.spec_machine.proofs.PageKeeps.{edited-pages}
 use Rattle.spec_machine.proofs.WholeStates.{edit-whole}
+use Rattle.spec_state.proofs.StateKeys.{state-row_keys}
 use Rattle.spec_state.proofs.StateLaws.{state-AreAnchored, state-AreStarts}
-use Rattle.sp_layout.specs.Bodies.{row_count}
+use Rattle.sp_layout.specs.Bodies.{BodyOf, row_count}
+use Rattle.sp_layout.specs.LaidOut.{LayoutOf, keyed}
+use Rattle.sp_compare.specs.BareRows.{AreLaid, Both}
 use Rattle.sp_state.specs.Entries.{EntryState, FitRecords, LeadsBack, displaced, undone_records, with_text}
 use Rattle.sp_state.specs.Made.{key_starts}
-use Rattle.sp_state.specs.Raised.{AreCarried, AreSegments, CanCarry, FitPages, put_back_in, raises_in, records_carried, records_raised, state_before, with_pages}
+use Rattle.sp_state.specs.Raised.{AreCarried, AreSegments, CanCarry, FitPages, put_back_in, raises, raises_in, records_carried, records_raised, state_before, with_pages}
 use Rattle.sp_state.proofs.MadeLaws.{count-rows}
 use Rattle.sp_state.proofs.RaisedLaws.{raises-distinct, raises-raised, raises-within}
 
@@ -136,14 +146,12 @@ can-carry : (lines gone : List LineState) (first stands : ℕ) (it : PageRecordO
 can-carry lines gone first stands it anchored = by (it.line == end_line) refl
   where
     by : (b : Bool) → (it.line == end_line) ≡ b → IsTrue (b || is_present lines it.line || list_any (λ (line : LineState). line.id == it.line) gone)
-    by true is = tt
+    by true is = refl
     by false is =
         let other : it.line ≢ end_line = λ e. (let t = eq-eqb it.line end_line e in let bad : ⊥ = cc in bad) in
         let any = any-exchanged (λ (line : LineState). line.id == it.line) lines first stands gone (present-any (exchanged lines first stands gone) it.line (anchored other)) in
-        let yes : IsTrue true = tt in
-        subst IsTrue
-        (sym (or-first (list_any (λ (line : LineState). line.id == it.line) lines) (is_present lines it.line) (list_any (λ (line : LineState). line.id == it.line) gone) any
-        (λ h. lt-ltb (line_at lines it.line) (length lines) (any-present lines it.line h)))) yes
+        or-first (list_any (λ (line : LineState). line.id == it.line) lines) (is_present lines it.line) (list_any (λ (line : LineState). line.id == it.line) gone) any
+        (λ h. lt-ltb (line_at lines it.line) (length lines) (any-present lines it.line h))
 
 all-carry : (lines gone : List LineState) (first stands : ℕ) (state : State) (pages : Option (List PageRecordOf)) → state.lines ≡ exchanged lines first stands gone → IsWhole state → state.pages ≡ pages
     → IfSome pages (All (CanCarry lines gone))
@@ -226,10 +234,82 @@ starts-segments state (Some records) place lines starts whole is begin =
       within = subst (λ (n : ℕ). All (λ (start : ℕ). start ≤ n) (record_starts state.lines (keys_in state) records)) count are.within;
     })
 
+-- ---- a text laid out before an edit and after it
+
+-- The rows of a whole state lie in its lines.
+pub whole-laid : (state : State) (body : BodyOf) → IsWhole state → body.elements ≡ (layout_in state).body → body.keys ≡ keys_in state → AreLaid state.lines body
+whole-laid state body whole elements keys = record {
+  keys = keys ∙ state-row_keys state ∙ ap (λ (es : List ElementOf). map (row_key state.lines) (placed_in es)) (sym elements);
+  show = subst (λ (es : List ElementOf). All (RowShows (line_texts state.lines)) (placed_in es)) (sym elements) (layout_of-show state.speakers (text_of state) whole.text).1;
+}
+
+pub layout-keys : (state : State) (it : LayoutOf) → it ≡ keyed state.lines (layout_in state) → it.body.keys ≡ keys_in state
+layout-keys state it is = ap (λ (l : LayoutOf). l.body.keys) is ∙ sym (state-row_keys state)
+
+pub layout-laid : (state : State) (it : LayoutOf) → IsWhole state → it ≡ keyed state.lines (layout_in state) → AreLaid state.lines it.body
+layout-laid state it whole is = whole-laid state it.body whole (ap (λ (l : LayoutOf). l.body.elements) is) (layout-keys state it is)
+
+-- The starts of a whole state's records are those of segments.
+pub own-segments : (state : State) (records : List PageRecordOf) (elements : List ElementOf) (starts : List ℕ) → IsWhole state → state.pages ≡ Some records → elements ≡ (layout_in state).body
+    → starts ≡ record_starts state.lines (keys_in state) records → AreSegments (row_count elements) (length records) starts
+own-segments state records elements starts whole is same begin =
+    let are = state-AreStarts state records whole is in
+    let made : AreSegments (row_count (layout_in state).body) (length records) (record_starts state.lines (keys_in state) records) = record {
+      many = are.count;
+      order = are.order;
+      within = subst (λ (n : ℕ). All (λ (start : ℕ). start ≤ n) (record_starts state.lines (keys_in state) records)) (count-rows state) are.within;
+    } in
+    subst (λ (ns : List ℕ). AreSegments (row_count elements) (length records) ns) (sym begin)
+    (subst (λ (es : List ElementOf). AreSegments (row_count es) (length records) (record_starts state.lines (keys_in state) records)) (sym same) made)
+
+pub before-segments : (text : TextState) (back : Displacement) (old there : RecordsOf) (elements : List ElementOf) (starts : List ℕ) → let state = state_before text back old in
+    IsWhole state → there ≡ records_carried text back old → elements ≡ (layout_in state).body → starts ≡ key_starts state.lines (keys_in state) old.pages
+    → IfSome there.pages (λ those. AreSegments (row_count elements) (length those) starts)
+before-segments text back old there elements starts whole is same begin =
+    subst (λ (r : RecordsOf). IfSome r.pages (λ those. AreSegments (row_count elements) (length those) starts)) (sym is)
+    (subst (λ (es : List ElementOf). IfSome (records_carried text back old).pages (λ those. AreSegments (row_count es) (length those) starts)) (sym same)
+    (starts-segments (state_before text back old) old.pages (back.first + back.stands) text.lines starts whole refl begin))
+
+-- Rounds that were put in are those of the records whose rows differ.
+pub raised-here : (text : TextState) (back : Displacement) (old there after : RecordsOf) (elements : List ElementOf) (starts : List ℕ) (moved : List Moved) → let state = state_before text back old in
+    there ≡ records_carried text back old → elements ≡ (layout_in state).body → starts ≡ key_starts state.lines (keys_in state) old.pages
+    → ((labels : Option (List LabelOf)) → moved ≡ raises_in (segment_rows (shown_rows state.lines labels elements) starts) (state_of text there) there.pages)
+    → after ≡ put_back_in moved there → after ≡ records_raised text back old
+raised-here text back old there after elements starts moved is same begin rounds put =
+    let state = state_before text back old in
+    let labels = heading_labels state.lines state.scenes in
+    let own : moved ≡ raises_in (segment_rows (rows_in state) starts) (state_of text (records_carried text back old)) (records_carried text back old).pages =
+    rounds labels
+    ∙ ap (λ (es : List ElementOf). raises_in (segment_rows (shown_rows state.lines labels es) starts) (state_of text there) there.pages) same
+    ∙ ap (λ (r : RecordsOf). raises_in (segment_rows (rows_in state) starts) (state_of text r) r.pages) is in
+    put ∙ ap (put_back_in moved) is ∙ raised-is text back old starts moved begin own
+
+-- Rounds that were listed are those of the page records.
+pub some-pages : {V : Type 0} (items : V → List PageRecordOf) (there : Option V) (pages : V) (own : Option (List PageRecordOf)) → option_map items there ≡ own → there ≡ Some pages → own ≡ Some (items pages)
+some-pages items there pages own same is = sym same ∙ ap (option_map items) is
+
+pub raises-made : {V E : Type 0} (items : V → List Moved) (result : Result V E) (state : State) (old : List LineState) (both : Both) (olds news : List ElementOf) (before after : List ℕ) (round : ℕ) (records : List PageRecordOf)
+    → both ≡ record { old = old; olds = olds; new = state.lines; news = news } → news ≡ (layout_in state).body → after ≡ record_starts state.lines (keys_in state) records → round ≡ state.round → state.pages ≡ Some records
+    → IfOk result (λ moved. (one other : Option (List LabelOf)) → items moved ≡ raises round 0 (segment_rows (shown_rows both.old one both.olds) before) (segment_rows (shown_rows both.new other both.news) after) records)
+    → IfOk result (λ moved. (labels : Option (List LabelOf)) → items moved ≡ raises_in (segment_rows (shown_rows old labels olds) before) state state.pages)
+raises-made items (Err error) state old both olds news before after round records both_is body begin rounds are is = tt
+raises-made items (Ok it) state old both olds news before after round records both_is body begin rounds are is = λ labels.
+    let own = heading_labels state.lines state.scenes in
+    is labels own
+    ∙ ap (λ (b : Both). raises round 0 (segment_rows (shown_rows b.old labels b.olds) before) (segment_rows (shown_rows b.new own b.news) after) records) both_is
+    ∙ ap (λ (es : List ElementOf). raises round 0 (segment_rows (shown_rows old labels olds) before) (segment_rows (shown_rows state.lines own es) after) records) body
+    ∙ ap (λ (ns : List ℕ). raises round 0 (segment_rows (shown_rows old labels olds) before) (segment_rows (rows_in state) ns) records) begin
+    ∙ ap (λ (r : ℕ). raises r 0 (segment_rows (shown_rows old labels olds) before) (rows_by_record state records) records) rounds
+    ∙ ap (raises_in (segment_rows (shown_rows old labels olds) before) state) (sym are)
+
 -- ---- an edit that is taken
 
 abbrev carried-by : RecordsOf → TextState → ℕ → State
 carried-by records text place = state_of text (with_pages records (option_map (carried_records text.lines place) records.pages))
+
+-- The state before it is the old one.
+pub whole-before : (old text : TextState) (back : Displacement) (records : RecordsOf) → restored text back ≡ old → IsWhole (state_of old records) → IsWhole (state_before text back records)
+whole-before old text back records leads whole = subst (λ (t : TextState). IsWhole (state_of t records)) (sym leads) whole
 
 pub carried-here : (old text : TextState) (back : Displacement) (records : RecordsOf) (edit : EditOf) → let it = replacement_of old.lines edit in
     refusal_of old edit ≡ None → text ≡ changed old it records.round → back ≡ displaced_by old it → IsText text → IsWhole (state_of old records)

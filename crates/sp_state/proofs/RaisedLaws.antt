@@ -1,6 +1,6 @@
 -- The rounds that an edit gives page records.
 use Rattle.std.proofs.Common.{◌≡◌, ◌≢◌, ℕ, zero, suc, ◌+◌, ◌<◌, ◌≤◌, Bool, true, false, cond, Option, Some, None, List, [], ◌∷◌, ◌++◌, length, drop, get_or, append_assoc, eq-eqb, ne_eqb, refl, ap, ap₂, sym, ◌∙◌, subst, arith}
-use Rattle.std.specs.Prelude.{All, AllPairs, slice_index_or, slice_range}
+use Rattle.std.specs.Prelude.{All, AllPairs, slice_index, slice_index_or, slice_range}
 use Rattle.std.proofs.lemmas.List.{drop_more, get_or-drop}
 use Rattle.spec_labels.specs.declared.Moved.{Moved}
 use Rattle.spec_labels.specs.PageRecords.{PageRecordOf, moved_at, moved_of, put_back_from, put_back_records, with_anchor}
@@ -156,3 +156,11 @@ raises-other round i olds news before after records d moved all in_before in_aft
     append_assoc moved (one ∷ []) later
     ∙ sym (ap (λ (ms : List Moved). moved ++ ms)
     (raises-step round i olds news before after records d in_before in_after in_records ∙ ap (λ (b : Bool). cond b later (one ∷ later)) same)) ∙ is
+
+-- Whether they are, by the numbers of rows.
+pub same-at : (i : ℕ) (olds news : List Shown) (before after : List ℕ) {m n : ℕ} (same : Bool) → length olds ≡ m → length news ≡ n
+    → same ≡ same_rows (slice_range olds (slice_index before i) (slice_index_or before (i + 1) m)) (slice_range news (slice_index after i) (slice_index_or after (i + 1) n)) → is_same_at i olds news before after ≡ same
+same-at i olds news before after {m = m} {n = n} same many count is =
+    ap (λ (k : ℕ). same_rows (slice_range olds (slice_index_or before i 0) (slice_index_or before (i + 1) k)) (slice_range news (slice_index_or after i 0) (slice_index_or after (i + 1) (length news)))) many
+    ∙ ap (λ (k : ℕ). same_rows (slice_range olds (slice_index_or before i 0) (slice_index_or before (i + 1) m)) (slice_range news (slice_index_or after i 0) (slice_index_or after (i + 1) k))) count
+    ∙ sym is

@@ -1,27 +1,61 @@
-use Rattle.std.proofs.Common.{ap, ◌∙◌}
+use Rattle.std.proofs.Common.{[], ap, sym, ◌∙◌}
 use Rattle.spec_text.specs.Edits.{changed, replacement_of}
 use Rattle.spec_records.specs.Kept.{RecordsOf}
+use Rattle.spec_state.specs.State.{State}
+use Rattle.spec_state.specs.Keeping.{state_of}
 use Rattle.sp_text.specs.Changing.{edit_of}
+use Rattle.sp_text.specs.DisplacedLines.{displaced_of}
 use Rattle.sp_text.specs.Gap.{text_of}
 use Rattle.sp_state.specs.Entries.{EntryState}
-use Rattle.sp_state.proofs.EditedScripts.{back-room, edited-range, edited-whole}
+use Rattle.sp_state.proofs.CarriedLaws.{carried-here, edited-here, edited-whole, whole-before, whole-carry}
+use Rattle.sp_state.proofs.EditedScripts.{back-room, edited-range}
+use Rattle.sp_state.proofs.MadeLaws.{anchored}
 use Rattle.sp_state.proofs.entry.edit_entry.Goals as goal
 
-pub returns-clause-whole : goal.returns-clause-whole
-returns-clause-whole c =
+pub record_starts-requires : goal.record_starts-requires
+record_starts-requires g c =
+    let state : State = state_of (text_of c.args.lines.now) c.args.records.now in
+    anchored (λ those. those.items) state c.keys.result.now c.records.inside.pages c.requires.whole (c.keys.ensures.keys ∙ c.requires.keys) (sym (ap (λ (r : RecordsOf). r.pages) c.records.view_is))
+
+pub carry_and_raise-requires-clause-carried : goal.carry_and_raise-requires-clause-carried
+carry_and_raise-requires-clause-carried g c =
     let text = text_of c.args.lines.now in
     let edit = edit_of c.args.edit in
-    edited-whole text (text_of c.change.new.self) c.args.records.now edit c.requires.unlocked c.in_ok-displaced.ensures.refuses
+    carried-here text (text_of c.change.new.self) (displaced_of c.in_ok-displaced.displaced) c.args.records.now edit c.in_ok-displaced.ensures.refuses
     (c.in_ok-displaced.ensures.text ∙ ap (λ (records : RecordsOf). changed text (replacement_of text.lines edit) records.round) c.records.view_is)
-    c.len-changed.ensures.keeps c.requires.whole
+    c.in_ok-displaced.ensures.displaced c.len-changed.ensures.keeps c.requires.whole
 
-pub returns-clause-range : goal.returns-clause-range
-returns-clause-range c =
-    let entry : EntryState = record { lines = c.in_ok-displaced.displaced; moved = c.new.result.items; raised = c.new-2.result.items } in
+pub carry_and_raise-requires-clause-can : goal.carry_and_raise-requires-clause-can
+carry_and_raise-requires-clause-can g c =
+    let text = text_of c.change.new.self in
+    let back = displaced_of c.in_ok-displaced.displaced in
+    whole-carry text back c.args.records.now (whole-before (text_of c.args.lines.now) text back c.args.records.now c.in_ok-displaced.ensures.back c.requires.whole)
+
+pub returns-in-Ok-carry_and_raise-clause-whole : goal.returns-in-Ok-carry_and_raise-clause-whole
+returns-in-Ok-carry_and_raise-clause-whole g c =
+    let old = text_of c.args.lines.now in
+    let text = text_of c.change.new.self in
+    let edit = edit_of c.args.edit in
+    let records = c.args.records.now in
+    let after = c.carry_and_raise.new.records in
+    let ensures = c.in_ok-displaced.ensures in
+    let is = ensures.text ∙ ap (λ (those : RecordsOf). changed old (replacement_of old.lines edit) those.round) c.records.view_is in
+    edited-whole old text records after edit ensures.refuses is c.len-changed.ensures.keeps c.requires.whole
+    (edited-here old text (displaced_of c.in_ok-displaced.displaced) records after edit ensures.refuses is ensures.back ensures.displaced c.in-Ok-carry_and_raise.ensures.records)
+
+pub returns-in-Ok-carry_and_raise-clause-range : goal.returns-in-Ok-carry_and_raise-clause-range
+returns-in-Ok-carry_and_raise-clause-range g c =
+    let entry : EntryState = record { lines = c.in_ok-displaced.displaced; moved = c.in-Ok-carry_and_raise.field-0.moved.items; raised = c.in-Ok-carry_and_raise.field-0.raised.items } in
     edited-range (text_of c.args.lines.now) (edit_of c.args.edit) entry c.in_ok-displaced.ensures.refuses c.in_ok-displaced.ensures.displaced
 
-pub returns-clause-room : goal.returns-clause-room
-returns-clause-room c =
-    let entry : EntryState = record { lines = c.in_ok-displaced.displaced; moved = c.new.result.items; raised = c.new-2.result.items } in
+pub returns-in-Ok-carry_and_raise-clause-room : goal.returns-in-Ok-carry_and_raise-clause-room
+returns-in-Ok-carry_and_raise-clause-room g c =
+    let entry : EntryState = record { lines = c.in_ok-displaced.displaced; moved = c.in-Ok-carry_and_raise.field-0.moved.items; raised = c.in-Ok-carry_and_raise.field-0.raised.items } in
     let ensures = c.in_ok-displaced.ensures in
     back-room c.args.lines.now c.change.new.self entry ensures.place ensures.back c.len-count.ensures.room ensures.room ensures.displaced_room
+
+pub restore_in_room-requires-clause-room : goal.restore_in_room-requires-clause-room
+restore_in_room-requires-clause-room g c =
+    let entry : EntryState = record { lines = c.in_ok-displaced.displaced; moved = []; raised = [] } in
+    let ensures = c.in_ok-displaced.ensures in
+    (back-room c.args.lines.now c.change.new.self entry ensures.place ensures.back c.len-count.ensures.room ensures.room ensures.displaced_room).lines_room
