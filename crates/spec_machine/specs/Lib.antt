@@ -3,4 +3,5 @@ pub mod KeptMemories
 pub mod LabelPromises
 pub mod Refusals
 pub mod Blocks
+pub mod Outlines
 pub mod Answers
