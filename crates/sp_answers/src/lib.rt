@@ -5,8 +5,8 @@ mod blocks;
 mod growing;
 mod sheets;
 
-pub use blocks::block_replies;
-pub use sheets::{sheet_label, sheet_reply};
+pub use blocks::{block_replies, first_text, written_number};
+pub use sheets::{scene_label_text, sheet_label, sheet_label_text, sheet_reply};
 
 #[cfg(test)]
 mod tests;

@@ -12,4 +12,5 @@ mod stops;
 mod views;
 
 pub use entry::{Entry, Unturned, redo_entry, undo_entry};
+pub use headings::headings_among;
 pub use script::Script;

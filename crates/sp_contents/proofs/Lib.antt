@@ -1,0 +1,4 @@
+mod WalkLaws
+mod SheetFinds
+mod Counts
+mod Pushes
