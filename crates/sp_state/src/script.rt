@@ -16,7 +16,7 @@ ghost use Rattle.sp_state.specs.Entries.{CanRedo, CanUndo, IsSameEntry, LeadsBac
 use crate::editing::{edit_made, made_on, made_with_speakers, redo_made, undo_made};
 use crate::entry::{Entry, Unturned};
 use crate::made::{Made, make};
-use crate::views::{made_sheet, made_title, sheet_count, title_count};
+use crate::views::{body_shapes, made_sheet, made_title, sheet_count, title_count};
 use sp_kit::Steps;
 use sp_locks::Sheet;
 use sp_print::PageView;
@@ -118,7 +118,7 @@ impl Script {
     pub fn shapes(&self) -> &[Shape]
         ensures { result.now ≡ map shape_of (rows_in self.now) }
     {
-        self.made.body.shapes()
+        body_shapes(&self.made)
     }
 
     /// Lends the sheets of its body, by the places of their rows. The state keeps the rules of a state.

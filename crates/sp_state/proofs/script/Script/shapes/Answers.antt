@@ -12,7 +12,7 @@ use Rattle.sp_state.proofs.script.Script.shapes.Goals as goal
 pub returns : goal.returns
 returns c =
     let state : State = state_of (text_of c.self.inside.lines) c.self.inside.records in
-    c.shapes.ensures
+    c.body_shapes.ensures
     ∙ ap shapes_in c.self.invariant.1.body
     ∙ sym (same-shapes state)
     ∙ ap (λ (it : State). map shape_of (rows_in it)) c.self.view_is
