@@ -2,3 +2,4 @@ mod WalkLaws
 mod SheetFinds
 mod Counts
 mod Pushes
+mod EntryLaws

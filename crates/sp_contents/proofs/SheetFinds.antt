@@ -1,7 +1,8 @@
 -- The sheet with a row, by halves.
-use Rattle.std.proofs.Common.{◌≡◌, ℕ, zero, suc, ◌+◌, ◌<◌, ◌≤◌, ◌&&◌, Bool, true, false, cond, Option, Some, None, List, [], ◌∷◌, ◌++◌, length, map, get_or, slice_get, refl, sym, ap, ◌∙◌, subst, nat_lt, arith, append-nil}
+use Rattle.std.proofs.Common.{◌≡◌, ℕ, zero, suc, ◌+◌, ◌<◌, ◌≤◌, ◌&&◌, Bool, true, false, cond, Option, Some, None, List, [], ◌∷◌, ◌++◌, length, map, get_or, slice_get, refl, sym, ap, ◌∙◌, subst, nat_lt, leb, inl, inr, arith}
 use Rattle.std.specs.Prelude.{All, AllPairs, nat_le, find, slice_index_or}
-use Rattle.std.proofs.lemmas.Bool.{leb-true, leb-false, ltb-true, ltb-false}
+use Rattle.std.proofs.lemmas.Bool.{cases_eq, leb-true, leb-false, ltb-true, ltb-false}
+use Rattle.std.specs.List.Sorted.{IsPartitionPoint, IsNonDecreasingBy}
 use Rattle.std.proofs.lemmas.List.Elements.{All-nil, All-cons, All-head, All-tail}
 use Rattle.std.proofs.lemmas.List.Kept.{AllPairs-cons}
 use Rattle.spec_text.proofs.ListLaws.{pairs-head, pairs-tail}
@@ -13,12 +14,7 @@ use Rattle.spec_state.specs.Keeping.{IsWhole}
 use Rattle.spec_state.specs.StateSheets.{numbered_sheets, sheets_in, pages_in, rows_in, layout_in, body_sheets}
 use Rattle.spec_state.proofs.StateLaws.{state-Cover}
 use Rattle.spec_machine.specs.Outlines.{has_row}
-use Rattle.sp_contents.specs.Sheets.{AreInTurn, EndBefore}
-
--- The sheet, where it doesn't begin behind a row.
-abbrev pub if_begun : ℕ → Option SheetOf → Option SheetOf
-if_begun row None = None
-if_begun row (Some sheet) = cond (nat_le sheet.start row) (Some sheet) None
+use Rattle.sp_contents.specs.Sheets.{AreInTurn, EndBefore, if_begun}
 
 find-none : (row : ℕ) (sheets : List SheetOf) → All (λ (sheet : SheetOf). row < sheet.start) sheets → find (has_row row) sheets ≡ None
 find-none row [] all = refl
@@ -68,6 +64,31 @@ find-place row (sheet ∷ sheets) (suc count) are ends = by (nat_lt row sheet.en
     by true is a rest = (let low = ltb-true row sheet.end is in absurd (omega (arith, past, low)))
     by false is true rest = rest
     by false is false rest = rest
+
+-- The ends of sheets in turn never fall.
+pub ends-rise : (sheets : List SheetOf) → AreInTurn sheets → IsNonDecreasingBy (λ (sheet : SheetOf). sheet.end) sheets
+ends-rise sheets are i j d order inside = elim (cases_eq i j) [
+  | inl same ↦ omega (arith, ap (λ k. (get_or sheets k d).end) same)
+  | inr other ↦ (let turn = are.turn i j d (omega (arith, order, other)) inside in let own = are.order j d inside in omega (arith, turn, own))
+]
+
+-- Where a partition is, so many sheets end at a row or before it.
+pub ends-before : (sheets : List SheetOf) (row count : ℕ) → count ≤ length sheets → IsPartitionPoint (λ (it : SheetOf). leb it.end row ≡ true) (λ (it : SheetOf). leb it.end row ≡ false) sheets count → EndBefore sheets row count
+ends-before sheets row count within parts = record {
+  within = within;
+  before = λ i it at low. (let inside = below-get sheets i it at in let is = parts.0 i it inside low in leb-true it.end row (subst (λ (those : SheetOf). leb those.end row ≡ true) (or-get sheets i it at) is));
+  behind = λ i it at low. (let inside = below-get sheets i it at in let is = parts.1 i it low inside in leb-false it.end row (subst (λ (those : SheetOf). leb those.end row ≡ false) (or-get sheets i it at) is));
+}
+  where
+    below-get : (those : List SheetOf) (i : ℕ) (it : SheetOf) → slice_get those i ≡ Some it → i < length those
+    below-get [] i it at = cc
+    below-get (x ∷ xs) zero it at = omega arith
+    below-get (x ∷ xs) (suc i) it at = let less = below-get xs i it at in omega (arith, less)
+
+    or-get : (those : List SheetOf) (i : ℕ) (it : SheetOf) → slice_get those i ≡ Some it → get_or those i it ≡ it
+    or-get [] i it at = cc
+    or-get (x ∷ xs) zero it at = cc
+    or-get (x ∷ xs) (suc i) it at = or-get xs i it at
 
 -- ---- sheets that follow one another
 

@@ -1,5 +1,5 @@
 //! The entries of an outline.
-ghost use Rattle.std.specs.Prelude.{◌≡◌, ◌<◌, ◌≤◌, ◌++◌, [], true, length, map, filter, slice_index_or, string_bytes, AllPairs, All, IfOk, OnOk};
+ghost use Rattle.std.specs.Prelude.{◌≡◌, ◌<◌, ◌≤◌, ◌++◌, [], true, length, map, filter, drop, slice_range, slice_index_or, string_bytes, AllPairs, All, IfOk, OnOk};
 ghost use Rattle.std.specs.Ordering.{is_lt};
 ghost use Rattle.spec_text.specs.Lines.{line_texts};
 ghost use Rattle.spec_script.specs.Elements.{PlacedLies};
@@ -7,7 +7,7 @@ ghost use Rattle.spec_labels.specs.Labels.{Below, label_cmp};
 ghost use Rattle.spec_state.specs.Headings.{is_heading_block};
 ghost use Rattle.spec_machine.specs.Outlines.{entries_of, scene_entry, scene_number};
 ghost use Rattle.sp_outline.specs.Entries.{entry_of};
-ghost use Rattle.sp_contents.specs.Walks.{AddsBlock, IsAbove, IsWalked, omitted_of};
+ghost use Rattle.sp_contents.specs.Walks.{AddsBlock, IsAbove, IsWalked, label_at, omitted_of};
 
 use crate::scenes::Scenes;
 use sp_answers::{first_text, scene_label_text, written_number};
@@ -42,6 +42,36 @@ fn gone_below(gone: &[Label], from: usize, label: &Label) -> usize
         }
     }
     gone.len()
+}
+
+/// The scenes that are gone.
+fn gone_in(scenes: &Scenes) -> &[Label]
+    ensures { result.now ≡ scenes.now.gone }
+{
+    &scenes.gone
+}
+
+/// The label of the heading behind so many others.
+fn label_of(scenes: &Scenes, i: usize) -> &Label
+    requires { i < length scenes.now.labels }
+    ensures { result.now ≡ label_at scenes.now.labels i }
+{
+    &scenes.labels[i]
+}
+
+fn gone_part(gone: &[Label], from: usize, to: usize) -> &[Label]
+    requires order { from ≤ to }
+    requires within { to ≤ length gone.now }
+    ensures { result.now ≡ slice_range gone.now from to }
+{
+    &gone[from..to]
+}
+
+fn gone_from(gone: &[Label], from: usize) -> &[Label]
+    requires { from ≤ length gone.now }
+    ensures { result.now ≡ drop from gone.now }
+{
+    &gone[from..]
 }
 
 /// Adds scenes that are gone.
@@ -121,8 +151,9 @@ fn add_heading(
     ensures { IfOk result (λ next. AddsBlock scenes.now (line_texts lines.now.lines) placed.now entries.old.items entries.new.items walk.headings next.headings next.gone) }
 {
     let i = walk.headings;
-    let to = gone_below(&scenes.gone, walk.gone, &scenes.labels[i]);
-    add_gone(alloc, entries, &scenes.gone[walk.gone..to])?;
+    let gone = gone_in(scenes);
+    let to = gone_below(gone, walk.gone, label_of(scenes, i));
+    add_gone(alloc, entries, gone_part(gone, walk.gone, to))?;
     entries.push(scene_entry(alloc, lines, scenes, i, placed)?)?;
     Ok(Walk {
         headings: i + 1,
@@ -183,6 +214,6 @@ pub(crate) fn entries_of(
     for placed in blocks {
         walk = add_block(alloc, &mut entries, lines, scenes, walk, placed)?;
     }
-    add_gone(alloc, &mut entries, &scenes.gone[walk.gone..])?;
+    add_gone(alloc, &mut entries, gone_from(gone_in(scenes), walk.gone))?;
     Ok(entries)
 }

@@ -1,7 +1,8 @@
 //! What an outline tells of scenes.
-ghost use Rattle.std.specs.Prelude.{◌≡◌, IfOk};
+ghost use Rattle.std.specs.Prelude.{◌≡◌, is_some, option_map, IfOk, IfSome};
 ghost use Rattle.spec_text.specs.Lines.{line_texts};
 ghost use Rattle.spec_script.specs.Stanzas.{blocks_of};
+ghost use Rattle.spec_labels.specs.Scenes.{AreHeadings, AreSceneRecords, scene_labels};
 ghost use Rattle.spec_state.specs.Headings.{headings_of};
 ghost use Rattle.spec_machine.specs.Outlines.{scenes_of};
 
@@ -9,7 +10,7 @@ use crate::gone::gone_labels;
 use crate::sheets::{heading_rows, sheet_texts};
 use sp_labels::Label;
 use sp_layout::PlacedBlock;
-use sp_scenes::{HeadingAt, numbers};
+use sp_scenes::{HeadingAt, SceneRecord, numbers};
 use sp_state::{Script, headings_among};
 use std::alloc::{AllocError, Global};
 use std::marker::Model;
@@ -38,6 +39,39 @@ impl Model for Scenes {
     } };
 }
 
+/// The scene records of a script.
+fn scene_records(script: &Script) -> &Option<Vec<SceneRecord>>
+    ensures { option_map (λ those. those.items) result.now ≡ script.now.scenes }
+{
+    let records = script.records();
+    &records.scenes
+}
+
+fn are_locked(scenes: &Option<Vec<SceneRecord>>) -> bool
+    ensures { result ≡ is_some (option_map (λ those. those.items) scenes.now) }
+{
+    match scenes {
+        None => false,
+        Some(_) => true,
+    }
+}
+
+/// The labels of headings, with the records where scenes are locked.
+fn labels_of(
+    alloc: Global,
+    headings: &[HeadingAt],
+    scenes: &Option<Vec<SceneRecord>>,
+) -> Result<Vec<Label>, AllocError>
+    requires headings { AreHeadings headings.now }
+    requires records { IfSome scenes.now (λ records. AreSceneRecords records.items) }
+    ensures { IfOk result (λ labels. labels.items ≡ scene_labels headings.now (option_map (λ those. those.items) scenes.now)) }
+{
+    match scenes {
+        None => numbers(alloc, headings, None),
+        Some(records) => numbers(alloc, headings, Some(records.as_slice())),
+    }
+}
+
 /// What an outline tells of the scenes of a script with these headings.
 fn scenes_with(
     alloc: Global,
@@ -47,14 +81,17 @@ fn scenes_with(
     requires { headings.now ≡ headings_of script.now.lines }
     ensures { IfOk result (λ scenes. scenes ≡ scenes_of script.now) }
 {
-    let records = &script.records().scenes;
+    let records = scene_records(script);
     let sheets = script.body_sheets();
     let rows = heading_rows(alloc, script.shapes())?;
+    let labels = labels_of(alloc, headings, records)?;
+    let texts = sheet_texts(alloc, sheets, &rows)?;
+    let gone = gone_labels(alloc, headings, records)?;
     Ok(Scenes {
-        locked: records.is_some(),
-        labels: numbers(alloc, headings, records.as_deref())?,
-        sheets: sheet_texts(alloc, sheets, &rows)?,
-        gone: gone_labels(alloc, headings, records)?,
+        locked: are_locked(records),
+        labels,
+        sheets: texts,
+        gone,
     })
 }
 

@@ -1,7 +1,7 @@
 //! The sheets on which headings begin.
-ghost use Rattle.std.specs.Prelude.{◌≡◌, map, find, string_bytes, option_copied, IfOk};
+ghost use Rattle.std.specs.Prelude.{◌≡◌, Some, map, find, string_bytes, option_copied, IfOk};
 ghost use Rattle.spec_machine.specs.Outlines.{begins_heading, has_row, heading_rows, sheet_text};
-ghost use Rattle.sp_contents.specs.Sheets.{AreInTurn, EndBefore};
+ghost use Rattle.sp_contents.specs.Sheets.{AreInTurn, EndBefore, if_begun};
 
 use sp_answers::sheet_label_text;
 use sp_locks::Sheet;
@@ -37,14 +37,28 @@ fn sheets_before(sheets: &[Sheet], row: usize) -> usize
     sheets.partition_point(|sheet| sheet.end <= row)
 }
 
+/// The sheet, where it doesn't begin behind a row.
+fn if_begun(sheet: Option<&Sheet>, row: usize) -> Option<&Sheet>
+    ensures { option_copied result ≡ if_begun row (option_copied sheet.entry) }
+{
+    match sheet {
+        Some(sheet) => begun(sheet, row),
+        None => None,
+    }
+}
+
+fn begun(sheet: &Sheet, row: usize) -> Option<&Sheet>
+    ensures { option_copied result ≡ if_begun row (Some sheet.now) }
+{
+    if sheet.start <= row { Some(sheet) } else { None }
+}
+
 /// The sheet with a row, by halves.
 fn sheet_of(sheets: &[Sheet], row: usize) -> Option<&Sheet>
     requires { AreInTurn sheets.now }
     ensures { option_copied result ≡ find (has_row row) sheets.now }
 {
-    let place = sheets_before(sheets, row);
-    let sheet = sheets.get(place)?;
-    if sheet.start <= row { Some(sheet) } else { None }
+    if_begun(sheets.get(sheets_before(sheets, row)), row)
 }
 
 /// The label of the sheet with a row.
