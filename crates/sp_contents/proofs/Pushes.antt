@@ -8,6 +8,7 @@ use Rattle.std.proofs.lemmas.Bool.{cases_Bool}
 use Rattle.std.proofs.lemmas.List.{take_more, length-take}
 use Rattle.spec_pages.specs.declared.Shape.{Shape}
 use Rattle.spec_script.specs.Stanzas.{PlacedBlock}
+use Rattle.spec_labels.specs.Labels.{LabelOf}
 use Rattle.spec_labels.specs.Scenes.{HeadingOf, SceneRecordOf}
 use Rattle.spec_layout.specs.Speakers.{cue_text, name_in}
 use Rattle.spec_outline.specs.Outline.{EntryOf}
@@ -88,6 +89,24 @@ rows-more shapes i d inside =
     ap (heading_rows 0) (take_more shapes i d inside)
     ∙ heading_rows-push 0 (take i shapes) (get_or shapes i d)
     ∙ ap (λ n. heading_rows 0 (take i shapes) ++ cond (begins_heading (get_or shapes i d)) (n ∷ []) []) (omega (arith, length-take i shapes, inside))
+
+-- A record that is looked at, and a row.
+pub gone-step : (headings : List HeadingOf) (records : List SceneRecordOf) (i : ℕ) (item : SceneRecordOf) (old new : List LabelOf) (b : Bool) → i < length records → item ≡ get_or records i item
+    → old ≡ gone_among headings (take i records) → b ≡ is_gone headings item → new ≡ old ++ cond b (item.label ∷ []) [] → new ≡ gone_among headings (take (i + 1) records)
+gone-step headings records i item old new b inside same before test is =
+    is
+    ∙ ap (λ (those : List LabelOf). those ++ cond b (item.label ∷ []) []) before
+    ∙ ap (λ (t : Bool). gone_among headings (take i records) ++ cond t (item.label ∷ []) []) test
+    ∙ ap (λ (it : SceneRecordOf). gone_among headings (take i records) ++ cond (is_gone headings it) (it.label ∷ []) []) same
+    ∙ sym (gone-more headings records i item inside)
+
+pub rows-step : (shapes : List Shape) (row : ℕ) (d : Shape) (old new : List ℕ) (b : Bool) → row < length shapes → old ≡ heading_rows 0 (take row shapes) → b ≡ begins_heading (get_or shapes row d)
+    → new ≡ old ++ cond b (row ∷ []) [] → new ≡ heading_rows 0 (take (row + 1) shapes)
+rows-step shapes row d old new b inside before test is =
+    is
+    ∙ ap (λ (those : List ℕ). those ++ cond b (row ∷ []) []) before
+    ∙ ap (λ (t : Bool). heading_rows 0 (take row shapes) ++ cond t (row ∷ []) []) test
+    ∙ sym (rows-more shapes row d inside)
 
 -- ---- entries
 

@@ -76,7 +76,7 @@ ends-rise sheets are i j d order inside = elim (cases_eq i j) [
 pub ends-before : (sheets : List SheetOf) (row count : ℕ) → count ≤ length sheets → IsPartitionPoint (λ (it : SheetOf). leb it.end row ≡ true) (λ (it : SheetOf). leb it.end row ≡ false) sheets count → EndBefore sheets row count
 ends-before sheets row count within parts = record {
   within = within;
-  before = λ i it at low. (let inside = below-get sheets i it at in let is = parts.0 i it inside low in leb-true it.end row (subst (λ (those : SheetOf). leb those.end row ≡ true) (or-get sheets i it at) is));
+  before = λ i it at low. (let inside = below-get sheets i it at in let is = parts.0 i it (omega arith) low in leb-true it.end row (subst (λ (those : SheetOf). leb those.end row ≡ true) (or-get sheets i it at) is));
   behind = λ i it at low. (let inside = below-get sheets i it at in let is = parts.1 i it low inside in leb-false it.end row (subst (λ (those : SheetOf). leb those.end row ≡ false) (or-get sheets i it at) is));
 }
   where

@@ -1,5 +1,5 @@
 //! The entries of an outline.
-ghost use Rattle.std.specs.Prelude.{◌≡◌, ◌<◌, ◌≤◌, ◌++◌, [], true, length, map, filter, drop, slice_range, slice_index_or, string_bytes, AllPairs, All, IfOk, OnOk};
+ghost use Rattle.std.specs.Prelude.{◌≡◌, ◌<◌, ◌≤◌, ◌+◌, ◌++◌, [], true, length, map, filter, drop, slice_range, slice_index_or, string_bytes, AllPairs, All, IfOk, OnOk};
 ghost use Rattle.std.specs.Ordering.{is_lt};
 ghost use Rattle.spec_text.specs.Lines.{line_texts};
 ghost use Rattle.spec_script.specs.Elements.{PlacedLies};
@@ -54,7 +54,8 @@ fn gone_in(scenes: &Scenes) -> &[Label]
 /// The label of the heading behind so many others.
 fn label_of(scenes: &Scenes, i: usize) -> &Label
     requires { i < length scenes.now.labels }
-    ensures { result.now ≡ label_at scenes.now.labels i }
+    ensures label { result.now ≡ label_at scenes.now.labels i }
+    ensures few { i + 1 ≤ usize.MAX }
 {
     &scenes.labels[i]
 }

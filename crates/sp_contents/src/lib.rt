@@ -10,5 +10,6 @@ mod sheets;
 
 pub use reply::{outline_reply, outline_text};
 
+
 #[cfg(test)]
 mod tests;

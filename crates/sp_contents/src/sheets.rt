@@ -1,5 +1,5 @@
 //! The sheets on which headings begin.
-ghost use Rattle.std.specs.Prelude.{◌≡◌, Some, map, find, string_bytes, option_copied, IfOk};
+ghost use Rattle.std.specs.Prelude.{◌≡◌, Some, map, find, slice_get, string_bytes, option_copied, IfOk};
 ghost use Rattle.spec_machine.specs.Outlines.{begins_heading, has_row, heading_rows, sheet_text};
 ghost use Rattle.sp_contents.specs.Sheets.{AreInTurn, EndBefore, if_begun};
 
@@ -53,12 +53,18 @@ fn begun(sheet: &Sheet, row: usize) -> Option<&Sheet>
     if sheet.start <= row { Some(sheet) } else { None }
 }
 
+fn sheet_at(sheets: &[Sheet], place: usize) -> Option<&Sheet>
+    ensures { option_copied result ≡ slice_get sheets.now place }
+{
+    sheets.get(place)
+}
+
 /// The sheet with a row, by halves.
 fn sheet_of(sheets: &[Sheet], row: usize) -> Option<&Sheet>
     requires { AreInTurn sheets.now }
     ensures { option_copied result ≡ find (has_row row) sheets.now }
 {
-    if_begun(sheets.get(sheets_before(sheets, row)), row)
+    if_begun(sheet_at(sheets, sheets_before(sheets, row)), row)
 }
 
 /// The label of the sheet with a row.

@@ -7,4 +7,4 @@ pub returns : goal.returns
 returns c =
     let row = c.args.row in
     let sheets = c.args.sheets.now in
-    c.if_begun.ensures ∙ ap (if_begun row) c.get.ensures.lookup ∙ sym (find-place row sheets c.sheets_before.result c.requires c.sheets_before.ensures)
+    c.if_begun.ensures ∙ ap (if_begun row) c.sheet_at.ensures ∙ sym (find-place row sheets c.sheets_before.result c.requires c.sheets_before.ensures)
