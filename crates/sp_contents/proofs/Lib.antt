@@ -3,3 +3,4 @@ mod SheetFinds
 mod Counts
 mod Pushes
 mod EntryLaws
+mod SceneFacts
