@@ -1,9 +1,12 @@
 -- What the headings and the records of a state are.
 use Rattle.std.proofs.Common.{◌≡◌, List, Option, Some, None, length, map, filter, refl, sym, ap, ◌∙◌, subst}
-use Rattle.std.specs.Prelude.{AllPairs, IfSome, option_map}
+use Rattle.std.specs.Prelude.{All, AllPairs, IfSome, option_map}
 use Rattle.std.proofs.lemmas.List.{length-map}
-use Rattle.spec_text.specs.Lines.{line_texts}
-use Rattle.spec_script.specs.Stanzas.{blocks_of}
+use Rattle.spec_text.specs.Lines.{TextState, IsText, line_texts}
+use Rattle.spec_script.specs.Stanzas.{PlacedBlock, blocks_of}
+use Rattle.spec_script.specs.Elements.{PlacedLies}
+use Rattle.spec_script.proofs.BlockPlaces.{blocks_of-lie}
+use Rattle.spec_layout.proofs.RowLaws.{IsText-texts}
 use Rattle.spec_labels.specs.Labels.{Below}
 use Rattle.spec_labels.specs.Scenes.{SceneRecordOf, AreSceneRecords}
 use Rattle.spec_state.specs.State.{State}
@@ -28,3 +31,8 @@ labels-counted state = label-count (headings_of state.lines) state.scenes ∙ le
 
 pub gone-rises : (state : State) → IsWhole state → AllPairs Below (scenes_of state).gone
 gone-rises state whole = gone-rising (headings_of state.lines) state.scenes (scenes-are state state.scenes whole refl)
+
+-- The blocks of a text lie in it.
+pub lie-in : (text : TextState) (blocks : List PlacedBlock) → IsText text → blocks ≡ blocks_of (line_texts text.lines) → All (PlacedLies (line_texts text.lines)) blocks
+lie-in text blocks is same =
+    let are = IsText-texts text is in subst (All (PlacedLies (line_texts text.lines))) (sym same) (blocks_of-lie (line_texts text.lines) are.utf8 are.few).lie

@@ -19,6 +19,8 @@ pub fn outline_text(alloc: Global, script: &Script) -> Result<String, AllocError
     ensures { IfOk result (λ text. string_bytes text ≡ outline_of script.now) }
 {
     let lines = script.lines();
+    let _count = lines.len();
+    let _sheets = script.body_sheets();
     let blocks = placed_blocks(alloc, script.stanzas())?;
     let scenes = scenes_of(alloc, script, &blocks)?;
     let entries = entries_of(alloc, lines, &scenes, &blocks)?;

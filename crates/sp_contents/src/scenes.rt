@@ -104,6 +104,8 @@ pub(crate) fn scenes_of(
     requires { blocks.now ≡ blocks_of (line_texts script.now.lines) }
     ensures { IfOk result (λ scenes. scenes ≡ scenes_of script.now) }
 {
-    let headings = headings_among(alloc, script.lines(), blocks)?;
+    let lines = script.lines();
+    let _count = lines.len();
+    let headings = headings_among(alloc, lines, blocks)?;
     scenes_with(alloc, script, &headings)
 }
