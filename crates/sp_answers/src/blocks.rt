@@ -8,7 +8,7 @@ ghost use Rattle.spec_script.specs.BlockParts.{LineLies};
 ghost use Rattle.spec_script.specs.Elements.{PlacedLies, elements_in, is_speech_kind};
 ghost use Rattle.spec_script.specs.Runs.{RunParts};
 ghost use Rattle.spec_script.specs.Stanzas.{stanzas_of};
-ghost use Rattle.spec_layout.specs.Speakers.{shown_text, visible_text};
+ghost use Rattle.spec_layout.specs.Speakers.{first_text, shown_text, visible_text};
 ghost use Rattle.spec_machine.specs.Blocks.{block_reply, block_replies, element_replies, kind_name, written_number};
 ghost use Rattle.sp_answers.specs.Numbers.{parts_text};
 ghost use Rattle.sp_answers.specs.Pairs.{is_second, opens_pair};
@@ -86,8 +86,9 @@ fn shown_text(alloc: Global, text: &str, runs: &[Run]) -> Result<String, AllocEr
     Ok(shown)
 }
 
-/// The number that is written in a block's line.
-fn written_number(
+/// The number that is written in the line of a block that lies in the lines; None where there is none. `AllocError` comes
+/// for want of memory alone.
+pub fn written_number(
     alloc: Global,
     lines: &Lines,
     placed: &PlacedBlock<'_>,
@@ -117,6 +118,23 @@ fn visible_text(
 {
     let text = lines.line(first + line.offset as usize).text;
     shown_text(alloc, text, &line.runs)
+}
+
+/// The visible text of the first line of a block that lies in the lines; empty where it has none. `AllocError` comes for
+/// want of memory alone.
+pub fn first_text(
+    alloc: Global,
+    lines: &Lines,
+    placed: &PlacedBlock<'_>,
+) -> Result<String, AllocError>
+    requires { PlacedLies (line_texts lines.now.lines) placed.now }
+    ensures { IfOk result (λ text. string_bytes text ≡ first_text (line_texts lines.now.lines) placed.now.first placed.now.block.lines) }
+{
+    let block = placed.block;
+    match block.lines.first() {
+        Some(line) => visible_text(alloc, lines, placed.first, line),
+        None => Ok(String::new(alloc)),
+    }
 }
 
 /// The visible texts of lines of a block.

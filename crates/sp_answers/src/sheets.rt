@@ -1,18 +1,32 @@
 //! A sheet and its label, as replies tell them.
 ghost use Rattle.std.specs.Prelude.{◌≡◌, string_bytes, IfOk};
 ghost use Rattle.std.specs.Str.{IsUtf8};
+ghost use Rattle.spec_labels.specs.Labels.{label_text};
 ghost use Rattle.spec_print.specs.Sheets.{sheet_bytes, sheet_label_text};
 ghost use Rattle.spec_machine.specs.Answers.{label_of_sheet, sheet_reply};
 ghost use Rattle.sp_print.specs.Views.{label_of};
 ghost use Rattle.sp_wire.specs.Values.{reply_of};
 
 use crate::growing::GrowingSink;
+use sp_labels::{Label, write};
 use sp_print::{PageView, SheetLabel, print_sheet, write_sheet_label};
 use sp_wire::Reply;
 use std::alloc::{AllocError, Global};
 
-/// The label of a sheet, written.
-fn label_text(alloc: Global, label: SheetLabel<'_>) -> Result<String, AllocError>
+/// A scene number as it is written (docs/RULES.md, "Labels"). `AllocError` comes for want of memory alone.
+pub fn scene_label_text(alloc: Global, label: &Label) -> Result<String, AllocError>
+    ensures { IfOk result (λ text. string_bytes text ≡ label_text label.now) }
+{
+    let mut sink = GrowingSink::new(alloc);
+    match write(label, &mut sink) {
+        Ok(()) => Ok(sink.into_text()),
+        Err(_) => Err(AllocError),
+    }
+}
+
+/// The label of a sheet as it is written, without its full stop (docs/RULES.md, "Sheets"). `AllocError` comes for want of
+/// memory alone.
+pub fn sheet_label_text(alloc: Global, label: SheetLabel<'_>) -> Result<String, AllocError>
     ensures { IfOk result (λ text. string_bytes text ≡ sheet_label_text (label_of label.entry)) }
 {
     let mut sink = GrowingSink::new(alloc);
@@ -40,7 +54,7 @@ pub fn sheet_label(alloc: Global, page: &PageView<'_>) -> Result<String, AllocEr
     ensures { IfOk result (λ text. string_bytes text ≡ label_of_sheet page.now) }
 {
     match page.label() {
-        Some(label) => label_text(alloc, label),
+        Some(label) => sheet_label_text(alloc, label),
         None => Ok(String::new(alloc)),
     }
 }

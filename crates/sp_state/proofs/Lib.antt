@@ -2,7 +2,7 @@ mod Sorting
 mod MarkedLaws
 mod HeadingMade
 mod PageRows
-mod SheetPlaces
+pub mod SheetPlaces
 mod MadeLaws
 mod RaisedLaws
 mod CarriedLaws

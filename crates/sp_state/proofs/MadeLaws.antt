@@ -46,7 +46,7 @@ labels-are items (Some records) lines headings is = ap (λ those. Some (locked_l
 pub count-rows : (state : State) → length (rows_in state) ≡ row_count (layout_in state).body
 count-rows state = length-shown_rows state.lines (heading_labels state.lines state.scenes) (layout_in state).body
 
-same-shapes : (state : State) → map shape_of (rows_in state) ≡ shapes_in (layout_in state).body
+pub same-shapes : (state : State) → map shape_of (rows_in state) ≡ shapes_in (layout_in state).body
 same-shapes state = shown_rows-shapes state.lines (heading_labels state.lines state.scenes) (layout_in state).body
 
 -- What the starts of page records ask for.

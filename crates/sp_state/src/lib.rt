@@ -17,4 +17,5 @@ mod views;
 
 pub use entry::{Entry, Unturned, redo_entry, undo_entry};
 pub use fault::OpeningFault;
+pub use headings::headings_among;
 pub use script::Script;

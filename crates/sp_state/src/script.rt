@@ -1,5 +1,5 @@
 //! A state and its sheets.
-ghost use Rattle.std.specs.Prelude.{◌≡◌, ◌≤◌, [], Some, length, slice_get, IfErr, IfSome, IfNone, IfOk, OnOk, OnErr};
+ghost use Rattle.std.specs.Prelude.{◌≡◌, ◌≤◌, [], Some, length, map, slice_get, IfErr, IfSome, IfNone, IfOk, OnOk, OnErr};
 ghost use Rattle.spec_text.specs.Lines.{line_texts, read_lines};
 ghost use Rattle.spec_text.specs.Edits.{refusal_of, replacement_of};
 ghost use Rattle.spec_text.specs.Ranges.{range_of};
@@ -11,7 +11,8 @@ ghost use Rattle.spec_machine.specs.Refusals.{pages_refusal, round_refusal, scen
 ghost use Rattle.sp_text.specs.Changing.{Refuses, edit_of};
 ghost use Rattle.spec_state.specs.Keeping.{IsWhole, records_of, state_of};
 ghost use Rattle.sp_text.specs.Gap.{text_of};
-ghost use Rattle.spec_state.specs.StateSheets.{sheets_of_state};
+ghost use Rattle.spec_layout.specs.Shown.{shape_of};
+ghost use Rattle.spec_state.specs.StateSheets.{body_sheets, rows_in, sheets_of_state};
 ghost use Rattle.sp_state.specs.Openings.{IsOpening};
 ghost use Rattle.sp_state.specs.Entries.{CanRedo, CanUndo, IsSameEntry, LeadsBack, LeadsForth, done_range, redone_state, undone_range, undone_state};
 
@@ -20,13 +21,14 @@ use crate::entry::{Entry, Unturned};
 use crate::fault::OpeningFault;
 use crate::locking::{lock_pages_made, lock_scenes_made, next_round_made};
 use crate::made::{Made, make};
-use crate::views::{made_sheet, made_title, sheet_count, title_count};
+use crate::views::{body_shapes, made_sheet, made_title, sheet_count, title_count};
 use sp_kit::Steps;
+use sp_locks::Sheet;
 use sp_print::PageView;
 use sp_records::Records;
 use sp_reread::Stanzas;
 use sp_text::{Edit, EditFault, Lines};
-use spec_pages::Paper;
+use spec_pages::{Paper, Shape};
 use std::alloc::{AllocError, Global};
 use std::marker::Model;
 
@@ -115,6 +117,21 @@ impl Script {
         ensures { result.now.stanzas ≡ stanzas_of (line_texts self.now.lines) }
     {
         &self.made.stanzas
+    }
+
+    /// Lends what page ends see of each row of its body (docs/RULES.md, "Pages").
+    pub fn shapes(&self) -> &[Shape]
+        ensures { result.now ≡ map shape_of (rows_in self.now) }
+    {
+        body_shapes(&self.made)
+    }
+
+    /// Lends the sheets of its body, by the places of their rows. The state keeps the rules of a state.
+    pub fn body_sheets(&self) -> &[Sheet]
+        ensures sheets { result.now ≡ body_sheets self.now }
+        ensures whole { IsWhole self.now }
+    {
+        &self.made.sheets
     }
 
     /// How many sheets it has, those of its title page counted. Takes no memory.

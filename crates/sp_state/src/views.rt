@@ -8,7 +8,7 @@ ghost use Rattle.spec_layout.specs.Layout.{placed_in};
 ghost use Rattle.spec_layout.specs.Shown.{labels_past, shown_rows};
 ghost use Rattle.spec_print.specs.PageRows.{page_body};
 ghost use Rattle.spec_state.specs.StateSheets.{shown_sheet, title_sheet};
-ghost use Rattle.sp_layout.specs.Bodies.{row_count};
+ghost use Rattle.sp_layout.specs.Bodies.{row_count, shapes_in};
 ghost use Rattle.sp_print.specs.Views.{label_of};
 ghost use Rattle.sp_state.specs.Places.{HasPlaces, sheet_shown, title_at};
 
@@ -19,6 +19,7 @@ use sp_layout::Body;
 use sp_locks::Sheet;
 use sp_print::{PageView, SheetLabel};
 use sp_text::Lines;
+use spec_pages::Shape;
 
 /// The labels, where there are some.
 fn lent_labels(labels: &Option<Vec<Label>>) -> Option<&[Label]>
@@ -125,6 +126,13 @@ fn body_view<'a>(
         Some(label),
         sheet.round,
     )
+}
+
+/// What page ends see of each row of the body.
+pub(crate) fn body_shapes(made: &Made) -> &[Shape]
+    ensures { result.now ≡ shapes_in made.now.body }
+{
+    made.body.shapes()
 }
 
 /// How many title sheets there are.

@@ -2,7 +2,7 @@
 use Rattle.std.specs.Prelude.{ℕ, List, [], length, map, slice_get, Option, Some, None}
 use Rattle.std.specs.Option.{option_map_or}
 use Rattle.spec_text.specs.Lines.{line_texts}
-use Rattle.spec_wire.specs.Commands.{CommandOf, edit, undo, redo, lock_scenes, lock_pages, next_round, sheet, labels, blocks, speakers, paper, unknown_command}
+use Rattle.spec_wire.specs.Commands.{CommandOf, edit, undo, redo, lock_scenes, lock_pages, next_round, sheet, labels, blocks, outline, speakers, paper, unknown_command}
 use Rattle.spec_wire.specs.Replies as replies
 use Rattle.spec_wire.specs.Replies.{ReplyOf, RefusalOf, refused, edited, set, scenes, pages, round}
 use Rattle.spec_print.specs.Rounds.{round_name}
@@ -12,6 +12,7 @@ use Rattle.spec_state.specs.StateSheets.{sheets_of_state}
 use Rattle.spec_machine.specs.Machine.{Memory, memory_after}
 use Rattle.spec_machine.specs.Refusals.{refusal_to}
 use Rattle.spec_machine.specs.Blocks.{block_replies}
+use Rattle.spec_machine.specs.Outlines.{outline_of}
 
 -- How many records there are.
 abbrev pub record_count : {X : Type 0} → Option (List X) → ℕ
@@ -52,6 +53,7 @@ accepted_reply memory after (paper size) = set (sheet_count after)
 accepted_reply memory after (sheet index) = found_sheet (slice_get (sheets_of_state after) index)
 accepted_reply memory after labels = replies.labels (map label_of_sheet (sheets_of_state after))
 accepted_reply memory after blocks = replies.blocks (block_replies (line_texts after.lines))
+accepted_reply memory after outline = replies.outline (outline_of after)
 accepted_reply memory after _ = refused (replies.unreadable unknown_command)
 
 -- What becomes of a memory by a command, and the reply: a refused command changes nothing.

@@ -4,4 +4,5 @@ pub mod LabelPromises
 pub mod SheetPromises
 pub mod Refusals
 pub mod Blocks
+pub mod Outlines
 pub mod Answers

@@ -1,0 +1,61 @@
+-- Headings and their labels, rows and records.
+use Rattle.std.proofs.Common.{◌≡◌, ℕ, suc, ◌+◌, ◌==◌, ◌&&◌, ◌||◌, Bool, true, false, cond, not, Option, Some, None, List, [], ◌∷◌, ◌++◌, length, map, filter, refl, sym, ap, ◌∙◌, arith, append-nil}
+use Rattle.std.specs.Prelude.{All, AllPairs, unwrap_or, IfSome}
+use Rattle.std.proofs.lemmas.List.{length-map}
+use Rattle.std.proofs.lemmas.List.Elements.{All-nil, All-cons, All-head, All-tail}
+use Rattle.std.proofs.lemmas.List.Kept.{AllPairs-filter, AllPairs-cons}
+use Rattle.spec_text.proofs.ListLaws.{pairs-head, pairs-tail}
+use Rattle.spec_labels.specs.Labels.{LabelOf, plain_label, Below, Rising}
+use Rattle.spec_labels.specs.Scenes.{HeadingOf, SceneRecordOf, AreSceneRecords, numbers_after, unlocked_labels, labels_since, record_place, record_places, locked_labels, scene_labels}
+use Rattle.spec_pages.specs.declared.Shape.{Shape}
+use Rattle.spec_machine.specs.Outlines.{begins_heading, heading_rows, is_gone, gone_labels}
+
+length-after : (before : ℕ) (headings : List HeadingOf) → length (numbers_after before headings) ≡ length headings
+length-after before [] = refl
+length-after before (heading ∷ later) = ap suc (length-after (unwrap_or heading.number (plain_label (before + 1))).number later)
+
+length-since : (records : List SceneRecordOf) (since : ℕ) (places : List (Option ℕ)) → length (labels_since records since places) ≡ length places
+length-since records since [] = refl
+length-since records since (Some place ∷ later) = ap suc (length-since records 0 later)
+length-since records since (None ∷ later) = ap suc (length-since records (since + 1) later)
+
+-- Each heading has one label.
+pub label-count : (headings : List HeadingOf) (scenes : Option (List SceneRecordOf)) → length (scene_labels headings scenes) ≡ length headings
+label-count headings None = length-after 0 headings
+label-count headings (Some records) = length-since records 0 (record_places records headings) ∙ length-map headings (record_place records)
+
+-- One more row.
+pub heading_rows-push : (row : ℕ) (shapes : List Shape) (shape : Shape) → heading_rows row (shapes ++ shape ∷ []) ≡ heading_rows row shapes ++ cond (begins_heading shape) ((row + length shapes) ∷ []) []
+heading_rows-push row [] shape = by (begins_heading shape)
+  where
+    by : (b : Bool) → cond b (row ∷ []) [] ≡ cond b ((row + 0) ∷ []) []
+    by true = ap (λ n. n ∷ []) (omega arith)
+    by false = refl
+heading_rows-push row (first ∷ shapes) shape =
+    by (begins_heading first) (heading_rows-push (row + 1) shapes shape)
+    ∙ ap (λ n. heading_rows row (first ∷ shapes) ++ cond (begins_heading shape) (n ∷ []) []) (omega arith)
+  where
+    behind : List ℕ
+    behind = cond (begins_heading shape) ((row + 1 + length shapes) ∷ []) []
+
+    by : (b : Bool) → heading_rows (row + 1) (shapes ++ shape ∷ []) ≡ heading_rows (row + 1) shapes ++ behind
+        → cond b (row ∷ heading_rows (row + 1) (shapes ++ shape ∷ [])) (heading_rows (row + 1) (shapes ++ shape ∷ [])) ≡ cond b (row ∷ heading_rows (row + 1) shapes) (heading_rows (row + 1) shapes) ++ behind
+    by true rest = ap (λ rows. row ∷ rows) rest
+    by false rest = rest
+
+all-mapped : (f : SceneRecordOf → LabelOf) (one : LabelOf) (xs : List SceneRecordOf) → All (λ (it : SceneRecordOf). Below one (f it)) xs → All (Below one) (map f xs)
+all-mapped f one [] all = All-nil (Below one)
+all-mapped f one (x ∷ xs) all =
+    All-cons (Below one) (f x) (map f xs) (All-head (λ (it : SceneRecordOf). Below one (f it)) x xs all) (all-mapped f one xs (All-tail (λ (it : SceneRecordOf). Below one (f it)) x xs all))
+
+mapped : (f : SceneRecordOf → LabelOf) (xs : List SceneRecordOf) → AllPairs (λ (one other : SceneRecordOf). Below (f one) (f other)) xs → AllPairs Below (map f xs)
+mapped f [] pairs = λ i j d low below. absurd (omega (arith, below))
+mapped f (x ∷ xs) pairs =
+    let R : SceneRecordOf → SceneRecordOf → Type 0 = λ one other. Below (f one) (f other) in
+    AllPairs-cons Below (f x) (map f xs) (all-mapped f (f x) xs (pairs-head R x xs pairs)) (mapped f xs (pairs-tail R x xs pairs))
+
+-- The labels of scenes that are gone rise.
+pub gone-rising : (headings : List HeadingOf) (scenes : Option (List SceneRecordOf)) → IfSome scenes AreSceneRecords → AllPairs Below (gone_labels headings scenes)
+gone-rising headings None are = λ i j d low below. absurd (omega (arith, below))
+gone-rising headings (Some records) are =
+    mapped (λ (it : SceneRecordOf). it.label) (filter (is_gone headings) records) (AllPairs-filter (λ (one other : SceneRecordOf). Below one.label other.label) (is_gone headings) records are.rising)

@@ -1,0 +1,6 @@
+mod WalkLaws
+mod SheetFinds
+mod Counts
+mod Pushes
+mod EntryLaws
+mod SceneFacts

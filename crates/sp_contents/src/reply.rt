@@ -1,0 +1,37 @@
+//! The outline of a script.
+ghost use Rattle.std.specs.Prelude.{◌≡◌, string_bytes, IfOk};
+ghost use Rattle.spec_machine.specs.Outlines.{outline_of};
+ghost use Rattle.spec_wire.specs.Replies as replies;
+ghost use Rattle.sp_wire.specs.Values.{reply_of};
+
+use crate::entries::entries_of;
+use crate::names::speaker_names;
+use crate::scenes::scenes_of;
+use sp_layout::placed_blocks;
+use sp_outline::cast;
+use sp_state::Script;
+use sp_wire::Reply;
+use std::alloc::{AllocError, Global};
+
+/// The outline of a script with its cast, as text (docs/RULES.md, "Outline"). Time grows with the script and its records,
+/// but for look-ups by halves. `AllocError` comes for want of memory alone.
+pub fn outline_text(alloc: Global, script: &Script) -> Result<String, AllocError>
+    ensures { IfOk result (λ text. string_bytes text ≡ outline_of script.now) }
+{
+    let lines = script.lines();
+    let _count = lines.len();
+    let _sheets = script.body_sheets();
+    let blocks = placed_blocks(alloc, script.stanzas())?;
+    let scenes = scenes_of(alloc, script, &blocks)?;
+    let entries = entries_of(alloc, lines, &scenes, &blocks)?;
+    let names = speaker_names(alloc, lines, &blocks)?;
+    let cast = cast(alloc, &names)?;
+    sp_outline::outline_text(alloc, &entries, &cast)
+}
+
+/// The reply that tells the outline of a script (docs/RULES.md, "Replies"). `AllocError` comes for want of memory alone.
+pub fn outline_reply(alloc: Global, script: &Script) -> Result<Reply, AllocError>
+    ensures { IfOk result (λ reply. reply_of reply ≡ replies.outline (outline_of script.now)) }
+{
+    Ok(Reply::Outline(outline_text(alloc, script)?))
+}
