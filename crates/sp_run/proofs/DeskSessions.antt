@@ -13,13 +13,12 @@ use Rattle.spec_wire.specs.Lines.{command_of_line}
 use Rattle.spec_wire.specs.Replies.{reply_line}
 use Rattle.spec_machine.specs.Machine.{Memory, opened_memory}
 use Rattle.spec_machine.specs.Answers.{Step}
-use Rattle.sp_kit.specs.Causes.{Rose}
 use Rattle.sp_kit.specs.Files.{Files, ShelfState}
 use Rattle.sp_run.specs.Records.{records_name}
 use Rattle.sp_run.specs.Saving.{Changes, KeepsAllBut, PutBoth, files_of}
 use Rattle.sp_run.specs.DeskLines.{NamedDesk, AnswersLine, StopsAtLine, Stores, Leaves, asks_save, answered_line, answered_lines, seat, shelf_behind}
 use Rattle.std.specs.declared.option.Option.{Option}
-use Rattle.sp_run.specs.Forms.{Asked, desk}
+use Rattle.sp_run.specs.Forms.{desk}
 use Rattle.sp_run.specs.Opening.{SameShelf}
 use Rattle.sp_run.specs.Ending.{Outside, AnsweredAll, AnsweredCalmly, HeldSession, OpensDesk, DeskEnds}
 use Rattle.sp_run.specs.Statuses.{status_of_end}

@@ -1,10 +1,10 @@
 -- A script that was had, opened with what stands beside it, or why it isn't.
 use Rattle.std.proofs.Common.{◌≡◌, ℕ, List, Option, Some, None, refl, sym, ◌∙◌, subst, inr}
-use Rattle.std.specs.Prelude.{IfSome, IsSomeAnd, string_bytes}
+use Rattle.std.specs.Prelude.{IfSome, IsSomeAnd}
 use Rattle.std.proofs.KnownBytes.{Keeps-refl}
 use Rattle.spec_text.specs.Lines.{line_texts}
 use Rattle.spec_state.specs.State.{State}
-use Rattle.spec_state.specs.Printing.{too_long, no_utf8, long_line, printing_of}
+use Rattle.spec_state.specs.Printing.{too_long, printing_of}
 use Rattle.sp_kit.specs.Causes.{Rose}
 use Rattle.sp_kit.specs.Files.{Files, ShelfState}
 use Rattle.sp_kit.specs.Outside.{SourceState, SinkState}
@@ -13,9 +13,9 @@ use Rattle.sp_text.specs.declared.fault.TextFault.TheVariants as faults
 use Rattle.sp_run.specs.declared.status.Status.{Status}
 use Rattle.sp_run.specs.declared.status.Status.TheVariants as statuses
 use Rattle.sp_run.specs.Forms.{OriginOf, from_source, from_file}
-use Rattle.sp_run.specs.Records.{records_name, OpensAs}
-use Rattle.sp_run.specs.Opening.{SameShelf, HasScript, HadScript, HadTooLong, HadNone, Holds, HadState, HasState, OpensFresh, FoundBeside, NotBeside}
-use Rattle.sp_run.specs.Ending.{HasLines, Outside, outside, WroteNothing, NotOpened, OpensDesk, Refuses, Unopened}
+use Rattle.sp_run.specs.Records.{records_name}
+use Rattle.sp_run.specs.Opening.{SameShelf, HadScript, HadTooLong, HadNone, Holds, HadState, HasState, OpensFresh, FoundBeside, NotBeside}
+use Rattle.sp_run.specs.Ending.{HasLines, outside, WroteNothing, NotOpened, Refuses, Unopened}
 use Rattle.sp_run.proofs.PrintEnds.{had-whole}
 
 -- ---- had

@@ -1,12 +1,12 @@
 -- Lines that were read, and the records that stand beside them.
-use Rattle.std.proofs.Common.{◌≡◌, ℕ, ◌+◌, ◌<◌, ◌||◌, List, [], length, Option, Some, None, refl, sym, ap, ◌∙◌, subst, replicate, arith}
-use Rattle.std.specs.Prelude.{Bool, true, not, nat_lt, if◌then◌else◌, IfErr, IfOk, IfSome, IsErrAnd, IsSomeAnd, Ok, Err, option_map, option_and_then, is_some, string_bytes}
+use Rattle.std.proofs.Common.{◌≡◌, ℕ, ◌+◌, ◌<◌, List, [], length, Option, Some, None, refl, sym, ap, ◌∙◌, subst, replicate, arith}
+use Rattle.std.specs.Prelude.{IfErr, IfOk, IfSome, IsErrAnd, IsSomeAnd, Ok, Err, option_map, string_bytes}
 use Rattle.std.specs.declared.result.Result.{Result}
 use Rattle.std.proofs.lemmas.Bool.{lt-ltb}
 use Rattle.std.proofs.lemmas.List.{length-map, length-replicate}
-use Rattle.spec_text.specs.Lines.{LineState, TextState, IsText, line_texts, lines_from, read_lines}
-use Rattle.spec_records.specs.Kept.{RecordsOf, KeptOf, kept_of}
-use Rattle.spec_records.specs.RecordFile.{Form, formed, broken, IsRecordFile, IsMismatch, IsRefused, early, digest_of, file_limit, file_in, version_in, form_of}
+use Rattle.spec_text.specs.Lines.{LineState, TextState, IsText, line_texts, read_lines}
+use Rattle.spec_records.specs.Kept.{RecordsOf, kept_of}
+use Rattle.spec_records.specs.RecordFile.{broken, IsRecordFile, IsMismatch, IsRefused, early, digest_of, file_limit, form_of}
 use Rattle.spec_state.specs.State.{State, opened_state}
 use Rattle.spec_state.specs.State as states
 use Rattle.spec_state.specs.Keeping.{IsWhole, records_of, state_of}
@@ -17,12 +17,11 @@ use Rattle.sp_text.specs.Gap.{LinesState, text_of}
 use Rattle.sp_records.specs.Judging.{IsRelabelled, IsDecoding}
 use Rattle.sp_records.specs.declared.fault.RecordsFault.{RecordsFault}
 use Rattle.sp_records.specs.declared.fault.RecordsFault.TheVariants as records_faults
-use Rattle.sp_text.specs.declared.fault.TextFault.{TextFault}
 use Rattle.sp_run.specs.declared.status.Status.{Status}
 use Rattle.sp_run.specs.declared.status.Status.TheVariants as statuses
-use Rattle.sp_run.specs.Records.{records_name, OpensLines, RefusesBeside}
-use Rattle.sp_run.specs.Opening.{AreFresh, OpensFresh, RefusesFresh, FoundBeside, RefusedBeside, NotBeside}
-use Rattle.sp_run.specs.Fetching.{FetchFinds, FetchedRecords, NoRecords}
+use Rattle.sp_run.specs.Records.{records_name, RefusesBeside}
+use Rattle.sp_run.specs.Opening.{AreFresh, OpensFresh, RefusesFresh, FoundBeside, NotBeside}
+use Rattle.sp_run.specs.Fetching.{FetchedRecords, NoRecords}
 use Rattle.sp_run.specs.Statuses.{status_of_records}
 
 -- A status that an answer carries.

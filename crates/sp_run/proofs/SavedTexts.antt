@@ -1,5 +1,5 @@
 -- What a save stores of a state opens as that state again.
-use Rattle.std.proofs.Common.{◌≡◌, ℕ, zero, suc, ◌+◌, ◌<◌, ◌≤◌, cond, ltb, nat_lt, List, [], ◌∷◌, ◌++◌, length, map, Option, Some, None, option_map, unwrap_or, refl, sym, ap, ◌∙◌, subst, arith, length-append}
+use Rattle.std.proofs.Common.{◌≡◌, ℕ, zero, suc, ◌+◌, ◌<◌, ◌≤◌, cond, ltb, List, [], ◌∷◌, ◌++◌, length, Option, Some, None, option_map, unwrap_or, refl, sym, ap, ◌∙◌, arith, length-append}
 use Rattle.std.specs.Prelude.{All, slice_index}
 use Rattle.std.specs.List.{position_from, sum_by}
 use Rattle.std.specs.Str.{IsUtf8}
@@ -7,8 +7,8 @@ use Rattle.std.proofs.lemmas.Bool.{le-ltb, or_from}
 use Rattle.std.proofs.lemmas.Iterator.Adapters.{position_from-zero}
 use Rattle.std.proofs.lemmas.List.Sums.{sum_by-cons}
 use Rattle.std.proofs.lemmas.Str.{IsUtf8-nil, IsUtf8-append, IsUtf8-from_ascii}
-use Rattle.spec_text.specs.Limits.{line_limit, line_count_limit, size_limit, raw_limit}
-use Rattle.spec_text.specs.Lines.{LineState, TextState, IsText, IsClean, Reading, text_full, line_full, lines as all_lines, is_too_much, is_long, first_long, line_size, line_texts, lines_from, read_lines, size_of, text_bytes, text_size, texts_of, reading_of_texts, reading_of}
+use Rattle.spec_text.specs.Limits.{line_limit, line_count_limit, size_limit}
+use Rattle.spec_text.specs.Lines.{LineState, TextState, IsText, IsClean, Reading, text_full, line_full, lines as all_lines, is_too_much, is_long, first_long, line_size, line_texts, lines_from, read_lines, size_of, text_bytes, text_size, reading_of_texts, reading_of}
 use Rattle.spec_text.proofs.TextLaws.{texts_of-text_bytes}
 use Rattle.spec_records.specs.RecordFile.{written}
 use Rattle.spec_state.specs.State.{State, text_of}

@@ -1,9 +1,9 @@
 -- Two stores, and what a save leaves.
-use Rattle.std.proofs.Common.{◌≡◌, ◌≢◌, ℕ, ◌+◌, ◌-◌, ◌^◌, ◌<◌, ◌≤◌, ◌⊎◌, inl, inr, List, [], ◌∷◌, ◌++◌, length, Option, Some, None, refl, sym, ap, ◌∙◌, subst, arith, length-append}
+use Rattle.std.proofs.Common.{◌≡◌, ◌≢◌, ℕ, ◌≤◌, ◌⊎◌, inl, inr, List, length, Option, Some, None, refl, sym, ap, ◌∙◌, subst, arith, length-append}
 use Rattle.std.specs.Prelude.{Bool, true, false, OnErr, codes, Ok, Err, if◌then◌else◌}
 use Rattle.std.specs.declared.result.Result.{Result}
 use Rattle.spec_text.specs.Lines.{text_bytes}
-use Rattle.spec_records.specs.RecordFile.{digest_of, written}
+use Rattle.spec_records.specs.RecordFile.{written}
 use Rattle.spec_state.specs.State.{State}
 use Rattle.spec_state.specs.Keeping.{state_kept}
 use Rattle.spec_wire.specs.Commands.{CommandOf, FaultOf}
@@ -16,8 +16,8 @@ use Rattle.sp_kit.specs.Files.{Files, ShelfState, KeepsOthers, StoreLeaves, HasS
 use Rattle.sp_kit.specs.declared.shelf.ShelfFault.{ShelfFault}
 use Rattle.sp_kit.specs.declared.shelf.ShelfFault.TheVariants as shelf_faults
 use Rattle.sp_run.specs.Records.{records_name}
-use Rattle.sp_run.specs.Saving.{Changes, KeepsAllBut, TwoFiles, files_of, PutBoth, PutFirst, StoredBoth, StoreFailed, LeftBoth, StoreLeft, StoresBoth, SavesState, RepliesToSave}
-use Rattle.sp_run.specs.DeskLines.{NamedDesk, seat, is_save, asks_save, saved_step, line_step_by, Stores, IsDone, IsUnsaved, RepliesTo, Leaves, StopsAt}
+use Rattle.sp_run.specs.Saving.{Changes, KeepsAllBut, TwoFiles, files_of, PutBoth, PutFirst, StoredBoth, StoreFailed, LeftBoth, StoreLeft, StoresBoth, RepliesToSave}
+use Rattle.sp_run.specs.DeskLines.{NamedDesk, seat, is_save, asks_save, saved_step, line_step_by, Stores, RepliesTo, Leaves, StopsAt}
 
 -- The record file doesn't stand under the script's name.
 pub names-differ : (name : List ℕ) → name ≢ records_name name

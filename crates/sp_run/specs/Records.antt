@@ -1,5 +1,5 @@
 -- What a script and the records beside it open as (docs/RULES.md, "Record file" and "The program").
-use Rattle.std.specs.Prelude.{◌≡◌, ◌≢◌, ℕ, List, ◌++◌, codes, string_bytes, Option, Some, None}
+use Rattle.std.specs.Prelude.{◌≡◌, ℕ, List, ◌++◌, codes, string_bytes, Option, Some, None}
 use Rattle.spec_text.specs.Lines.{lines, reading_of, read_lines}
 use Rattle.spec_records.specs.Kept.{KeptOf}
 use Rattle.spec_records.specs.RecordFile.{IsRecordFile, IsMismatch, IsRefused, digest_of}

@@ -64,7 +64,7 @@ fn records_that_are_none_are_told(rt: HostRuntime) -> Result<(), Fail> {
         (EMPTY, "\"round\":0", "\"round\":100", 4),
         (EMPTY, "\"pages\":null", "\"pages\":[[\"1\",null,0,0]]", 6),
         (EMPTY, "fountain-desk", "fountain", 2),
-        (EMPTY, "}}", "}", 1),
+        (EMPTY, "\"version\":2}", "\"version\":2", 1),
     ];
     for (file, old, new, rule) in cases {
         let Some((before, behind)) = file.split_once(old) else {

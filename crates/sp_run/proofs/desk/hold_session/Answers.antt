@@ -1,4 +1,4 @@
-use Rattle.std.proofs.Common.{ℕ, List, sym, ap, refl, subst}
+use Rattle.std.proofs.Common.{sym, ap, refl, subst}
 use Rattle.spec_session.specs.Runs.{at_shelf}
 use Rattle.spec_session.specs.Sessions.{SessionEnds, streams}
 use Rattle.std.specs.declared.option.Option.{Option}

@@ -1,4 +1,3 @@
-use Rattle.std.proofs.Common.{List, ℕ}
 use Rattle.spec_text.specs.Lines.{line_texts}
 use Rattle.spec_state.specs.Keeping.{state_of}
 use Rattle.sp_text.specs.Gap.{text_of}

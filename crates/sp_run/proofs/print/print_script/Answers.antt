@@ -1,8 +1,6 @@
 use Rattle.std.proofs.Common.{sym, subst}
-use Rattle.spec_state.specs.State.{State}
 use Rattle.sp_run.specs.Forms.{origin_of}
 use Rattle.sp_run.specs.Opening.{HadState}
-use Rattle.sp_run.specs.Ending.{outside}
 use Rattle.sp_run.specs.declared.status.Status.TheVariants as statuses
 use Rattle.sp_run.proofs.Opened.{had-unopened}
 use Rattle.sp_run.proofs.PrintEnds.{err-ends, print-ends}
