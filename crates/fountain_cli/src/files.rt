@@ -7,9 +7,12 @@ ghost use Rattle.sp_kit.specs.Files.{FetchesAtMost, FetchGives};
 
 use sp_kit::{Fetched, Shelf, ShelfFault};
 use std::alloc::Global;
-use std::fs;
+use std::fs::{self, File, OpenFile, OpenOptions, Permissions};
 use std::io::{self, ErrorKind, Read, Write};
 use std::rt::Files;
+
+/// How many names are tried for a file that is written beside another.
+const TRIES: u32 = 100;
 
 /// The files of the system, each under its path.
 #[derive(Drop)]
@@ -61,6 +64,75 @@ fn write_file<W: Write>(file: &mut W, bytes: &[u8]) -> io::Result<()>
     file.write_all(bytes)
 }
 
+/// The permissions of the file of this name, which may be written; none where there is no such file.
+fn kept_permissions<R: Files>(system: &R, name: &str) -> io::Result<Option<Permissions>> {
+    match OpenOptions::new().write(true).open(system, name) {
+        Ok(file) => {
+            let metadata = file.metadata()?;
+            if metadata.is_file() {
+                Ok(Some(metadata.permissions()))
+            } else {
+                Err(io::Error::from(ErrorKind::InvalidInput))
+            }
+        }
+        Err(error) if error.kind() == ErrorKind::NotFound => Ok(None),
+        Err(error) => Err(error),
+    }
+}
+
+/// A file that wasn't there, beside the one of this name, and its own name.
+fn create_beside<R: Files>(system: &R, alloc: Global, name: &str) -> io::Result<(R::File, String)> {
+    for number in 0..TRIES {
+        let beside = format!(in alloc; "{name}.saving{number}")?;
+        match File::create_new(system, beside.as_str()) {
+            Ok(file) => return Ok((file, beside)),
+            Err(error) if error.kind() == ErrorKind::AlreadyExists => {}
+            Err(error) => return Err(error),
+        }
+    }
+    Err(io::Error::from(ErrorKind::AlreadyExists))
+}
+
+/// Writes all of the bytes to a new file, with these permissions where the system gives them, and through to the disk.
+fn fill_file<W: Write + OpenFile + Drop>(
+    file: W,
+    permissions: Option<Permissions>,
+    bytes: &[u8],
+) -> io::Result<()> {
+    let mut file = file;
+    write_file(&mut file, bytes)?;
+    if let Some(permissions) = permissions {
+        let _ = file.set_permissions(permissions);
+    }
+    file.flush()?;
+    file.sync_all()
+}
+
+/// Puts the bytes into a file that takes the place of the one of this name.
+fn replace_file<R: Files>(system: &R, alloc: Global, name: &str, bytes: &[u8]) -> io::Result<()> {
+    let permissions = kept_permissions(system, name)?;
+    let (file, beside) = create_beside(system, alloc, name)?;
+    let placed = match fill_file(file, permissions, bytes) {
+        Ok(()) => fs::rename(system, beside.as_str(), name),
+        Err(error) => Err(error),
+    };
+    if placed.is_err() {
+        let _ = fs::remove_file(system, beside.as_str());
+    }
+    placed
+}
+
+/// The same by the name that links lead to.
+fn store_file<R: Files>(system: &R, alloc: Global, name: &str, bytes: &[u8]) -> io::Result<()> {
+    match system.canonicalize(alloc, name) {
+        Ok(path) => replace_file(system, alloc, path.as_path().as_str(), bytes),
+        Err(error) if error.kind() == ErrorKind::NotFound => {
+            replace_file(system, alloc, name, bytes)
+        }
+        Err(error) => Err(error),
+    }
+}
+
 impl<'a, R: Files> Shelf for FileShelf<'a, R> {
     ghost use Rattle.std.specs.declared.option.Option.TheVariants.{None};
 
@@ -85,16 +157,10 @@ impl<'a, R: Files> Shelf for FileShelf<'a, R> {
         }
     }
 
-    /// Makes the file anew. Once it is made, want of memory is a failure too, since the file has changed.
+    /// Writes the bytes beside the file first, and then puts them in its place. Where it fails the file is as it was, or
+    /// has the bytes.
     fn store(&mut self, name: &str, bytes: &[u8]) -> Result<(), ShelfFault> {
-        let mut file = match fs::create(self.system, name) {
-            Ok(file) => file,
-            Err(error) if error.kind() == ErrorKind::OutOfMemory => {
-                return Err(ShelfFault::NoMemory);
-            }
-            Err(_) => return Err(failed(&mut self.faults)),
-        };
-        match write_file(&mut file, bytes) {
+        match store_file(self.system, self.alloc, name, bytes) {
             Ok(()) => Ok(()),
             Err(_) => Err(failed(&mut self.faults)),
         }

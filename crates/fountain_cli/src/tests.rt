@@ -1,5 +1,5 @@
 use super::*;
-use sp_kit::{MemorySink, MemorySource, Source};
+use sp_kit::{MemorySink, MemorySource, Shelf, ShelfFault, Source};
 use std::alloc::{AllocError, Global};
 use std::test::Fail;
 use std::{fs, process};
@@ -37,6 +37,11 @@ fn a_file_is_printed_by_its_name(rt: HostRuntime) -> Result<(), Fail> {
     );
     fs::write(&rt, name.as_str(), "!Hello.")?;
     let (status, bytes) = printed(&rt, name.as_str())?;
+    let mut shelf = FileShelf::new(alloc, &rt);
+    assert_eq!(rt; shelf.store(name.as_str(), b"!Again."), Ok(()));
+    assert_eq!(rt; fs::read(&rt, name.as_str())?.as_slice(), b"!Again.");
+    assert_eq!(rt; shelf.store(folder_name, b""), Err(ShelfFault::Failed));
+    assert_eq!(rt; shelf.store("a\0b", b""), Err(ShelfFault::Failed));
     fs::remove_file(&rt, name.as_str())?;
     assert_eq!(rt; status, Status::Done);
     let spaces = " ";

@@ -2,7 +2,7 @@ use std::alloc::AllocError;
 use thiserror::Error;
 
 /// Why bytes are no record file of a text (docs/RULES.md, "Record file").
-#[derive(Debug, Drop, Error)]
+#[derive(Debug, PartialEq, Eq, Drop, Error)]
 pub enum RecordsFault {
     /// It carries the first rule that is broken.
     #[error("bad records, rule {0}")]

@@ -1,31 +1,47 @@
 -- A session of a desk.
-use Rattle.std.proofs.Common.{◌≡◌, ℕ, List, [], ◌∷◌, inr, refl, ap, ap₂, ◌∙◌, subst}
+use Rattle.std.proofs.Common.{◌≡◌, ℕ, ◌-◌, ◌^◌, ◌<◌, ◌≤◌, List, [], ◌∷◌, inl, inr, refl, sym, ap, ap₂, ◌∙◌, subst, arith}
+use Rattle.std.specs.Prelude.{Bool, true, false, if◌then◌else◌}
 use Rattle.std.specs.Io.KnownBytes.{Appends}
 use Rattle.spec_session.specs.CommandLines.{command_lines}
-use Rattle.spec_session.specs.Runs.{Answered, Runs, output_of}
+use Rattle.spec_session.specs.Runs.{Answered, AtShelf, Runs, left_by, output_of, steps_seen}
 use Rattle.spec_session.specs.Sessions.{SessionEnds, streams}
 use Rattle.spec_session.specs.declared.SessionEnd.{SessionEnd}
 use Rattle.spec_session.specs.declared.SessionEnd.TheVariants as endings
+use Rattle.spec_session.proofs.KeepLaws.{ends-keep}
+use Rattle.spec_session.proofs.RunLaws.{output_of-seen}
+use Rattle.spec_wire.specs.Lines.{command_of_line}
+use Rattle.spec_wire.specs.Replies.{reply_line}
 use Rattle.spec_machine.specs.Machine.{Memory, opened_memory}
-use Rattle.spec_state.specs.State.{opened_state}
-use Rattle.sp_run.specs.DeskLines.{AnswersLine, StopsAtLine, answered_line, answered_lines}
-use Rattle.sp_run.specs.Ending.{Outside, AnsweredAll, HeldSession, OpensDesk, DeskEnds}
+use Rattle.spec_machine.specs.Answers.{Step}
+use Rattle.sp_kit.specs.Files.{Files, ShelfState}
+use Rattle.sp_run.specs.Records.{records_name}
+use Rattle.sp_run.specs.Saving.{Changes, KeepsAllBut, PutBoth, files_of}
+use Rattle.sp_run.specs.DeskLines.{NamedDesk, AnswersLine, StopsAtLine, Stores, Leaves, asks_save, answered_line, answered_lines, seat, shelf_behind}
+use Rattle.std.specs.declared.option.Option.{Option}
+use Rattle.sp_run.specs.Forms.{desk}
+use Rattle.sp_run.specs.Opening.{SameShelf}
+use Rattle.sp_run.specs.Ending.{Outside, AnsweredAll, AnsweredCalmly, HeldSession, OpensDesk, DeskEnds}
 use Rattle.sp_run.specs.Statuses.{status_of_end}
+use Rattle.sp_run.proofs.Answering.{not-risen}
+use Rattle.sp_run.proofs.Saves.{changes-map, changes-none, changes-then, failed-others, left-others, put-others}
 
 -- ---- how a session ends
 
+same-shelf : (old new : ShelfState) → SameShelf old new → new ≡ old
+same-shelf old new same = λ i. record { files = same.files i; faults = same.faults i }
+
 -- The session of a desk that was opened.
-pub session-held : (name : List ℕ) (old new : Outside) (memory after : Memory) (end : SessionEnd) → OpensDesk old.shelf new.shelf name memory
-    → SessionEnds AnswersLine StopsAtLine (streams old.source old.sink) (streams new.source new.sink) memory after end → HeldSession name old new end
-session-held name old new memory after end opens ends = record {
-  script = opens.script;
-  has = opens.has;
-  shelf = opens.same;
-  texts = opens.texts;
-  reads = opens.reads;
-  after = after;
-  ends = subst (λ (it : Memory). SessionEnds AnswersLine StopsAtLine (streams old.source old.sink) (streams new.source new.sink) it after end) opens.is ends;
-}
+pub session-held : (name : List ℕ) (old new : Outside) (between : ShelfState) (memory : Memory) (after : AtShelf NamedDesk) (end : SessionEnd) → OpensDesk old.shelf between name memory
+    → SessionEnds AnswersLine StopsAtLine (streams old.source old.sink) (streams new.source new.sink) (seat name memory between) after end → new.shelf ≡ after.shelf → HeldSession name old new end
+session-held name old new between memory after end opens ends left =
+    let same = same-shelf old.shelf between opens.same in record {
+      state = opens.state;
+      has = opens.has;
+      after = after;
+      ends = subst (λ (it : Memory). SessionEnds AnswersLine StopsAtLine (streams old.source old.sink) (streams new.source new.sink) (seat name it old.shelf) after end) opens.is
+          (subst (λ (it : ShelfState). SessionEnds AnswersLine StopsAtLine (streams old.source old.sink) (streams new.source new.sink) (seat name memory it) after end) same ends);
+      left = left;
+    }
 
 pub held-ends : (name : List ℕ) (old new : Outside) (end : SessionEnd) → HeldSession name old new end → DeskEnds name old new (status_of_end end)
 held-ends name old new endings.Done held = held
@@ -35,33 +51,164 @@ held-ends name old new endings.NoMemory held = inr held
 held-ends name old new (endings.CommandLong number) held = held
 held-ends name old new endings.InputFull held = held
 
--- ---- what was answered
+-- ---- the last save
 
--- Lines that were answered in order have the answers of the machine.
-pub runs-answered : (before : Memory) (lines : List (List ℕ)) (steps : List (Answered Memory)) → Runs AnswersLine before lines steps → steps ≡ answered_lines before lines
-runs-answered before [] [] runs = refl
-runs-answered before [] (step ∷ steps) runs = absurd runs
-runs-answered before (line ∷ lines) [] runs = absurd runs
-runs-answered before (line ∷ lines) (step ∷ steps) runs =
-    let first : step ≡ answered_line before line = runs.0 in
-    let later : steps ≡ answered_lines (answered_line before line).after lines =
-    runs-answered step.after lines steps runs.1 ∙ ap (λ (it : Answered Memory). answered_lines it.after lines) first in
-    ap₂ (λ (one : Answered Memory) (others : List (Answered Memory)). one ∷ others) first later
+-- A line that is no save leaves the shelf.
+other-kept : (before after : AtShelf NamedDesk) (line reply : List ℕ) → AnswersLine before line after reply → (if asks_save (command_of_line line) then after.shelf else before.shelf) ≡ after.shelf
+other-kept before after line reply (said, is, inl done) = stores-kept (asks_save (command_of_line line)) done.stores
+  where
+    stores-kept : (asks : Bool) → Stores asks before after → (if asks then after.shelf else before.shelf) ≡ after.shelf
+    stores-kept true stores = refl
+    stores-kept false stores = sym stores
+other-kept before after line reply (said, is, inr failed) = ap (λ (asks : Bool). if asks then after.shelf else before.shelf) failed.asks
+
+-- Lines that were answered leave the shelf as the last save of them did.
+runs-last : (before : AtShelf NamedDesk) (lines : List (List ℕ)) (steps : List (Answered (AtShelf NamedDesk))) → Runs AnswersLine before lines steps
+    → shelf_behind before.shelf lines steps ≡ (left_by before steps).shelf
+runs-last before [] [] runs = refl
+runs-last before [] (step ∷ steps) runs = absurd runs
+runs-last before (line ∷ lines) [] runs = absurd runs
+runs-last before (line ∷ lines) (step ∷ steps) runs =
+    ap (λ (files : ShelfState). shelf_behind files lines steps) (other-kept before step.after line step.reply runs.0) ∙ runs-last step.after lines steps runs.1
 
 -- A session that was held to its end.
 pub held-answered : (name : List ℕ) (old new : Outside) → HeldSession name old new endings.Done → AnsweredAll name old new
 held-answered name old new held =
-    let memory = opened_memory (opened_state held.texts) in
     let course = held.ends.course in
     let all = held.ends.ends in
-    let steps : course.steps ≡ answered_lines memory (command_lines course.read) = runs-answered memory course.lines course.steps held.ends.went.runs ∙ ap (answered_lines memory) all.lines in
+    let before = seat name (opened_memory held.state) old.shelf in
+    let runs : Runs AnswersLine before (command_lines course.read) course.steps = subst (λ (lines : List (List ℕ)). Runs AnswersLine before lines course.steps) all.lines held.ends.went.runs in
     record {
-      script = held.script;
+      state = held.state;
       has = held.has;
-      texts = held.texts;
-      reads = held.reads;
       input = course.read;
       gave = held.ends.went.gave;
       at_end = all.at_end;
-      wrote = subst (Appends old.sink.taken new.sink.taken) (ap output_of steps) all.replied.wrote;
+      steps = course.steps;
+      runs = runs;
+      wrote = all.replied.wrote;
+      left = held.left ∙ ap (λ (it : AtShelf NamedDesk). it.shelf) all.replied.left ∙ sym (runs-last before (command_lines course.read) course.steps runs);
     }
+
+-- ---- where no store failed
+
+-- A count of faults never falls.
+replies-later : (before after : AtShelf NamedDesk) (line reply : List ℕ) → AnswersLine before line after reply → before.shelf.faults ≤ after.shelf.faults
+replies-later before after line reply (said, is, inl done) = stores-later (asks_save (command_of_line line)) done.stores
+  where
+    stores-later : (asks : Bool) → Stores asks before after → before.shelf.faults ≤ after.shelf.faults
+    stores-later true stores = let same = stores.stored.kept in omega (arith, same)
+    stores-later false stores = let same : after.shelf.faults ≡ before.shelf.faults = ap (λ (it : ShelfState). it.faults) stores in omega (arith, same)
+replies-later before after line reply (said, is, inr failed) = failed.failed.later
+
+runs-later : (before : AtShelf NamedDesk) (lines : List (List ℕ)) (steps : List (Answered (AtShelf NamedDesk))) → Runs AnswersLine before lines steps
+    → before.shelf.faults ≤ (left_by before steps).shelf.faults
+runs-later before [] [] runs = omega arith
+runs-later before [] (step ∷ steps) runs = absurd runs
+runs-later before (line ∷ lines) [] runs = absurd runs
+runs-later before (line ∷ lines) (step ∷ steps) runs =
+    let first = replies-later before step.after line step.reply runs.0 in
+    let later = runs-later step.after lines steps runs.1 in omega (arith, first, later)
+
+abbrev seen : AtShelf NamedDesk → Memory
+seen it = it.it.memory
+
+-- The step that a line asks for was done.
+calm-step : (before : AtShelf NamedDesk) (line : List ℕ) (step : Answered (AtShelf NamedDesk)) → AnswersLine before line step.after step.reply → step.after.shelf.faults ≡ before.shelf.faults
+    → before.shelf.faults < 2 ^ 64 - 1 → record { after = seen step.after; reply = step.reply } ≡ answered_line (seen before) line
+calm-step before line step (said, is, inl done) same low =
+    ap (λ (bytes : List ℕ). record { after = seen step.after; reply = bytes }) is
+    ∙ ap (λ (it : Step). record { after = it.after; reply = reply_line it.reply }) done.step
+calm-step before line step (said, is, inr failed) same low = absurd (not-risen before.shelf.faults step.after.shelf.faults failed.failed.rose same low)
+
+-- Lines that were answered in order have the answers of the machine, where no store failed.
+runs-calm : (before : AtShelf NamedDesk) (lines : List (List ℕ)) (steps : List (Answered (AtShelf NamedDesk))) → Runs AnswersLine before lines steps
+    → (left_by before steps).shelf.faults ≡ before.shelf.faults → before.shelf.faults < 2 ^ 64 - 1 → steps_seen seen steps ≡ answered_lines (seen before) lines
+runs-calm before [] [] runs same low = refl
+runs-calm before [] (step ∷ steps) runs same low = absurd runs
+runs-calm before (line ∷ lines) [] runs same low = absurd runs
+runs-calm before (line ∷ lines) (step ∷ steps) runs same low =
+    let up = replies-later before step.after line step.reply runs.0 in
+    let later = runs-later step.after lines steps runs.1 in
+    let here : step.after.shelf.faults ≡ before.shelf.faults = omega (arith, up, later, same) in
+    let there : (left_by step.after steps).shelf.faults ≡ step.after.shelf.faults = omega (arith, same, here) in
+    let low_there : step.after.shelf.faults < 2 ^ 64 - 1 = omega (arith, here, low) in
+    let first = calm-step before line step runs.0 here low in
+    let others : steps_seen seen steps ≡ answered_lines (answered_line (seen before) line).after lines =
+    runs-calm step.after lines steps runs.1 there low_there ∙ ap (λ (it : Answered Memory). answered_lines it.after lines) first in
+    ap₂ (λ (one : Answered Memory) (rest : List (Answered Memory)). one ∷ rest) first others
+
+pub answered-calmly : (name : List ℕ) (old new : Outside) → AnsweredAll name old new → new.shelf.faults ≡ old.shelf.faults → old.shelf.faults < 2 ^ 64 - 1 → AnsweredCalmly name old new
+answered-calmly name old new all same low =
+    let before = seat name (opened_memory all.state) old.shelf in
+    let last : (left_by before all.steps).shelf ≡ new.shelf = sym (runs-last before (command_lines all.input) all.steps all.runs) ∙ sym all.left in
+    let end : (left_by before all.steps).shelf.faults ≡ old.shelf.faults = ap (λ (it : ShelfState). it.faults) last ∙ same in
+    let steps = runs-calm before (command_lines all.input) all.steps all.runs end low in
+    record {
+      state = all.state;
+      has = all.has;
+      input = all.input;
+      gave = all.gave;
+      at_end = all.at_end;
+      wrote = subst (Appends old.sink.taken new.sink.taken) (sym (output_of-seen seen all.steps) ∙ ap output_of steps) all.wrote;
+    }
+
+-- ---- no other file is touched
+
+-- It is the desk of this name, and all other files are as they were.
+pub record KeepsTo (name : List ℕ) (old : ShelfState) (now : AtShelf NamedDesk) : Type 0 where
+  pub named : now.it.name ≡ name
+  pub others : Changes old.files now.shelf.files (λ before after. KeepsAllBut before after name (records_name name))
+
+others-then : (name : List ℕ) (one two three : Files) → KeepsAllBut one two name (records_name name) → KeepsAllBut two three name (records_name name) → KeepsAllBut one three name (records_name name)
+others-then name one two three first second = λ other not-first not-second. second other not-first not-second ∙ first other not-first not-second
+
+-- What a desk did to the shelf kept other files.
+abbrev Others : AtShelf NamedDesk → AtShelf NamedDesk → Type 0
+Others before after = Changes before.shelf.files after.shelf.files (λ old new. KeepsAllBut old new before.it.name (records_name before.it.name))
+
+same-others : (before after : AtShelf NamedDesk) → after.shelf ≡ before.shelf → Others before after
+same-others before after same =
+    changes-none before.shelf.files after.shelf.files (λ old new. KeepsAllBut old new before.it.name (records_name before.it.name)) (λ files name not-first not-second. refl)
+    (ap (λ (it : ShelfState). it.files) same)
+
+stores-others : (asks : Bool) (before after : AtShelf NamedDesk) → Stores asks before after → Others before after
+stores-others true before after stores =
+    let it = files_of before.it.name before.it.memory.state in
+    changes-map before.shelf.files after.shelf.files (PutBoth it) (λ old new. KeepsAllBut old new it.name it.beside) (put-others it) stores.stored.files
+stores-others false before after stores = same-others before after stores
+
+leaves-others : (asks : Bool) (before after : AtShelf NamedDesk) → Leaves asks before after → Others before after
+leaves-others true before after leaves = left-others (files_of before.it.name before.it.memory.state) before.shelf after.shelf leaves
+leaves-others false before after leaves = same-others before after leaves
+
+replies-others : (before after : AtShelf NamedDesk) (line reply : List ℕ) → AnswersLine before line after reply → Others before after
+replies-others before after line reply (said, is, inl done) = stores-others (asks_save (command_of_line line)) before after done.stores
+replies-others before after line reply (said, is, inr failed) = failed-others (files_of before.it.name before.it.memory.state) before.shelf after.shelf failed.failed
+
+replies-name : (before after : AtShelf NamedDesk) (line reply : List ℕ) → AnswersLine before line after reply → after.it.name ≡ before.it.name
+replies-name before after line reply (said, is, inl done) = done.name
+replies-name before after line reply (said, is, inr failed) = ap (λ (it : NamedDesk). it.name) failed.same
+
+keeps-more : (name : List ℕ) (old : ShelfState) (before after : AtShelf NamedDesk) → after.it.name ≡ before.it.name → Others before after → KeepsTo name old before → KeepsTo name old after
+keeps-more name old before after same others keeps = record {
+  named = same ∙ keeps.named;
+  others = changes-then old.files before.shelf.files after.shelf.files (λ one other. KeepsAllBut one other name (records_name name)) (others-then name) keeps.others
+      (subst (λ (n : List ℕ). Changes before.shelf.files after.shelf.files (λ one other. KeepsAllBut one other n (records_name n))) keeps.named others);
+}
+
+-- What holds of the files of a name holds by the name that was asked for.
+pub same-name : (one other : List ℕ) → desk one ≡ desk other → (old new : Option Files) → Changes old new (λ before after. KeepsAllBut before after one (records_name one))
+    → Changes old new (λ before after. KeepsAllBut before after other (records_name other))
+same-name one other asked old new holds =
+    let same : one ≡ other = cc in subst (λ (n : List ℕ). Changes old new (λ before after. KeepsAllBut before after n (records_name n))) same holds
+
+pub held-others : (name : List ℕ) (memory : Memory) (shelf : ShelfState) (old new : Outside) (after : AtShelf NamedDesk) (end : SessionEnd)
+    → SessionEnds AnswersLine StopsAtLine (streams old.source old.sink) (streams new.source new.sink) (seat name memory shelf) after end
+    → Changes shelf.files after.shelf.files (λ one other. KeepsAllBut one other name (records_name name))
+held-others name memory shelf old new after end ends =
+    let begun : KeepsTo name shelf (seat name memory shelf) = record { named = refl; others = same-others (seat name memory shelf) (seat name memory shelf) refl } in
+    (ends-keep AnswersLine StopsAtLine (KeepsTo name shelf)
+    (λ one line other reply answers. keeps-more name shelf one other (replies-name one other line reply answers) (replies-others one other line reply answers))
+    (λ one line other stops. keeps-more name shelf one other stops.name (leaves-others (asks_save (command_of_line line)) one other stops.leaves))
+    (streams old.source old.sink) (streams new.source new.sink) (seat name memory shelf) after end ends begun).others

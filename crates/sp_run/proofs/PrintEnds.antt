@@ -1,36 +1,78 @@
 -- How the printing of a script ends that was had whole.
-use Rattle.std.proofs.Common.{◌≡◌, ℕ, List, inr}
-use Rattle.std.specs.Prelude.{Ok, Err}
+use Rattle.std.proofs.Common.{◌≡◌, ℕ, List, inl, inr, sym, subst}
+use Rattle.std.specs.Prelude.{IsErrAnd, Ok, Err}
 use Rattle.std.specs.declared.result.Result.{Result}
-use Rattle.spec_state.specs.Printing.{printed, printing_of}
+use Rattle.spec_state.specs.Printing.{printed_state}
+use Rattle.spec_state.specs.State.{State}
 use Rattle.sp_kit.specs.Files.{ShelfState}
 use Rattle.sp_kit.specs.Outside.{SourceState}
-use Rattle.sp_run.specs.Ending.{Outside, PartWritten, EndsAs}
+use Rattle.sp_text.specs.declared.fault.TextFault.TheVariants as faults
+use Rattle.sp_run.specs.Ending.{Outside, PartWritten, Unopened, PrintEnds, DeskEnds, NotDone, EndsAs}
 use Rattle.sp_run.specs.Forms.{OriginOf, from_source, from_file}
-use Rattle.sp_run.specs.Opening.{HadScript, FailedNothing}
+use Rattle.sp_run.specs.Opening.{HadScript, HadState, FailedNothing}
 use Rattle.sp_run.specs.Written.{IsWritten}
 use Rattle.sp_run.specs.declared.status.Status.{Status}
 use Rattle.sp_run.specs.declared.status.Status.TheVariants as statuses
 
 -- Where a script was had whole, no fault was counted.
-had-whole : (origin : OriginOf) (old new : SourceState) (shelf after : ShelfState) (script : List ℕ) → HadScript origin old new shelf after script → FailedNothing origin old new shelf after
+pub had-whole : (origin : OriginOf) (old new : SourceState) (shelf after : ShelfState) (script : List ℕ) → HadScript origin old new shelf after script → FailedNothing origin old new shelf after
 had-whole from_source old new shelf after script had = (had.0.gave.kept, had.1)
 had-whole (from_file name) old new shelf after script had = (had.1, had.2)
 
-pub print-ends : (origin : OriginOf) (old new : Outside) (script output : List ℕ) (result : Result (Unit {0}) Status) → HadScript origin old.source new.source old.shelf new.shelf script
-    → printing_of script ≡ printed output → IsWritten old.sink new.sink output result → EndsAs origin old new result
-print-ends origin old new script output (Ok done) had becomes written = record { script = script; had = had; output = output; becomes = becomes; wrote = written.wrote; kept = written.kept }
-print-ends origin old new script output (Err statuses.WriteFault) had becomes written =
-    let part : PartWritten origin old new = record { script = script; had = had; output = output; becomes = becomes; wrote = written.wrote } in
+-- A script that didn't open isn't printed.
+pub unopened-prints : (origin : OriginOf) (old new : Outside) (status : Status) → Unopened origin old new status → PrintEnds origin old new status × NotDone status
+unopened-prints origin old new statuses.Done it = absurd it
+unopened-prints origin old new statuses.Usage it = absurd it
+unopened-prints origin old new (statuses.NoFile name) it = (it, tt)
+unopened-prints origin old new (statuses.BadText (faults.NotUtf8 place)) it = (it, tt)
+unopened-prints origin old new (statuses.BadText (faults.LineFull place)) it = (it, tt)
+unopened-prints origin old new (statuses.BadText faults.TextFull) it = (it, tt)
+unopened-prints origin old new (statuses.BadText faults.NoMemory) it = absurd it
+unopened-prints origin old new statuses.ReadFault it = (it, tt)
+unopened-prints origin old new statuses.WriteFault it = absurd it
+unopened-prints origin old new statuses.ShelfFault it = (it, tt)
+unopened-prints origin old new (statuses.BadRecords fault) it = (it, tt)
+unopened-prints origin old new statuses.NoMemory it = (record { kept = it.kept; writes = it.nothing.kept; wrote = inl it.nothing.taken }, tt)
+unopened-prints origin old new (statuses.CommandLong number) it = absurd it
+unopened-prints origin old new statuses.InputFull it = absurd it
+
+-- A script that didn't open has no session.
+pub unopened-desk : (name : List ℕ) (old new : Outside) (status : Status) → Unopened (from_file name) old new status → DeskEnds name old new status × NotDone status
+unopened-desk name old new statuses.Done it = absurd it
+unopened-desk name old new statuses.Usage it = absurd it
+unopened-desk name old new (statuses.NoFile given) it = (it, tt)
+unopened-desk name old new (statuses.BadText (faults.NotUtf8 place)) it = (it, tt)
+unopened-desk name old new (statuses.BadText (faults.LineFull place)) it = (it, tt)
+unopened-desk name old new (statuses.BadText faults.TextFull) it = (it, tt)
+unopened-desk name old new (statuses.BadText faults.NoMemory) it = absurd it
+unopened-desk name old new statuses.ReadFault it = absurd it.failed
+unopened-desk name old new statuses.WriteFault it = absurd it
+unopened-desk name old new statuses.ShelfFault it = (it, tt)
+unopened-desk name old new (statuses.BadRecords fault) it = (it, tt)
+unopened-desk name old new statuses.NoMemory it = (inl it, tt)
+unopened-desk name old new (statuses.CommandLong number) it = absurd it
+unopened-desk name old new statuses.InputFull it = absurd it
+
+-- The answer is this status.
+pub err-ends : (origin : OriginOf) (old new : Outside) (status : Status) (result : Result (Unit {0}) Status) → IsErrAnd result (λ s. s ≡ status) → Unopened origin old new status → EndsAs origin old new result
+err-ends origin old new status (Ok done) is it = absurd is
+err-ends origin old new status (Err other) is it = subst (λ (s : Status). PrintEnds origin old new s × NotDone s) (sym is) (unopened-prints origin old new status it)
+
+pub print-ends : (origin : OriginOf) (old new : Outside) (state : State) (result : Result (Unit {0}) Status) → HadState origin old.source new.source old.shelf new.shelf state
+    → IsWritten old.sink new.sink (printed_state state) result → EndsAs origin old new result
+print-ends origin old new state (Ok done) had written = record { state = state; had = had; wrote = written.wrote; kept = written.kept }
+print-ends origin old new state (Err statuses.WriteFault) had written =
+    let part : PartWritten origin old new = record { state = state; had = had; wrote = written.wrote } in
     (record { part = part; rose = written.rose }, tt)
-print-ends origin old new script output (Err statuses.NoMemory) had becomes written =
-    let part : PartWritten origin old new = record { script = script; had = had; output = output; becomes = becomes; wrote = written.wrote } in
-    (record { kept = had-whole origin old.source new.source old.shelf new.shelf script had; writes = written.kept; wrote = inr part }, tt)
-print-ends origin old new script output (Err statuses.Done) had becomes written = absurd written
-print-ends origin old new script output (Err statuses.Usage) had becomes written = absurd written
-print-ends origin old new script output (Err (statuses.NoFile name)) had becomes written = absurd written
-print-ends origin old new script output (Err (statuses.BadText fault)) had becomes written = absurd written
-print-ends origin old new script output (Err statuses.ReadFault) had becomes written = absurd written
-print-ends origin old new script output (Err statuses.ShelfFault) had becomes written = absurd written
-print-ends origin old new script output (Err (statuses.CommandLong number)) had becomes written = absurd written
-print-ends origin old new script output (Err statuses.InputFull) had becomes written = absurd written
+print-ends origin old new state (Err statuses.NoMemory) had written =
+    let part : PartWritten origin old new = record { state = state; had = had; wrote = written.wrote } in
+    (record { kept = had-whole origin old.source new.source old.shelf new.shelf had.script had.had; writes = written.kept; wrote = inr part }, tt)
+print-ends origin old new state (Err statuses.Done) had written = absurd written
+print-ends origin old new state (Err statuses.Usage) had written = absurd written
+print-ends origin old new state (Err (statuses.NoFile name)) had written = absurd written
+print-ends origin old new state (Err (statuses.BadText fault)) had written = absurd written
+print-ends origin old new state (Err statuses.ReadFault) had written = absurd written
+print-ends origin old new state (Err statuses.ShelfFault) had written = absurd written
+print-ends origin old new state (Err (statuses.BadRecords fault)) had written = absurd written
+print-ends origin old new state (Err (statuses.CommandLong number)) had written = absurd written
+print-ends origin old new state (Err statuses.InputFull) had written = absurd written

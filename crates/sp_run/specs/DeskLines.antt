@@ -2,50 +2,105 @@
 use Rattle.std.specs.Prelude.{◌≡◌, ℕ, ◌⊎◌, Bool, true, false, if◌then◌else◌, List, [], ◌∷◌}
 use Rattle.std.specs.declared.result.Result.{Result}
 use Rattle.std.specs.declared.result.Result.TheVariants.{Ok, Err}
-use Rattle.spec_wire.specs.Commands.{CommandOf, FaultOf, lock_scenes, lock_pages, next_round, unknown_command}
+use Rattle.spec_records.specs.RecordFile.{digest_of}
+use Rattle.spec_wire.specs.Commands.{CommandOf, FaultOf, save}
 use Rattle.spec_wire.specs.Lines.{command_of_line}
-use Rattle.spec_wire.specs.Replies.{refused, unreadable, reply_line}
-use Rattle.spec_session.specs.Runs.{Answered}
+use Rattle.spec_wire.specs.Replies.{ReplyOf, refused, saved, shelf, unreadable, reply_line}
+use Rattle.spec_session.specs.Runs.{Answered, AtShelf}
 use Rattle.spec_machine.specs.Machine.{Memory}
 use Rattle.spec_machine.specs.Answers.{Step, step_of}
-use Rattle.sp_wire.specs.declared.reply.Reply.{Reply}
-use Rattle.sp_wire.specs.Values.{reply_of}
+use Rattle.sp_kit.specs.Files.{ShelfState}
+use Rattle.sp_run.specs.Saving.{SavesState, StoreFailed, StoreLeft, files_of}
 
--- The command locks scenes or pages, or begins a round. A desk doesn't take those yet.
-abbrev pub is_lock : CommandOf → Bool
-is_lock lock_scenes = true
-is_lock lock_pages = true
-is_lock next_round = true
-is_lock _ = false
+-- A desk of the script that has this name.
+pub record NamedDesk : Type 0 where
+  pub name : List ℕ
+  pub memory : Memory
+
+-- A desk, its script's name, and the shelf.
+abbrev pub seat : List ℕ → Memory → ShelfState → AtShelf NamedDesk
+seat name memory files = record { it = record { name = name; memory = memory }; shelf = files }
+
+-- ---- what a line asks for
+
+abbrev pub is_save : CommandOf → Bool
+is_save save = true
+is_save _ = false
+
+-- What was read of a line is the command to save.
+abbrev pub asks_save : Result CommandOf FaultOf → Bool
+asks_save (Ok command) = is_save command
+asks_save (Err fault) = false
+
+-- ---- what becomes of a memory where no store fails
 
 abbrev pub unread_step : Memory → FaultOf → Step
 unread_step memory fault = record { after = memory; reply = refused (unreadable fault) }
 
--- What becomes of a memory by a line, and the reply: a line that is no command changes nothing.
+abbrev pub saved_step : Memory → Step
+saved_step memory = record { after = memory; reply = saved (digest_of memory.state.lines) }
+
+-- What becomes of a memory by what was read of a line, and the reply: a line that is no command changes nothing.
 abbrev pub line_step_by : Memory → Result CommandOf FaultOf → Step
-line_step_by memory (Ok command) = if is_lock command then unread_step memory unknown_command else step_of memory command
+line_step_by memory (Ok command) = if is_save command then saved_step memory else step_of memory command
 line_step_by memory (Err fault) = unread_step memory fault
 
 abbrev pub line_step : Memory → List ℕ → Step
 line_step memory line = line_step_by memory (command_of_line line)
 
--- A line answered: the memory after it, and the bytes of the reply.
+-- A line answered where no store fails: the memory after it, and the bytes of the reply.
 abbrev pub answered_line : Memory → List ℕ → Answered Memory
 answered_line memory line = record { after = (line_step memory line).after; reply = reply_line (line_step memory line).reply }
 
--- Lines answered in order.
+-- Lines answered in order, where no store fails.
 abbrev pub answered_lines : Memory → List (List ℕ) → List (Answered Memory)
 answered_lines memory [] = []
 answered_lines memory (line ∷ lines) = answered_line memory line ∷ answered_lines (answered_line memory line).after lines
 
+-- ---- how a line is answered
+
+-- A save that was done stored its files; anything else leaves the shelf as it was.
+abbrev pub Stores : Bool → AtShelf NamedDesk → AtShelf NamedDesk → Type 0
+Stores true before after = SavesState before.it.name before.it.memory.state before.shelf after.shelf
+Stores false before after = after.shelf ≡ before.shelf
+
+-- What was read of a line was done: the machine's step, or the save.
+pub record IsDone (before : AtShelf NamedDesk) (asked : Result CommandOf FaultOf) (after : AtShelf NamedDesk) (reply : ReplyOf) : Type 0 where
+  pub step : record { after = after.it.memory; reply = reply } ≡ line_step_by before.it.memory asked
+  pub name : after.it.name ≡ before.it.name
+  pub stores : Stores (asks_save asked) before after
+
+-- A save that wasn't done, since a store failed; the desk is as it was.
+pub record IsUnsaved (before : AtShelf NamedDesk) (asked : Result CommandOf FaultOf) (after : AtShelf NamedDesk) (reply : ReplyOf) : Type 0 where
+  pub asks : asks_save asked ≡ true
+  pub same : after.it ≡ before.it
+  pub told : reply ≡ refused shelf
+  pub failed : StoreFailed (files_of before.it.name before.it.memory.state) before.shelf after.shelf
+
+-- How a desk replies to what was read of a line.
+abbrev pub RepliesTo : AtShelf NamedDesk → Result CommandOf FaultOf → AtShelf NamedDesk → ReplyOf → Type 0
+RepliesTo before asked after reply = IsDone before asked after reply ⊎ IsUnsaved before asked after reply
+
 -- How a desk answers a line.
-abbrev pub AnswersLine : Memory → List ℕ → Memory → List ℕ → Type 0
-AnswersLine before line after reply = record { after = after; reply = reply } ≡ answered_line before line
+abbrev pub AnswersLine : AtShelf NamedDesk → List ℕ → AtShelf NamedDesk → List ℕ → Type 0
+AnswersLine before line after bytes = (reply : ReplyOf) × (bytes ≡ reply_line reply) × RepliesTo before (command_of_line line) after reply
 
--- How want of memory leaves it: there was none for what the line asks, or for the line of the reply.
-abbrev pub StopsAtLine : Memory → List ℕ → Memory → Type 0
-StopsAtLine before line after = (after ≡ before) ⊎ (after ≡ (answered_line before line).after)
+-- The shelf as the last save of these lines left it, which were answered by these steps; as it was, where none is a save.
+abbrev pub shelf_behind : ShelfState → List (List ℕ) → List (Answered (AtShelf NamedDesk)) → ShelfState
+shelf_behind files [] steps = files
+shelf_behind files (line ∷ lines) [] = files
+shelf_behind files (line ∷ lines) (step ∷ steps) = shelf_behind (if asks_save (command_of_line line) then step.after.shelf else files) lines steps
 
--- A reply, and the memory as it is then, are those of a step.
-abbrev pub RepliesBy : Memory → Step → Reply → Type 0
-RepliesBy after step reply = record { after = after; reply = reply_of reply } ≡ step
+-- What want of memory leaves of a shelf: what a save may leave, and else all.
+abbrev pub Leaves : Bool → AtShelf NamedDesk → AtShelf NamedDesk → Type 0
+Leaves true before after = StoreLeft (files_of before.it.name before.it.memory.state) before.shelf after.shelf
+Leaves false before after = after.shelf ≡ before.shelf
+
+-- How want of memory leaves a desk and its shelf: there was none for what the line asks, or for the line of the reply.
+pub record StopsAt (before : AtShelf NamedDesk) (asked : Result CommandOf FaultOf) (after : AtShelf NamedDesk) : Type 0 where
+  pub memory : (after.it.memory ≡ before.it.memory) ⊎ (after.it.memory ≡ (line_step_by before.it.memory asked).after)
+  pub name : after.it.name ≡ before.it.name
+  pub leaves : Leaves (asks_save asked) before after
+
+abbrev pub StopsAtLine : AtShelf NamedDesk → List ℕ → AtShelf NamedDesk → Type 0
+StopsAtLine before line after = StopsAt before (command_of_line line) after

@@ -2,25 +2,27 @@
 use Rattle.std.specs.Prelude.{◌≡◌, ℕ, ◌≤◌, ◌⊎◌, List, length, string_bytes, Option, Some, None, Ok, Err}
 use Rattle.std.specs.declared.result.Result.{Result}
 use Rattle.std.specs.Io.KnownBytes.{Appends, Consumes, IsAtEnd, Keeps}
-use Rattle.spec_text.specs.Lines.{Reading, line_texts, lines, read_lines, reading_of}
-use Rattle.spec_state.specs.State.{opened_state}
+use Rattle.spec_text.specs.Lines.{line_texts, lines, reading_of}
+use Rattle.spec_state.specs.State.{State}
 use Rattle.spec_machine.specs.Machine.{Memory, opened_memory}
 use Rattle.spec_session.specs.CommandLines.{KeepsLimits, IsFirstLong, IsFull, command_lines}
-use Rattle.spec_session.specs.Runs.{output_of}
+use Rattle.spec_session.specs.Runs.{Answered, AtShelf, Runs, output_of}
 use Rattle.spec_session.specs.Sessions.{SessionEnds, streams}
 use Rattle.spec_session.specs.declared.SessionEnd.{SessionEnd}
 use Rattle.spec_session.specs.declared.SessionEnd.TheVariants as endings
-use Rattle.spec_state.specs.Printing.{Printing, too_long, no_utf8, long_line, printed, printing_of, printing_of_reading}
+use Rattle.spec_state.specs.Printing.{Printing, too_long, no_utf8, long_line, printed, printed_state, printing_of}
 use Rattle.sp_kit.specs.Causes.{Rose}
 use Rattle.sp_kit.specs.Files.{ShelfState}
 use Rattle.sp_kit.specs.Outside.{SourceState, SinkState, AppendsPrefix}
+use Rattle.sp_records.specs.declared.fault.RecordsFault.{RecordsFault}
 use Rattle.sp_text.specs.Gap.{LinesState}
 use Rattle.sp_text.specs.declared.fault.TextFault.TheVariants as faults
 use Rattle.sp_run.specs.declared.status.Status.{Status}
 use Rattle.sp_run.specs.declared.status.Status.TheVariants as statuses
 use Rattle.sp_run.specs.Forms.{OriginOf, Asked, print, desk, from_file}
-use Rattle.sp_run.specs.DeskLines.{AnswersLine, StopsAtLine, answered_lines}
-use Rattle.sp_run.specs.Opening.{HasScript, SameShelf, HadScript, HadTooLong, HadNoFile, SourceFailed, ShelfFailed, FailedNothing}
+use Rattle.sp_run.specs.DeskLines.{AnswersLine, NamedDesk, StopsAtLine, answered_lines, seat, shelf_behind}
+use Rattle.sp_run.specs.Opening.{AreFresh, SameShelf, HadScript, HadState, HadTooLong, HadNoFile, HasRecords, HasState, SourceFailed, ShelfFailed, FailedNothing}
+use Rattle.sp_run.specs.Records.{OpensAs, RefusesRecords}
 
 -- What is outside.
 pub record Outside : Type 0 where
@@ -33,22 +35,18 @@ pub record WroteNothing (old new : Outside) : Type 0 where
   pub taken : Keeps old.sink.taken new.sink.taken
   pub kept : new.sink.faults ≡ old.sink.faults
 
--- A script was had whole and all that it prints was written.
+-- A script was had whole, with what stands beside it, and all sheets of the state that they open as were written.
 pub record Printed (origin : OriginOf) (old new : Outside) : Type 0 where
-  pub script : List ℕ
-  pub had : HadScript origin old.source new.source old.shelf new.shelf script
-  pub output : List ℕ
-  pub becomes : printing_of script ≡ printed output
-  pub wrote : Appends old.sink.taken new.sink.taken output
+  pub state : State
+  pub had : HadState origin old.source new.source old.shelf new.shelf state
+  pub wrote : Appends old.sink.taken new.sink.taken (printed_state state)
   pub kept : new.sink.faults ≡ old.sink.faults
 
--- A script was had whole, and a prefix of what it prints was written.
+-- A script was had whole, with what stands beside it, and a prefix of its sheets was written.
 pub record PartWritten (origin : OriginOf) (old new : Outside) : Type 0 where
-  pub script : List ℕ
-  pub had : HadScript origin old.source new.source old.shelf new.shelf script
-  pub output : List ℕ
-  pub becomes : printing_of script ≡ printed output
-  pub wrote : AppendsPrefix old.sink.taken new.sink.taken output
+  pub state : State
+  pub had : HadState origin old.source new.source old.shelf new.shelf state
+  pub wrote : AppendsPrefix old.sink.taken new.sink.taken (printed_state state)
 
 -- The sink failed, and what was written is a prefix of what a script prints that was had whole.
 pub record PartPrinted (origin : OriginOf) (old new : Outside) : Type 0 where
@@ -60,6 +58,15 @@ pub record Refused (origin : OriginOf) (old new : Outside) (reason : Printing) :
   pub script : List ℕ
   pub had : HadScript origin old.source new.source old.shelf new.shelf script
   pub becomes : printing_of script ≡ reason
+  pub nothing : WroteNothing old new
+
+-- A script was had whole, what stands beside it is refused, and nothing was written.
+pub record RecordsRefused (origin : OriginOf) (old new : Outside) (fault : RecordsFault) : Type 0 where
+  pub script : List ℕ
+  pub had : HadScript origin old.source new.source old.shelf new.shelf script
+  pub records : Option (List ℕ)
+  pub beside : HasRecords origin old.shelf records
+  pub refuses : RefusesRecords script records fault
   pub nothing : WroteNothing old new
 
 -- The script is too long, and nothing was written.
@@ -82,6 +89,23 @@ pub record FetchFailed (origin : OriginOf) (old new : Outside) : Type 0 where
   pub failed : ShelfFailed origin old.source new.source old.shelf new.shelf
   pub nothing : WroteNothing old new
 
+-- There was no memory for a script or its records: no count of faults rose, and nothing was written.
+pub record NotOpened (origin : OriginOf) (old new : Outside) : Type 0 where
+  pub kept : FailedNothing origin old.source new.source old.shelf new.shelf
+  pub nothing : WroteNothing old new
+
+-- How a run ends whose script or records weren't had or are refused.
+abbrev pub Unopened : OriginOf → Outside → Outside → Status → Type 0
+Unopened origin old new (statuses.NoFile name) = FoundNone origin old new (string_bytes name)
+Unopened origin old new (statuses.BadText (faults.NotUtf8 place)) = Refused origin old new (no_utf8 place)
+Unopened origin old new (statuses.BadText (faults.LineFull place)) = Refused origin old new (long_line place)
+Unopened origin old new (statuses.BadText faults.TextFull) = TooLong origin old new
+Unopened origin old new statuses.ReadFault = ReadFailed origin old new
+Unopened origin old new statuses.ShelfFault = FetchFailed origin old new
+Unopened origin old new (statuses.BadRecords fault) = RecordsRefused origin old new fault
+Unopened origin old new statuses.NoMemory = NotOpened origin old new
+Unopened origin old new _ = ⊥
+
 -- There was no memory: no count of faults rose, and nothing was written, or a prefix of what a script prints that was
 -- had whole.
 pub record OutOfMemory (origin : OriginOf) (old new : Outside) : Type 0 where
@@ -101,36 +125,28 @@ PrintEnds origin old new (statuses.BadText faults.NoMemory) = ⊥
 PrintEnds origin old new statuses.ReadFault = ReadFailed origin old new
 PrintEnds origin old new statuses.WriteFault = PartPrinted origin old new
 PrintEnds origin old new statuses.ShelfFault = FetchFailed origin old new
+PrintEnds origin old new (statuses.BadRecords fault) = RecordsRefused origin old new fault
 PrintEnds origin old new statuses.NoMemory = OutOfMemory origin old new
 PrintEnds origin old new (statuses.CommandLong number) = ⊥
 PrintEnds origin old new statuses.InputFull = ⊥
 
 -- ---- a session of a desk
 
--- The shelf has this script under the name, and was left as it was; the script was opened as a desk without records, and so its
--- session ended.
+-- The shelf has a script under the name; it was opened as a desk with what stands beside it, and so its session ended, which
+-- left the shelf as it is now.
 pub record HeldSession (name : List ℕ) (old new : Outside) (end : SessionEnd) : Type 0 where
-  pub script : List ℕ
-  pub has : HasScript old.shelf name script
-  pub shelf : SameShelf old.shelf new.shelf
-  pub texts : List (List ℕ)
-  pub reads : reading_of script ≡ lines texts
-  pub after : Memory
-  pub ends : SessionEnds AnswersLine StopsAtLine (streams old.source old.sink) (streams new.source new.sink) (opened_memory (opened_state texts)) after end
+  pub state : State
+  pub has : HasState old.shelf name state
+  pub after : AtShelf NamedDesk
+  pub ends : SessionEnds AnswersLine StopsAtLine (streams old.source old.sink) (streams new.source new.sink) (seat name (opened_memory state) old.shelf) after end
+  pub left : new.shelf ≡ after.shelf
 
 -- The shelf has a script under the name and was left as it was, and this is the memory of its desk.
 pub record OpensDesk (shelf after : ShelfState) (name : List ℕ) (memory : Memory) : Type 0 where
-  pub script : List ℕ
-  pub has : HasScript shelf name script
+  pub state : State
+  pub has : HasState shelf name state
   pub same : SameShelf shelf after
-  pub texts : List (List ℕ)
-  pub reads : reading_of script ≡ lines texts
-  pub is : memory ≡ opened_memory (opened_state texts)
-
--- There was no memory for the desk: no count of faults rose, and nothing was read or written.
-pub record NotOpened (name : List ℕ) (old new : Outside) : Type 0 where
-  pub kept : FailedNothing (from_file name) old.source new.source old.shelf new.shelf
-  pub nothing : WroteNothing old new
+  pub is : memory ≡ opened_memory state
 
 -- How a run ends that answers commands by a desk.
 abbrev pub DeskEnds : List ℕ → Outside → Outside → Status → Type 0
@@ -144,7 +160,8 @@ DeskEnds name old new (statuses.BadText faults.NoMemory) = ⊥
 DeskEnds name old new statuses.ReadFault = HeldSession name old new endings.ReadFault
 DeskEnds name old new statuses.WriteFault = HeldSession name old new endings.WriteFault
 DeskEnds name old new statuses.ShelfFault = FetchFailed (from_file name) old new
-DeskEnds name old new statuses.NoMemory = NotOpened name old new ⊎ HeldSession name old new endings.NoMemory
+DeskEnds name old new (statuses.BadRecords fault) = RecordsRefused (from_file name) old new fault
+DeskEnds name old new statuses.NoMemory = NotOpened (from_file name) old new ⊎ HeldSession name old new endings.NoMemory
 DeskEnds name old new (statuses.CommandLong number) = HeldSession name old new (endings.CommandLong number)
 DeskEnds name old new statuses.InputFull = HeldSession name old new endings.InputFull
 
@@ -153,16 +170,26 @@ abbrev pub Ends : Asked → Outside → Outside → Status → Type 0
 Ends (print origin) old new status = PrintEnds origin old new status
 Ends (desk name) old new status = DeskEnds name old new status
 
--- All command lines of the input were answered by a desk of the script: what was written are the replies of the machine.
+-- All command lines of the input were answered by a desk of the script, in order, and what was written are the replies.
 pub record AnsweredAll (name : List ℕ) (old new : Outside) : Type 0 where
-  pub script : List ℕ
-  pub has : HasScript old.shelf name script
-  pub texts : List (List ℕ)
-  pub reads : reading_of script ≡ lines texts
+  pub state : State
+  pub has : HasState old.shelf name state
   pub input : List ℕ
   pub gave : Consumes old.source.unread new.source.unread input
   pub at_end : IsAtEnd new.source.unread
-  pub wrote : Appends old.sink.taken new.sink.taken (output_of (answered_lines (opened_memory (opened_state texts)) (command_lines input)))
+  pub steps : List (Answered (AtShelf NamedDesk))
+  pub runs : Runs AnswersLine (seat name (opened_memory state) old.shelf) (command_lines input) steps
+  pub wrote : Appends old.sink.taken new.sink.taken (output_of steps)
+  pub left : new.shelf ≡ shelf_behind old.shelf (command_lines input) steps
+
+-- All command lines of the input were answered by a desk of the script, and each save was done.
+pub record AnsweredCalmly (name : List ℕ) (old new : Outside) : Type 0 where
+  pub state : State
+  pub has : HasState old.shelf name state
+  pub input : List ℕ
+  pub gave : Consumes old.source.unread new.source.unread input
+  pub at_end : IsAtEnd new.source.unread
+  pub wrote : Appends old.sink.taken new.sink.taken (output_of (answered_lines (opened_memory state) (command_lines input)))
 
 -- The status refuses a script with this fate, or there is no memory.
 abbrev pub Refuses : Printing → Status → Type 0
@@ -183,10 +210,20 @@ SaysNoFile name (statuses.NoFile given) = string_bytes given ≡ name
 SaysNoFile name statuses.NoMemory = Unit {0}
 SaysNoFile name _ = ⊥
 
--- The status answers what stands under a name.
-abbrev pub AnswersFile : List ℕ → Option (List ℕ) → Status → Type 0
-AnswersFile name None status = SaysNoFile name status
-AnswersFile name (Some script) status = Answers (printing_of script) status
+-- A script opens with what stands beside it.
+abbrev pub Opens : List ℕ → Option (List ℕ) → Type 0
+Opens script records = (state : State) × OpensAs script records state
+
+-- The status answers a script and what stands beside it: they are printed, or refused, or there is no memory.
+abbrev pub AnswersBoth : List ℕ → Option (List ℕ) → Status → Type 0
+AnswersBoth script records statuses.Done = Opens script records
+AnswersBoth script records (statuses.BadRecords fault) = RefusesRecords script records fault
+AnswersBoth script records status = Refuses (printing_of script) status
+
+-- The status answers what stands under a name, and what stands under that of its records.
+abbrev pub AnswersFile : List ℕ → Option (List ℕ) → Option (List ℕ) → Status → Type 0
+AnswersFile name None records status = SaysNoFile name status
+AnswersFile name (Some script) records status = AnswersBoth script records status
 
 -- The status is the one that the command lines of an input ask for, or there is no memory.
 abbrev pub AnswersInput : List ℕ → Status → Type 0
@@ -196,15 +233,18 @@ AnswersInput input statuses.InputFull = IsFull input
 AnswersInput input statuses.NoMemory = Unit {0}
 AnswersInput input _ = ⊥
 
--- The status answers a script that was read so: it is refused, or the commands of an input are answered.
-abbrev pub AnswersRead : Reading → List ℕ → Status → Type 0
-AnswersRead (lines texts) input status = AnswersInput input status
-AnswersRead reading input status = Refuses (printing_of_reading reading) status
+-- The status answers a script, what stands beside it, and the commands of an input: the first two are refused, or they open
+-- and the commands are answered.
+abbrev pub AnswersSession : List ℕ → Option (List ℕ) → List ℕ → Status → Type 0
+AnswersSession script records input (statuses.BadText fault) = Refuses (printing_of script) (statuses.BadText fault)
+AnswersSession script records input (statuses.BadRecords fault) = RefusesRecords script records fault
+AnswersSession script records input statuses.NoMemory = Unit {0}
+AnswersSession script records input status = Opens script records × AnswersInput input status
 
--- The status answers what stands under a name, and the commands of an input.
-abbrev pub AnswersDesk : List ℕ → Option (List ℕ) → List ℕ → Status → Type 0
-AnswersDesk name None input status = SaysNoFile name status
-AnswersDesk name (Some script) input status = AnswersRead (reading_of script) input status
+-- The status answers what stands under a name and under that of its records, and the commands of an input.
+abbrev pub AnswersDesk : List ℕ → Option (List ℕ) → Option (List ℕ) → List ℕ → Status → Type 0
+AnswersDesk name None records input status = SaysNoFile name status
+AnswersDesk name (Some script) records input status = AnswersSession script records input status
 
 -- At most so many bytes were read.
 abbrev pub ReadsUpTo : Option (List ℕ) → Option (List ℕ) → ℕ → Type 0
@@ -213,8 +253,7 @@ ReadsUpTo old new most = (bytes : List ℕ) × Consumes old new bytes × (length
 -- A script has these lines, which were just read.
 pub record HasLines (script : List ℕ) (text : LinesState) : Type 0 where
   pub reads : reading_of script ≡ lines (line_texts text.lines)
-  pub read : text.lines ≡ read_lines (line_texts text.lines)
-  pub next : text.next ≡ length text.lines
+  pub fresh : AreFresh text
 
 -- The lines of a script, or the status that refuses it.
 abbrev pub IsReadable : List ℕ → Result LinesState Status → Type 0

@@ -1,18 +1,20 @@
 //! A session of a desk (docs/RULES.md, "The program" and "Sessions").
 ghost use Rattle.std.specs.Prelude.{◌≡◌, IfOk, IfErr};
 ghost use Rattle.sp_kit.specs.Outside.{SinkState};
+ghost use Rattle.sp_run.specs.Records.{records_name};
+ghost use Rattle.sp_run.specs.Saving.{Changes, KeepsAllBut};
 ghost use Rattle.sp_run.specs.Ending.{DeskEnds, NotDone, OpensDesk, outside};
 
 use crate::desk_lines::DeskLines;
 use crate::form::Origin;
-use crate::script::{open_script, read_lines};
+use crate::opening::open_state;
 use crate::status::Status;
 use sp_desk::Desk;
 use sp_kit::{Shelf, Sink, Source, Steps};
 use sp_session::session;
 use std::alloc::Global;
 
-/// The desk of the script that the shelf has under a name, without records.
+/// The desk of the script that the shelf has under a name, with the records beside it.
 fn open_desk<I: Source, F: Shelf, S: Steps>(
     alloc: Global,
     name: &str,
@@ -25,10 +27,8 @@ fn open_desk<I: Source, F: Shelf, S: Steps>(
     ensures source_kept { input.new ≡ input.old }
     ensures files_kept { (F.state shelf.new).files ≡ (F.state shelf.old).files }
 {
-    let script = open_script(alloc, Origin::File(name), input, shelf)?;
-    let lines = read_lines(alloc, &script)?;
-    drop(script);
-    Ok(Desk::new(alloc, lines, steps)?)
+    let opened = open_state(alloc, Origin::File(name), input, shelf)?;
+    Ok(Desk::open(alloc, opened.lines, opened.records, steps)?)
 }
 
 /// Answers the command lines of the source by a desk of the script that the shelf has under a name.
@@ -41,12 +41,17 @@ pub fn hold_session<I: Source, O: Sink, F: Shelf, S: Steps>(
     steps: &mut S,
 ) -> Status
     ensures ends { DeskEnds name.now (outside (I.state input.old) (O.state output.old) (F.state shelf.old)) (outside (I.state input.new) (O.state output.new) (F.state shelf.new)) result }
-    ensures files_kept { (F.state shelf.new).files ≡ (F.state shelf.old).files }
+    ensures others { Changes (F.state shelf.old).files (F.state shelf.new).files (λ old new. KeepsAllBut old new name.now (records_name name.now)) }
 {
     let desk = match open_desk(alloc, name, input, shelf, steps) {
         Ok(desk) => desk,
         Err(status) => return status,
     };
-    let mut lines = DeskLines { alloc, desk, steps };
-    Status::from(session(alloc, &mut lines, input, output))
+    let mut lines = DeskLines {
+        alloc,
+        name,
+        desk,
+        steps,
+    };
+    Status::from(session(alloc, &mut lines, input, output, shelf))
 }

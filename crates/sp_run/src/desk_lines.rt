@@ -1,53 +1,56 @@
 //! Command lines, answered by a desk.
 ghost use Rattle.std.specs.Prelude.{◌≡◌, IfOk, OnErr};
+ghost use Rattle.std.specs.declared.result.Result.TheVariants.{Ok};
+ghost use Rattle.spec_wire.specs.Lines.{command_of_line};
 ghost use Rattle.sp_wire.specs.Values.{command_of, reply_of};
-ghost use Rattle.sp_run.specs.DeskLines.{RepliesBy, is_lock, line_step, line_step_by};
+ghost use Rattle.sp_run.specs.DeskLines.{RepliesTo, StopsAt, is_save, seat};
 
+use crate::saving::save;
 use sp_desk::{Desk, DeskFault};
-use sp_kit::Steps;
+use sp_kit::{Shelf, Steps};
 use sp_session::Responder;
 use sp_wire::{Command, Refusal, Reply, WireFault, read_command, write_reply};
 use std::alloc::{AllocError, Global};
 use std::marker::Model;
 
-/// What answers the command lines of a session: a desk, and what counts its steps.
+/// What answers the command lines of a session: a desk, its script's name, and what counts its steps.
 #[derive(Drop)]
-pub struct DeskLines<'a, S> {
+pub struct DeskLines<'a, 'b, S> {
     pub alloc: Global,
+    pub name: &'a str,
     pub desk: Desk,
-    pub steps: &'a mut S,
+    pub steps: &'b mut S,
 }
 
-impl<'a, S> Model for DeskLines<'a, S> {
-    ghost use Rattle.spec_machine.specs.Machine.{Memory};
+impl<'a, 'b, S> Model for DeskLines<'a, 'b, S> {
+    ghost use Rattle.sp_run.specs.DeskLines.{NamedDesk};
 
-    ghost Value = { Memory };
+    ghost Value = { NamedDesk };
 
-    ghost view = { λ d. d.desk };
+    ghost view = { λ d. record { name = d.name.now; memory = d.desk } };
 }
 
-/// Whether the command locks scenes or pages, or begins a round.
-fn is_lock(command: &Command) -> bool
-    ensures { result ≡ is_lock (command_of command.now) }
+/// Whether the command is `save`.
+fn is_save(command: &Command) -> bool
+    ensures { result ≡ is_save (command_of command.now) }
 {
-    matches!(
-        command,
-        Command::LockScenes | Command::LockPages | Command::NextRound
-    )
+    matches!(command, Command::Save)
 }
 
-/// Does a command, and answers it.
-fn reply_to_command<S: Steps>(
+/// Does a command, and answers it. Only `save` touches the shelf.
+fn reply_to_command<F: Shelf, S: Steps>(
     alloc: Global,
+    name: &str,
     desk: &mut Desk,
     command: Command,
+    shelf: &mut F,
     steps: &mut S,
 ) -> Result<Reply, AllocError>
-    ensures reply { IfOk result (RepliesBy desk.new (line_step_by desk.old (Ok (command_of command)))) }
-    ensures same { OnErr result (desk.new ≡ desk.old) }
+    ensures reply { IfOk result (λ reply. RepliesTo (seat name.now desk.old (F.state shelf.old)) (Ok (command_of command)) (seat name.now desk.new (F.state shelf.new)) (reply_of reply)) }
+    ensures stops { OnErr result (StopsAt (seat name.now desk.old (F.state shelf.old)) (Ok (command_of command)) (seat name.now desk.new (F.state shelf.new))) }
 {
-    if is_lock(&command) {
-        return Ok(Reply::Refused(Refusal::UnknownCommand));
+    if is_save(&command) {
+        return save(alloc, name, desk, shelf);
     }
     match desk.apply(alloc, command, steps) {
         Ok(reply) => Ok(reply),
@@ -57,17 +60,19 @@ fn reply_to_command<S: Steps>(
 }
 
 /// Does what a line asks for, and answers it; a line that is no command changes nothing.
-fn reply_to_line<S: Steps>(
+fn reply_to_line<F: Shelf, S: Steps>(
     alloc: Global,
+    name: &str,
     desk: &mut Desk,
     line: &[u8],
+    shelf: &mut F,
     steps: &mut S,
 ) -> Result<Reply, AllocError>
-    ensures reply { IfOk result (RepliesBy desk.new (line_step desk.old line.now)) }
-    ensures same { OnErr result (desk.new ≡ desk.old) }
+    ensures reply { IfOk result (λ reply. RepliesTo (seat name.now desk.old (F.state shelf.old)) (command_of_line line.now) (seat name.now desk.new (F.state shelf.new)) (reply_of reply)) }
+    ensures stops { OnErr result (StopsAt (seat name.now desk.old (F.state shelf.old)) (command_of_line line.now) (seat name.now desk.new (F.state shelf.new))) }
 {
     match read_command(alloc, line) {
-        Ok(command) => reply_to_command(alloc, desk, command, steps),
+        Ok(command) => reply_to_command(alloc, name, desk, command, shelf, steps),
         Err(WireFault::BadJson) => Ok(Reply::Refused(Refusal::BadJson)),
         Err(WireFault::UnknownCommand) => Ok(Reply::Refused(Refusal::UnknownCommand)),
         Err(WireFault::BadField(name)) => Ok(Reply::Refused(Refusal::BadField(name))),
@@ -75,15 +80,22 @@ fn reply_to_line<S: Steps>(
     }
 }
 
-impl<'a, S: Steps> Responder for DeskLines<'a, S> {
+impl<'a, 'b, S: Steps> Responder for DeskLines<'a, 'b, S> {
     ghost use Rattle.sp_run.specs.DeskLines.{AnswersLine, StopsAtLine};
 
     ghost answers = { AnswersLine };
 
     ghost stops = { StopsAtLine };
 
-    fn answer(&mut self, line: &[u8]) -> Result<Vec<u8>, AllocError> {
-        let reply = reply_to_line(self.alloc, &mut self.desk, line, self.steps)?;
+    fn answer<F: Shelf>(&mut self, line: &[u8], shelf: &mut F) -> Result<Vec<u8>, AllocError> {
+        let reply = reply_to_line(
+            self.alloc,
+            self.name,
+            &mut self.desk,
+            line,
+            shelf,
+            self.steps,
+        )?;
         write_reply(self.alloc, &reply)
     }
 }

@@ -112,7 +112,11 @@ fn commands_are_answered(rt: HostRuntime) -> Result<(), Fail> {
                     r#"{"do":"blocks"}"#,
                     r#"{"blocks":[{"dual":false,"first":0,"kind":"action","last":0,"lines":["adb"],"number":null}],"ok":true}"#,
                 ),
-                (r#"{"do":"next_round"}"#, r#"{"no":"UnknownCommand"}"#),
+                (
+                    r#"{"do":"next_round"}"#,
+                    r#"{"name":"Blue","ok":true,"round":1}"#,
+                ),
+                (UNDO, r#"{"no":"NothingToUndo"}"#),
             ],
         ),
         (

@@ -1,26 +1,28 @@
 ghost use Rattle.std.specs.Prelude.{◌≡◌, IfSome};
 ghost use Rattle.spec_session.specs.CommandLines.{KeepsLimits};
+ghost use Rattle.spec_session.specs.Runs.{at_shelf};
 ghost use Rattle.spec_session.specs.Sessions.{streams, SessionEnds, Tells, Settles, AnswersAll, FailedNothing};
 ghost use Rattle.sp_session.specs.Answering.{AnswersLine, end_of};
 
 use crate::lines::{CommandLines, LineStop, NextLine};
 use crate::responder::Responder;
-use sp_kit::{Sink, Source, write_whole};
+use sp_kit::{Shelf, Sink, Source, write_whole};
 use spec_session::SessionEnd;
 use std::alloc::Global;
 
-/// Answers the command lines of the source in order, each as soon as it is whole, and writes each reply whole before it
-/// goes on. A session ends at the first of what `SessionEnd` tells (docs/RULES.md, "Sessions"). `ReadFault` and
+/// Answers the command lines of the source in order, each as soon as it is whole and with the shelf at hand, and writes
+/// each reply whole before it goes on. A session ends at the first of what `SessionEnd` tells (docs/RULES.md, "Sessions"). `ReadFault` and
 /// `WriteFault` come only where that count of faults rose in this call, `CommandLong` and `InputFull` exactly where a
 /// line or their number passes its limit, and at most one byte past a limit is read.
-pub fn session<R: Responder, I: Source, O: Sink>(
+pub fn session<R: Responder, I: Source, O: Sink, F: Shelf>(
     alloc: Global,
     responder: &mut R,
     input: &mut I,
     output: &mut O,
+    shelf: &mut F,
 ) -> SessionEnd
     ensures ends { SessionEnds R.answers R.stops (streams (I.state input.old) (O.state output.old)) (streams (I.state input.new) (O.state output.new))
-        responder.old responder.new result }
+        (at_shelf responder.old (F.state shelf.old)) (at_shelf responder.new (F.state shelf.new)) result }
 
     // What the end tells of the whole input, where the source tells it.
     ensures tells { IfSome (I.state input.old).unread (λ all. Tells all result) }
@@ -31,18 +33,19 @@ pub fn session<R: Responder, I: Source, O: Sink>(
     ensures complete { FailedNothing (streams (I.state input.old) (O.state output.old)) (streams (I.state input.new) (O.state output.new))
         → IfSome (I.state input.old).unread (λ all. KeepsLimits all → AnswersAll result) }
 {
-    answer_lines(alloc, responder, input, output)
+    answer_lines(alloc, responder, input, output, shelf)
 }
 
 /// Answers line after line until the session ends.
-fn answer_lines<R: Responder, I: Source, O: Sink>(
+fn answer_lines<R: Responder, I: Source, O: Sink, F: Shelf>(
     alloc: Global,
     responder: &mut R,
     input: &mut I,
     output: &mut O,
+    shelf: &mut F,
 ) -> SessionEnd
     ensures { SessionEnds R.answers R.stops (streams (I.state input.old) (O.state output.old)) (streams (I.state input.new) (O.state output.new))
-        responder.old responder.new result }
+        (at_shelf responder.old (F.state shelf.old)) (at_shelf responder.new (F.state shelf.new)) result }
 {
     let mut lines = match CommandLines::new(alloc) {
         Ok(lines) => lines,
@@ -51,12 +54,12 @@ fn answer_lines<R: Responder, I: Source, O: Sink>(
     loop {
         match lines.next(input) {
             Ok(NextLine::Whole) => {
-                if let Err(end) = answer_line(responder, lines.line(), output) {
+                if let Err(end) = answer_line(responder, lines.line(), output, shelf) {
                     return end;
                 }
             }
             Ok(NextLine::Last) => {
-                if let Err(end) = answer_line(responder, lines.line(), output) {
+                if let Err(end) = answer_line(responder, lines.line(), output, shelf) {
                     return end;
                 }
                 return SessionEnd::Done;
@@ -68,14 +71,15 @@ fn answer_lines<R: Responder, I: Source, O: Sink>(
 }
 
 /// Answers one line and writes the reply whole.
-fn answer_line<R: Responder, O: Sink>(
+fn answer_line<R: Responder, O: Sink, F: Shelf>(
     responder: &mut R,
     line: &[u8],
     output: &mut O,
+    shelf: &mut F,
 ) -> Result<(), SessionEnd>
-    ensures { AnswersLine R.answers R.stops (O.state output.old) (O.state output.new) responder.old responder.new line.now result }
+    ensures { AnswersLine R.answers R.stops (O.state output.old) (O.state output.new) (at_shelf responder.old (F.state shelf.old)) (at_shelf responder.new (F.state shelf.new)) line.now result }
 {
-    let reply = match responder.answer(line) {
+    let reply = match responder.answer(line, shelf) {
         Ok(reply) => reply,
         Err(_) => return Err(SessionEnd::NoMemory),
     };

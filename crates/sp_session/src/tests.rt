@@ -2,7 +2,7 @@ ghost use Rattle.std.specs.Prelude.{◌≡◌, ◌<◌, ◌≤◌};
 ghost use Rattle.sp_kit.specs.Causes.{one_more};
 
 use super::*;
-use sp_kit::{MemorySink, MemorySource, Source};
+use sp_kit::{MemoryShelf, MemorySink, MemorySource, Shelf, Source};
 use std::alloc::{AllocError, Global};
 use std::test::Fail;
 
@@ -15,11 +15,11 @@ struct Echo {
 }
 
 impl Responder for Echo {
-    ghost answers = { λ old line new reply. new.seen ≡ one_more old.seen };
+    ghost answers = { λ old line new reply. new.it.seen ≡ one_more old.it.seen };
 
     ghost stops = { λ old line new. new ≡ old };
 
-    fn answer(&mut self, line: &[u8]) -> Result<Vec<u8>, AllocError> {
+    fn answer<F: Shelf>(&mut self, line: &[u8], _shelf: &mut F) -> Result<Vec<u8>, AllocError> {
         if self.seen == self.without {
             return Err(AllocError);
         }
@@ -53,7 +53,8 @@ fn ends(
         seen: 0,
         without: u64::MAX,
     };
-    let ended = session(alloc, &mut responder, &mut source, &mut sink);
+    let mut shelf = MemoryShelf::new(alloc, Vec::new(alloc));
+    let ended = session(alloc, &mut responder, &mut source, &mut sink, &mut shelf);
     Ok(ended == end && sink.taken() == replies.as_bytes() && left(&mut source) == unread)
 }
 
@@ -202,7 +203,8 @@ fn fails(
         seen: 0,
         without,
     };
-    let ended = session(alloc, &mut responder, &mut source, &mut sink);
+    let mut shelf = MemoryShelf::new(alloc, Vec::new(alloc));
+    let ended = session(alloc, &mut responder, &mut source, &mut sink, &mut shelf);
     let replies = b"0:3\n1:3\n2:5\n3:4\n";
     Ok(ended == end && sink.taken() == &replies[..count])
 }

@@ -4,3 +4,4 @@ pub mod LimitLaws
 pub mod RunLaws
 pub mod EndLaws
 pub mod SeenLaws
+pub mod KeepLaws

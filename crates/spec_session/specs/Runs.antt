@@ -1,5 +1,14 @@
 -- What answering lines in order comes to (docs/RULES.md, "Sessions").
 use Rattle.std.specs.Prelude.{ℕ, List, [], ◌∷◌, map, flat_map}
+use Rattle.sp_kit.specs.Files.{ShelfState}
+
+-- What answers lines, and the shelf that it has.
+pub record AtShelf (R : Type 0) : Type 0 where
+  pub it : R
+  pub shelf : ShelfState
+
+abbrev pub at_shelf : {R : Type 0} → R → ShelfState → AtShelf R
+at_shelf it shelf = record { it = it; shelf = shelf }
 
 -- A line answered: what answers it, as it is then, and the bytes of its reply.
 pub record Answered (R : Type 0) : Type 0 where

@@ -1,19 +1,42 @@
-use Rattle.std.proofs.Common.{sym, ap, subst}
+use Rattle.std.proofs.Common.{sym, ap, refl, subst}
+use Rattle.spec_session.specs.Runs.{at_shelf}
 use Rattle.spec_session.specs.Sessions.{SessionEnds, streams}
+use Rattle.std.specs.declared.option.Option.{Option}
+use Rattle.sp_kit.specs.Files.{Files}
 use Rattle.sp_kit.specs.Outside.{SourceState}
-use Rattle.sp_run.specs.DeskLines.{AnswersLine, StopsAtLine}
+use Rattle.sp_run.specs.DeskLines.{AnswersLine, StopsAtLine, seat}
+use Rattle.sp_run.specs.Records.{records_name}
+use Rattle.sp_run.specs.Saving.{Changes, KeepsAllBut}
 use Rattle.sp_run.specs.Ending.{DeskEnds, outside}
-use Rattle.sp_run.proofs.DeskSessions.{session-held, held-ends}
+use Rattle.sp_run.proofs.DeskSessions.{session-held, held-ends, held-others}
+use Rattle.sp_run.proofs.Saves.{changes-none}
 use Rattle.sp_run.proofs.desk.hold_session.Goals as goal
 
 pub returns-in-Err-clause-ends : goal.returns-in-Err-clause-ends
 returns-in-Err-clause-ends g c = (c.in-Err.ensures.refused (g.O.Sink.state c.args.output.now)).0
 
+pub returns-in-Err-clause-others : goal.returns-in-Err-clause-others
+returns-in-Err-clause-others g c =
+    let name = c.args.name.now in
+    changes-none _ _ (λ (old new : Files). KeepsAllBut old new name (records_name name)) (λ files other not-first not-second. refl) c.open_desk.ensures.files_kept
+
 pub returns-clause-ends : goal.returns-clause-ends
 returns-clause-ends g c =
     let old = outside (g.I.Source.state c.args.input.now) (g.O.Sink.state c.args.output.now) (g.F.Shelf.state c.args.shelf.now) in
-    let new = outside (g.I.Source.state c.session.new.input) (g.O.Sink.state c.session.new.output) (g.F.Shelf.state c.open_desk.new.shelf) in
-    let ends = subst (λ (source : SourceState). SessionEnds AnswersLine StopsAtLine (streams source old.sink) (streams new.source new.sink) c.in-Ok.desk c.session.new.responder c.session.result)
+    let new = outside (g.I.Source.state c.session.new.input) (g.O.Sink.state c.session.new.output) (g.F.Shelf.state c.session.new.shelf) in
+    let between = g.F.Shelf.state c.open_desk.new.shelf in
+    let after = at_shelf c.session.new.responder (g.F.Shelf.state c.session.new.shelf) in
+    let ends = subst (λ (source : SourceState). SessionEnds AnswersLine StopsAtLine (streams source old.sink) (streams new.source new.sink) (seat c.args.name.now c.in-Ok.desk between) after c.session.result)
     (ap g.I.Source.state c.open_desk.ensures.source_kept) c.session.ensures.ends in
-    let held = session-held c.args.name.now old new c.in-Ok.desk c.session.new.responder c.session.result c.in-Ok.ensures.opened ends in
+    let held = session-held c.args.name.now old new between c.in-Ok.desk after c.session.result c.in-Ok.ensures.opened ends refl in
     subst (DeskEnds c.args.name.now old new) (sym c.from.ensures) (held-ends c.args.name.now old new c.session.result held)
+
+pub returns-clause-others : goal.returns-clause-others
+returns-clause-others g c =
+    let old = outside (g.I.Source.state c.open_desk.new.input) (g.O.Sink.state c.args.output.now) (g.F.Shelf.state c.args.shelf.now) in
+    let new = outside (g.I.Source.state c.session.new.input) (g.O.Sink.state c.session.new.output) (g.F.Shelf.state c.session.new.shelf) in
+    let between = g.F.Shelf.state c.open_desk.new.shelf in
+    let after = at_shelf c.session.new.responder (g.F.Shelf.state c.session.new.shelf) in
+    let name = c.args.name.now in
+    subst (λ (files : Option Files). Changes files after.shelf.files (λ (one other : Files). KeepsAllBut one other name (records_name name))) c.open_desk.ensures.files_kept
+    (held-others name c.in-Ok.desk between old new after c.session.result c.session.ensures.ends)

@@ -17,8 +17,10 @@ lines-read script text read =
     let same : line_texts text.lines ≡ read.texts = ap line_texts read.lines_are ∙ texts-from 0 read.texts in
     record {
       reads = read.came_to ∙ ap lines (sym same);
-      read = read.lines_are ∙ ap read_lines (sym same);
-      next = read.next_is ∙ sym (ap length same) ∙ length-map text.lines (λ (line : LineState). line.text);
+      fresh = record {
+        read = read.lines_are ∙ ap read_lines (sym same);
+        next = read.next_is ∙ sym (ap length same) ∙ length-map text.lines (λ (line : LineState). line.text);
+      };
     }
 
 pub returns : goal.returns

@@ -1,4 +1,5 @@
 use Rattle.std.proofs.Common.{[], ◌∷◌, ◌++◌}
+use Rattle.spec_session.specs.Runs.{at_shelf}
 use Rattle.spec_session.specs.Sessions.{streams}
 use Rattle.sp_session.proofs.HandedLaws.{handed-more, all-handed, last-handed}
 use Rattle.sp_session.proofs.SessionLaws.{answered, whole-comes, last-comes, ends-unbegun, ends-lent, ends-done, ends-stop}
@@ -6,14 +7,14 @@ use Rattle.sp_session.proofs.answering.answer_lines.Goals as goal
 
 pub returns-in-Err : goal.returns-in-Err
 returns-in-Err g c =
-    ends-unbegun g.R.Responder.answers g.R.Responder.stops (streams (g.I.Source.state c.args.input.now) (g.O.Sink.state c.args.output.now)) c.args.responder.now
+    ends-unbegun g.R.Responder.answers g.R.Responder.stops (streams (g.I.Source.state c.args.input.now) (g.O.Sink.state c.args.output.now)) (at_shelf c.args.responder.now (g.F.Shelf.state c.args.shelf.now))
 
 pub returns-in-Ok-End : goal.returns-in-Ok-End
 returns-in-Ok-End g c =
     let (lines, handed, done) = c.loop-responder.invariant in
     let asks = rw c.in-Ok-End.field-0-is at c.in-Ok-End.ensures.next in
     ends-done g.R.Responder.answers g.R.Responder.stops (g.I.Source.state c.args.input.now) (g.I.Source.state c.next.new.input) (g.O.Sink.state c.args.output.now) (g.O.Sink.state c.loop-responder.output)
-    c.args.responder.now c.loop-responder.responder lines
+    (at_shelf c.args.responder.now (g.F.Shelf.state c.args.shelf.now)) (at_shelf c.loop-responder.responder (g.F.Shelf.state c.loop-responder.shelf)) lines
     (all-handed (g.I.Source.state c.args.input.now) (g.I.Source.state c.loop-responder.input) (g.I.Source.state c.next.new.input) lines c.loop-responder.lines c.next.new.self asks.read handed asks.gave asks.comes.1
     asks.comes.0)
     done
@@ -23,7 +24,7 @@ returns-in-Err-next g c =
     let (lines, handed, done) = c.loop-responder.invariant in
     rw c.end_of.ensures
     (ends-stop g.R.Responder.answers g.R.Responder.stops (g.I.Source.state c.args.input.now) (g.I.Source.state c.loop-responder.input) (g.I.Source.state c.next.new.input)
-    (g.O.Sink.state c.args.output.now) (g.O.Sink.state c.loop-responder.output) c.args.responder.now c.loop-responder.responder lines c.loop-responder.lines c.next.new.self c.in-Err-next.stop handed
+    (g.O.Sink.state c.args.output.now) (g.O.Sink.state c.loop-responder.output) (at_shelf c.args.responder.now (g.F.Shelf.state c.args.shelf.now)) (at_shelf c.loop-responder.responder (g.F.Shelf.state c.loop-responder.shelf)) lines c.loop-responder.lines c.next.new.self c.in-Err-next.stop handed
     c.in-Err-next.ensures.next done)
 
 pub loop-responder-preserved : goal.loop-responder-preserved
@@ -35,7 +36,7 @@ loop-responder-preserved g c =
       handed-more (g.I.Source.state c.args.input.now) (g.I.Source.state c.loop-responder.input) (g.I.Source.state c.next.new.input) lines c.loop-responder.lines c.next.new.self asks.read handed asks.gave
           asks.comes.1 asks.comes.0 asks.budget,
       answered g.R.Responder.answers g.R.Responder.stops (g.O.Sink.state c.args.output.now) (g.O.Sink.state c.loop-responder.output) (g.O.Sink.state c.answer_line.new.output)
-          c.args.responder.now c.loop-responder.responder c.answer_line.new.responder lines c.next.new.self.line c.in_default.field-0 done reply,
+          (at_shelf c.args.responder.now (g.F.Shelf.state c.args.shelf.now)) (at_shelf c.loop-responder.responder (g.F.Shelf.state c.loop-responder.shelf)) (at_shelf c.answer_line.new.responder (g.F.Shelf.state c.answer_line.new.shelf)) lines c.next.new.self.line c.in_default.field-0 done reply,
     )
 
 pub returns-in-Err-answer_line : goal.returns-in-Err-answer_line
@@ -43,7 +44,7 @@ returns-in-Err-answer_line g c =
     let (lines, handed, done) = c.loop-responder.invariant in
     let asks = rw c.in-Ok-Whole.field-0-is at c.in-Ok-Whole.ensures.next in
     ends-lent g.R.Responder.answers g.R.Responder.stops (g.I.Source.state c.args.input.now) (g.I.Source.state c.next.new.input) (g.O.Sink.state c.args.output.now)
-    (g.O.Sink.state c.loop-responder.output) (g.O.Sink.state c.answer_line.new.output) c.args.responder.now c.loop-responder.responder c.answer_line.new.responder lines c.next.new.self.line
+    (g.O.Sink.state c.loop-responder.output) (g.O.Sink.state c.answer_line.new.output) (at_shelf c.args.responder.now (g.F.Shelf.state c.args.shelf.now)) (at_shelf c.loop-responder.responder (g.F.Shelf.state c.loop-responder.shelf)) (at_shelf c.answer_line.new.responder (g.F.Shelf.state c.answer_line.new.shelf)) lines c.next.new.self.line
     c.line.result.now c.in-Err-answer_line.end c.line.ensures
     (whole-comes (g.I.Source.state c.args.input.now) (g.I.Source.state c.next.new.input) lines c.next.new.self.line c.next.new.self
     (handed-more (g.I.Source.state c.args.input.now) (g.I.Source.state c.loop-responder.input) (g.I.Source.state c.next.new.input) lines c.loop-responder.lines c.next.new.self asks.read handed asks.gave
@@ -55,7 +56,7 @@ returns-in-Err-answer_line-2 g c =
     let (lines, handed, done) = c.loop-responder.invariant in
     let asks = rw c.in-Ok-Last.field-0-is at c.in-Ok-Last.ensures.next in
     ends-lent g.R.Responder.answers g.R.Responder.stops (g.I.Source.state c.args.input.now) (g.I.Source.state c.next.new.input) (g.O.Sink.state c.args.output.now)
-    (g.O.Sink.state c.loop-responder.output) (g.O.Sink.state c.answer_line-in-Ok-Last.new.output) c.args.responder.now c.loop-responder.responder c.answer_line-in-Ok-Last.new.responder lines
+    (g.O.Sink.state c.loop-responder.output) (g.O.Sink.state c.answer_line-in-Ok-Last.new.output) (at_shelf c.args.responder.now (g.F.Shelf.state c.args.shelf.now)) (at_shelf c.loop-responder.responder (g.F.Shelf.state c.loop-responder.shelf)) (at_shelf c.answer_line-in-Ok-Last.new.responder (g.F.Shelf.state c.answer_line-in-Ok-Last.new.shelf)) lines
     c.next.new.self.line c.line-in-Ok-Last.result.now c.in-Err-answer_line-2.end c.line-in-Ok-Last.ensures
     (last-comes (g.I.Source.state c.args.input.now) (g.I.Source.state c.next.new.input) lines c.next.new.self.line
     (last-handed (g.I.Source.state c.args.input.now) (g.I.Source.state c.loop-responder.input) (g.I.Source.state c.next.new.input) lines c.loop-responder.lines c.next.new.self asks.read handed asks.gave
@@ -68,8 +69,8 @@ returns-in-Ok-Last g c =
     let asks = rw c.in-Ok-Last.field-0-is at c.in-Ok-Last.ensures.next in
     let reply = rw c.line-in-Ok-Last.ensures at c.in_default-answer_line.ensures in
     ends-done g.R.Responder.answers g.R.Responder.stops (g.I.Source.state c.args.input.now) (g.I.Source.state c.next.new.input) (g.O.Sink.state c.args.output.now)
-    (g.O.Sink.state c.answer_line-in-Ok-Last.new.output) c.args.responder.now c.answer_line-in-Ok-Last.new.responder (lines ++ c.next.new.self.line ∷ [])
+    (g.O.Sink.state c.answer_line-in-Ok-Last.new.output) (at_shelf c.args.responder.now (g.F.Shelf.state c.args.shelf.now)) (at_shelf c.answer_line-in-Ok-Last.new.responder (g.F.Shelf.state c.answer_line-in-Ok-Last.new.shelf)) (lines ++ c.next.new.self.line ∷ [])
     (last-handed (g.I.Source.state c.args.input.now) (g.I.Source.state c.loop-responder.input) (g.I.Source.state c.next.new.input) lines c.loop-responder.lines c.next.new.self asks.read handed asks.gave
     asks.comes.1 asks.comes.0)
     (answered g.R.Responder.answers g.R.Responder.stops (g.O.Sink.state c.args.output.now) (g.O.Sink.state c.loop-responder.output) (g.O.Sink.state c.answer_line-in-Ok-Last.new.output)
-    c.args.responder.now c.loop-responder.responder c.answer_line-in-Ok-Last.new.responder lines c.next.new.self.line c.in_default-answer_line.field-0 done reply)
+    (at_shelf c.args.responder.now (g.F.Shelf.state c.args.shelf.now)) (at_shelf c.loop-responder.responder (g.F.Shelf.state c.loop-responder.shelf)) (at_shelf c.answer_line-in-Ok-Last.new.responder (g.F.Shelf.state c.answer_line-in-Ok-Last.new.shelf)) lines c.next.new.self.line c.in_default-answer_line.field-0 done reply)
