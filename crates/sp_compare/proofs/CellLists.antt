@@ -1,11 +1,11 @@
 -- Parts and cells, compared one by one.
-use Rattle.std.proofs.Common.{◌≡◌, ◌≢◌, ℕ, zero, suc, ◌+◌, ◌-◌, ◌<◌, ◌≤◌, Bool, true, false, cond, List, [], ◌∷◌, length, map, filter, drop, get_or, eq-eqb, ne_eqb, refl, sym, ap, ap₂, subst, ◌∙◌, arith}
+use Rattle.std.proofs.Common.{◌≡◌, ◌≢◌, ℕ, zero, suc, ◌+◌, ◌-◌, ◌<◌, ◌≤◌, Bool, true, false, cond, List, [], ◌∷◌, length, map, drop, get_or, eq-eqb, ne_eqb, refl, sym, ap, ap₂, subst, ◌∙◌, arith}
 use Rattle.std.specs.Prelude.{not, nat_eq, ◌&&◌, All}
 use Rattle.std.proofs.lemmas.List.{drop_more, drop_all, get_or-map, length-map}
 use Rattle.spec_script.specs.declared.Run.{Run}
 use Rattle.spec_pages.specs.Rows.{Cell, shifted_cell}
 use Rattle.spec_layout.specs.Cells.{ShownCell, ShownPart, continued, fixed_cell, shown_cell, shown_part, text_at, without_numbers}
-use Rattle.spec_state.specs.SameRows.{same_cell, same_cells, same_part, same_parts}
+use Rattle.spec_state.specs.SameRows.{same_cells, same_part, same_parts}
 use Rattle.sp_compare.specs.BareRows.{bare_cells, own_runs, own_text, whole}
 
 -- ---- parts

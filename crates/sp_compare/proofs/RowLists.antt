@@ -1,13 +1,13 @@
 -- Rows, compared one by one.
 use Rattle.std.proofs.Common.{◌≡◌, ◌≢◌, ℕ, zero, suc, ◌+◌, ◌-◌, ◌<◌, ◌≤◌, Bool, true, false, Option, List, [], ◌∷◌, ◌++◌, length, map, take, drop, get_or, refl, sym, ap, ap₂, ◌∙◌, arith, length-drop}
-use Rattle.std.specs.Prelude.{◌&&◌, All, slice_range}
+use Rattle.std.specs.Prelude.{◌&&◌, slice_range}
 use Rattle.std.proofs.lemmas.List.{drop_more, length-map, length-take, map-append}
 use Rattle.spec_text.specs.Lines.{LineState, line_texts}
 use Rattle.spec_pages.specs.Rows.{Row, ElementOf, placed_rows}
 use Rattle.spec_labels.specs.Labels.{LabelOf}
 use Rattle.spec_layout.specs.Cells.{ShownCell}
 use Rattle.spec_layout.specs.Layout.{placed_in}
-use Rattle.spec_layout.specs.Shown.{Shown, element_cue, heading_label, labels_behind, shown_of, shown_rows}
+use Rattle.spec_layout.specs.Shown.{element_cue, heading_label, labels_behind, shown_of, shown_rows}
 use Rattle.spec_state.specs.SameRows.{BareRow, bare_of, same_list, same_row}
 use Rattle.sp_compare.specs.BareRows.{bare_row, bare_rows}
 

@@ -18,6 +18,7 @@ ghost use Rattle.sp_desk.specs.Answers.{IsAnswer};
 use crate::DeskFault;
 use crate::replies::{edited_reply, next_after, page_count, scene_count, sheet_labels};
 use sp_answers::{block_replies, round_name, sheet_reply};
+use sp_contents::outline_reply;
 use sp_journal::Journal;
 use sp_kit::Steps;
 use sp_print::PageView;
@@ -124,7 +125,8 @@ impl Desk {
             Command::Blocks => self.blocks_answer(alloc),
             Command::Speakers(on) => self.set_speakers(alloc, on, steps),
             Command::Paper(paper) => self.set_paper(alloc, paper, steps),
-            Command::Outline | Command::Save | Command::Packet => {
+            Command::Outline => self.outline_answer(alloc),
+            Command::Save | Command::Packet => {
                 Err(DeskFault::Refused(Refusal::UnknownCommand))
             }
         }
@@ -275,6 +277,13 @@ impl Desk {
     {
         let script = &self.script;
         Ok(Reply::Blocks(block_replies(alloc, script.lines(), script.stanzas())?))
+    }
+
+    fn outline_answer(&self, alloc: Global) -> Result<Reply, DeskFault>
+        ensures step { IsAnswer self.now commands.outline self.now result }
+        ensures unrefused { IfOk result (λ reply. is_refused (reply_of reply) ≡ false) }
+    {
+        Ok(outline_reply(alloc, &self.script)?)
     }
 
     /// How many sheets the present state has, those of its title page counted. The state and all that can be undone or

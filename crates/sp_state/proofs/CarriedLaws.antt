@@ -1,6 +1,6 @@
 -- Page records that an edit carries and raises.
-use Rattle.std.proofs.Common.{◌≡◌, ◌≢◌, ℕ, zero, suc, ◌+◌, ◌<◌, ◌≤◌, Bool, true, false, cond, Option, Some, None, Result, Ok, Err, List, [], ◌∷◌, ◌++◌, length, map, take, drop, get_or, inl, inr, refl, sym, ap, ◌∙◌, subst, arith}
-use Rattle.std.specs.Prelude.{◌==◌, ◌||◌, IsTrue, All, IfOk, IfSome, is_some, option_map, nat_lt, not}
+use Rattle.std.proofs.Common.{◌≡◌, ◌≢◌, ℕ, zero, suc, ◌+◌, ◌<◌, ◌≤◌, Bool, true, false, cond, Option, Some, None, Result, Ok, Err, List, [], ◌∷◌, ◌++◌, length, map, take, drop, get_or, refl, sym, ap, ◌∙◌, subst, arith}
+use Rattle.std.specs.Prelude.{◌==◌, ◌||◌, IsTrue, All, IfOk, IfSome, is_some, option_map, not}
 use Rattle.std.specs.List.{list_any}
 use Rattle.std.proofs.lemmas.Bool.{eq-eqb, lt-ltb}
 use Rattle.std.proofs.lemmas.List.{length-map}
@@ -12,14 +12,13 @@ use Rattle.spec_text.proofs.TakenEdits.{taken-inside}
 use Rattle.spec_text.proofs.EditedLaws.{text-HasIds, changed-IsEdited}
 use Rattle.spec_pages.specs.Rows.{ElementOf}
 use Rattle.spec_labels.specs.declared.Moved.{Moved}
-use Rattle.spec_labels.specs.declared.RowKey.{RowKey}
 use Rattle.spec_labels.specs.Labels.{LabelOf}
 use Rattle.spec_labels.specs.Scenes.{SceneRecordOf, scene_step_limit}
 use Rattle.spec_labels.specs.PageRecords.{PageRecordOf, carried, carried_records, end_line, is_present, line_at, put_back_records, record_starts}
 use Rattle.spec_labels.proofs.CarryLaws.{Edited}
 use Rattle.spec_labels.proofs.PageRecordLaws.{carried-labels}
 use Rattle.spec_layout.specs.Cells.{RowShows}
-use Rattle.spec_layout.specs.Layout.{Layout, placed_in}
+use Rattle.spec_layout.specs.Layout.{placed_in}
 use Rattle.spec_layout.specs.Shown.{Shown, row_key, shown_rows}
 use Rattle.spec_layout.proofs.LayoutLaws.{layout_of-show}
 use Rattle.spec_records.specs.Kept.{AreKeptScenes, KeepsScenes, RecordsOf}
@@ -37,7 +36,6 @@ use Rattle.spec_machine.proofs.WholeStates.{edit-whole}
 use Rattle.spec_state.proofs.StateKeys.{state-row_keys}
 use Rattle.spec_state.proofs.StateLaws.{state-AreAnchored, state-AreStarts}
 use Rattle.sp_layout.specs.Bodies.{BodyOf, row_count}
-use Rattle.sp_layout.specs.LaidOut.{LayoutOf, keyed}
 use Rattle.sp_compare.specs.BareRows.{AreLaid, Both}
 use Rattle.sp_state.specs.Entries.{EntryState, FitRecords, LeadsBack, displaced, undone_records, with_text}
 use Rattle.sp_state.specs.Made.{key_starts}
@@ -242,12 +240,6 @@ whole-laid state body whole elements keys = record {
   keys = keys ∙ state-row_keys state ∙ ap (λ (es : List ElementOf). map (row_key state.lines) (placed_in es)) (sym elements);
   show = subst (λ (es : List ElementOf). All (RowShows (line_texts state.lines)) (placed_in es)) (sym elements) (layout_of-show state.speakers (text_of state) whole.text).1;
 }
-
-pub layout-keys : (state : State) (it : LayoutOf) → it ≡ keyed state.lines (layout_in state) → it.body.keys ≡ keys_in state
-layout-keys state it is = ap (λ (l : LayoutOf). l.body.keys) is ∙ sym (state-row_keys state)
-
-pub layout-laid : (state : State) (it : LayoutOf) → IsWhole state → it ≡ keyed state.lines (layout_in state) → AreLaid state.lines it.body
-layout-laid state it whole is = whole-laid state it.body whole (ap (λ (l : LayoutOf). l.body.elements) is) (layout-keys state it is)
 
 -- The starts of a whole state's records are those of segments.
 pub own-segments : (state : State) (records : List PageRecordOf) (elements : List ElementOf) (starts : List ℕ) → IsWhole state → state.pages ≡ Some records → elements ≡ (layout_in state).body

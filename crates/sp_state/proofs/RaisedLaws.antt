@@ -1,5 +1,5 @@
 -- The rounds that an edit gives page records.
-use Rattle.std.proofs.Common.{◌≡◌, ◌≢◌, ℕ, zero, suc, ◌+◌, ◌<◌, ◌≤◌, Bool, true, false, cond, Option, Some, None, List, [], ◌∷◌, ◌++◌, length, drop, get_or, append_assoc, eq-eqb, ne_eqb, refl, ap, ap₂, sym, ◌∙◌, subst, arith}
+use Rattle.std.proofs.Common.{◌≡◌, ◌≢◌, ℕ, zero, suc, ◌+◌, ◌<◌, ◌≤◌, Bool, true, false, cond, Option, Some, None, List, [], ◌∷◌, ◌++◌, length, drop, get_or, append_assoc, eq-eqb, ne_eqb, refl, ap, ap₂, sym, ◌∙◌, arith}
 use Rattle.std.specs.Prelude.{All, AllPairs, slice_index, slice_index_or, slice_range}
 use Rattle.std.proofs.lemmas.List.{drop_more, get_or-drop}
 use Rattle.spec_labels.specs.declared.Moved.{Moved}

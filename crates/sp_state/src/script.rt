@@ -54,19 +54,6 @@ impl Model for Script {
     ghost invariant = { λ s. IsWhole (state_of (text_of s.lines) s.records) × IsMadeOf (state_of (text_of s.lines) s.records) s.made };
 }
 
-/// The records of a state without any.
-fn no_records() -> Records
-    ensures { result ≡ records_of (opened_state []) }
-{
-    Records {
-        round: 0,
-        speakers: true,
-        paper: Paper::Letter,
-        scenes: None,
-        pages: None,
-    }
-}
-
 impl Script {
     /// The script of lines that were just read, without records. Each stanza is read once, and each page of the body
     /// filled once. `AllocError` comes for want of memory alone.
@@ -76,7 +63,7 @@ impl Script {
         ensures { IfOk result (λ script. script ≡ opened_state (line_texts lines.lines)) }
     {
         let _count = lines.len();
-        Script::open(alloc, lines, no_records(), steps)
+        Script::open(alloc, lines, Records::none(), steps)
     }
 
     /// The script of these lines with these records. Each stanza is read once, and each page of the body filled once.

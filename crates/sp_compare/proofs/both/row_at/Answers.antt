@@ -1,4 +1,4 @@
-use Rattle.std.proofs.Common.{◌≡◌, List, get_or, ap, sym, ◌∙◌}
+use Rattle.std.proofs.Common.{List, get_or, ap, sym, ◌∙◌}
 use Rattle.spec_pages.specs.Rows.{ElementOf}
 use Rattle.sp_compare.proofs.RowPlaces.{row-there}
 use Rattle.sp_compare.proofs.both.row_at.Goals as goal

@@ -27,7 +27,7 @@ loop-index-preserved c = λ olds news.
     let moved = c.loop-index.moved.items in
     let same = same-at i old new before after c.same_segment.result (length-shown_rows texts.old olds texts.olds) (length-shown_rows texts.new news texts.news) (c.same_segment.ensures olds news) in
     elim c.if-not-same_segment.branch [
-      then-not-same_segment+in_ok-push w ↦
+      | then-not-same_segment+in_ok-push w ↦
           let at = c.index-records-index.is in
           let more : c.if-not-same_segment.moved.items ≡ moved ++ moved_of i (raised c.args.round false own) ∷ [] =
           rw w.moved-is (w.in_ok-push.ensures.items ∙ ap (λ (r : PageRecordOf). moved ++ moved_of i (raised c.args.round false r) ∷ []) (c.record.view_is ∙ at)) in

@@ -1,6 +1,5 @@
-use Rattle.std.proofs.Common.{◌≡◌, ◌+◌, ◌-◌, ℕ, List, length, ne_eqb, ap, ap₂, sym, ◌∙◌, arith}
-use Rattle.spec_layout.specs.Layout.{placed_in}
-use Rattle.spec_state.specs.SameRows.{BareRow, same_list}
+use Rattle.std.proofs.Common.{◌≡◌, ◌+◌, ◌-◌, ℕ, ne_eqb, ap₂, sym, ◌∙◌, arith}
+use Rattle.spec_state.specs.SameRows.{same_list}
 use Rattle.sp_compare.specs.BareRows.{bare_rows}
 use Rattle.sp_compare.proofs.RowLists.{length-bare, list-differ, slice-bare}
 use Rattle.sp_compare.proofs.both.BothTexts.same_rows.Goals as goal

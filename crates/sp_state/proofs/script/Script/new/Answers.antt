@@ -7,5 +7,5 @@ use Rattle.sp_state.proofs.script.Script.new.Goals as goal
 
 pub open-requires : goal.open-requires
 open-requires g c =
-    subst (λ (records : RecordsOf). IsWhole (state_of (text_of c.args.lines) records)) (sym c.no_records.ensures)
+    subst (λ (records : RecordsOf). IsWhole (state_of (text_of c.args.lines) records)) (sym c.none.ensures)
     (opened-whole (text_of c.args.lines) c.len-count.ensures.keeps c.requires.read c.requires.next)
