@@ -21,9 +21,13 @@ use Rattle.spec_wire.specs.Replies.{RefusalOf, refused, nothing_to_undo, nothing
 use Rattle.spec_machine.specs.Machine.{EntryOf, Memory, opened_memory, last_entry, without_last, entry_of, edited_memory, undone_to, redone_to, memory_after, Accepts}
 use Rattle.spec_machine.specs.KeptMemories.{IsEntry, IsWholeMemory}
 use Rattle.spec_machine.specs.Refusals.{refusal_to, edit_refusal, reason_if, scenes_refusal, pages_refusal, round_refusal, setting_refusal}
-use Rattle.spec_machine.specs.Answers.{step_by, step_of, accepted_reply, found_sheet, sheet_reply}
+use Rattle.spec_machine.specs.Answers.{Step, step_by, step_of, accepted_reply, found_sheet, sheet_reply}
 use Rattle.spec_machine.proofs.MachineLaws.{opened-whole, step-whole}
-use Rattle.spec_machine.proofs.StepLaws.{Keeps, same-Keeps, step-Keeps}
+use Rattle.spec_machine.proofs.StepLaws.{Keeps, free-Accepts, same-Keeps, step-Keeps}
+use Rattle.spec_locked_pages.specs.Chains.{AreLinked}
+use Rattle.spec_locked_pages.specs.Promises.{KeepsPages}
+use Rattle.spec_locked_pages.proofs.ChainLaws.{opened-linked, step-linked}
+use Rattle.spec_locked_pages.proofs.PageLaws.{command-keeps, unchanged-keeps}
 use Rattle.spec_machine.proofs.RefusalLaws.{free-scenes, free-pages, free-round}
 use Rattle.sp_state.specs.Entries.{EntryState, undone_state, redone_state, done_range, undone_range, CanUndo, CanRedo, LeadsBack, LeadsForth}
 use Rattle.sp_wire.specs.declared.reply.Reply.{Reply}
@@ -122,6 +126,7 @@ edit-step old new done undone entry it desk free is text leads range =
       step = accepted-step memory (memory_by new (done ++ entry ∷ []) []) (edit it) (ap (option_map edit_refusal) free) same;
       desk = record {
         whole = subst IsWholeMemory (sym same) (step-whole memory (edit it) desk.whole (record { taken = free; text = there }));
+        linked = subst AreLinked (sym same) (step-linked memory (edit it) desk.linked (record { taken = free; text = there }));
         can_undo = can-more CanUndo undone_state new done entry leads.can (subst (λ (s : State). CanTurnAll CanUndo undone_state s done) (sym leads.back) desk.can_undo);
         can_redo = tt;
       };
@@ -146,6 +151,7 @@ undo-step old new done undone entry again desk is leads range =
       step = accepted-step memory (memory_by new done (undone ++ again ∷ [])) undo (some-of undone_state done_range old done entry nothing_to_undo) same;
       desk = record {
         whole = subst IsWholeMemory (sym same) (step-whole memory undo desk.whole (longer undone_state done_range old done entry));
+        linked = subst AreLinked (sym same) (step-linked memory undo desk.linked (longer undone_state done_range old done entry));
         can_undo = subst (λ (s : State). CanTurnAll CanUndo undone_state s done) (sym is) (can-front CanUndo undone_state old done entry desk.can_undo);
         can_redo = can-more CanRedo redone_state new undone again leads.can (subst (λ (s : State). CanTurnAll CanRedo redone_state s undone) (sym leads.forth) desk.can_redo);
       };
@@ -174,6 +180,7 @@ redo-step old new done undone entry again desk is leads range =
       step = accepted-step memory (memory_by new (done ++ again ∷ []) undone) redo (some-of redone_state undone_range old undone entry nothing_to_redo) same;
       desk = record {
         whole = subst IsWholeMemory (sym same) (step-whole memory redo desk.whole (longer redone_state undone_range old undone entry));
+        linked = subst AreLinked (sym same) (step-linked memory redo desk.linked (longer redone_state undone_range old undone entry));
         can_undo = can-more CanUndo undone_state new done again leads.can (subst (λ (s : State). CanTurnAll CanUndo undone_state s done) (sym leads.back) desk.can_undo);
         can_redo = subst (λ (s : State). CanTurnAll CanRedo redone_state s undone) (sym is) (can-front CanRedo redone_state old undone entry desk.can_redo);
       };
@@ -243,7 +250,7 @@ handed-desk state new done undone dones undones is same undos redos desk =
     subst (λ (s : State). IsSameDesk (memory_by state done undone) s dones undones) (sym is)
     (record {
       same = same;
-      desk = record { whole = subst IsWholeMemory (sym same) desk.whole; can_undo = undos; can_redo = redos };
+      desk = record { whole = subst IsWholeMemory (sym same) desk.whole; linked = subst AreLinked (sym same) desk.linked; can_undo = undos; can_redo = redos };
     })
 
 pub undo-back : (old new : State) (done undone front dones undones : List EntryState) (entry back : EntryState) → IsDesk old done undone → done ≡ front ++ entry ∷ [] → new ≡ old
@@ -281,7 +288,12 @@ opening-step old new done undone command desk free can same =
     let memory = memory_by old done undone in
     record {
       step = accepted-step memory (opened_memory new) command free same;
-      desk = record { whole = subst IsWholeMemory (sym same) (step-whole memory command desk.whole can); can_undo = tt; can_redo = tt };
+      desk = record {
+        whole = subst IsWholeMemory (sym same) (step-whole memory command desk.whole can);
+        linked = subst AreLinked (sym same) (step-linked memory command desk.linked can);
+        can_undo = tt;
+        can_redo = tt;
+      };
     }
 
 -- The lists as the journal has them.
@@ -320,7 +332,7 @@ paper-step old new done undone dones undones size desk none is first second =
     emptied old new done undone dones undones (paper size) first second (opening-step old new done undone (paper size) desk (free-setting old none) none (ap opened_memory is))
 
 pub opened-desk : (state : State) → IsWhole state → IsDesk state [] []
-opened-desk state whole = record { whole = opened-whole state whole; can_undo = tt; can_redo = tt }
+opened-desk state whole = record { whole = opened-whole state whole; linked = opened-linked state; can_undo = tt; can_redo = tt }
 
 -- What refuses a lock or a round is told.
 pub refused-opening : (memory : Memory) (command : CommandOf) (fault : OpeningFault) → IsReason (refusal_to memory command) fault → IsAnswer memory command memory (Err (opening_fault_of fault))
@@ -351,3 +363,22 @@ pub answer-Keeps : (old new : Memory) (command : CommandOf) (result : Result Rep
 answer-Keeps old new command (Ok reply) whole after is = step-Keeps old new command (step_to new (reply_of reply)) whole after is refl
 answer-Keeps old new command (Err (Refused reason)) whole after is = step-Keeps old new command (step_to new (refused (values.refusal_of reason))) whole after is refl
 answer-Keeps old new command (Err NoMemory) whole after is = same-Keeps old new command whole is
+
+-- Nothing is changed.
+same-pages : (old new : Memory) (command : CommandOf) → new ≡ old → KeepsPages old command new.state
+same-pages old new command is = subst (λ (m : Memory). KeepsPages old command m.state) (sym is) (unchanged-keeps old command)
+
+step-pages : (old new : Memory) (command : CommandOf) (step : Step) → IsWholeMemory old → IsWholeMemory new → step ≡ step_of old command → new ≡ step.after → KeepsPages old command new.state
+step-pages old new command step whole after is there = by (refusal_to old command) refl is
+  where
+    by : (refusal : Option RefusalOf) → refusal_to old command ≡ refusal → step ≡ step_by old command refusal → KeepsPages old command new.state
+    by None free same =
+        let e : new ≡ memory_after old command = cc (there, ap (λ (s : Step). s.after) same) in
+        subst (λ (m : Memory). KeepsPages old command m.state) (sym e) (command-keeps old command whole (free-Accepts old command (subst IsWholeMemory e after) free))
+    by (Some reason) free same = let e : new ≡ old = cc (there, ap (λ (s : Step). s.after) same) in same-pages old new command e
+
+-- Every answer keeps the locked pages that it leaves alone.
+pub answer-pages : (old new : Memory) (command : CommandOf) (result : Result Reply DeskFault) → IsWholeMemory old → IsWholeMemory new → IsAnswer old command new result → KeepsPages old command new.state
+answer-pages old new command (Ok reply) whole after is = step-pages old new command (step_to new (reply_of reply)) whole after is refl
+answer-pages old new command (Err (Refused reason)) whole after is = step-pages old new command (step_to new (refused (values.refusal_of reason))) whole after is refl
+answer-pages old new command (Err NoMemory) whole after is = same-pages old new command is

@@ -4,6 +4,7 @@ use Rattle.spec_text.specs.Ranges.{RangeOf}
 use Rattle.spec_state.specs.State.{State}
 use Rattle.spec_machine.specs.Machine.{EntryOf, Memory, entry_of}
 use Rattle.spec_machine.specs.KeptMemories.{IsWholeMemory}
+use Rattle.spec_locked_pages.specs.Chains.{AreLinked}
 use Rattle.sp_state.specs.Entries.{EntryState, undone_state, redone_state, done_range, undone_range, CanUndo, CanRedo}
 
 -- The state that turning all entries leads to, the last one first.
@@ -29,8 +30,9 @@ memory_by state done undone = record {
   undone = entries_by redone_state undone_range state undone;
 }
 
--- The memory is whole, and every entry can be undone or redone in its turn.
+-- The memory is whole, each of its entries leads to the next by an edit, and every entry can be undone or redone in its turn.
 pub record IsDesk (state : State) (done undone : List EntryState) : Type 0 where
   pub whole : IsWholeMemory (memory_by state done undone)
+  pub linked : AreLinked (memory_by state done undone)
   pub can_undo : CanTurnAll CanUndo undone_state state done
   pub can_redo : CanTurnAll CanRedo redone_state state undone

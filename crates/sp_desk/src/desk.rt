@@ -1,5 +1,5 @@
 //! A script with the journal of its edits.
-ghost use Rattle.std.specs.Prelude.{◌≡◌, ◌≤◌, false, Some, length, slice_get, IfOk, IfNone, IfSome, OnOk};
+ghost use Rattle.std.specs.Prelude.{◌≡◌, ℕ, ◌≤◌, drop, false, Some, length, slice_get, IfOk, IfNone, IfSome, OnOk};
 ghost use Rattle.spec_text.specs.Lines.{line_texts, read_lines};
 ghost use Rattle.spec_state.specs.State.{opened_state, text_of};
 ghost use Rattle.spec_state.specs.Keeping.{IsWhole, records_of, state_of};
@@ -9,6 +9,8 @@ ghost use Rattle.spec_wire.specs.Replies.{is_refused};
 ghost use Rattle.spec_machine.specs.KeptMemories.{IsWholeMemory};
 ghost use Rattle.spec_machine.specs.LabelPromises.{AreLabelled, LosesNone};
 ghost use Rattle.spec_machine.specs.SheetPromises.{KeepsSheets};
+ghost use Rattle.spec_locked_pages.specs.Chains.{AreLinked, KeepsAlong};
+ghost use Rattle.spec_locked_pages.specs.Promises.{KeepsPages};
 ghost use Rattle.spec_machine.specs.Machine.{opened_memory};
 ghost use Rattle.sp_text.specs.Gap.{text_of as lines_text};
 ghost use Rattle.sp_text.specs.Changing.{edit_of};
@@ -86,7 +88,9 @@ impl Desk {
     /// `Reply::Refused`. NoMemory may come in place of any answer, and then nothing is changed. An edit, an undo, a redo and
     /// a setting lay out the whole text and fill each page of the body once; the other commands, locks and rounds among
     /// them, lay out nothing (docs/RULES.md, "The desk"). No command loses a locked label, and an accepted lock of pages or
-    /// a new round leaves the bytes of every sheet as they were (docs/RULES.md, "Page records" and "Scene numbers").
+    /// a new round leaves the bytes of every sheet as they were (docs/RULES.md, "Page records" and "Scene numbers"). An edit
+    /// keeps the bytes of each locked page that it leaves alone, and so do all edits that can be undone, from each of them
+    /// on (docs/RULES.md, "Windows").
     pub fn apply<S: Steps>(
         &mut self,
         alloc: Global,
@@ -97,6 +101,8 @@ impl Desk {
         ensures unrefused { IfOk result (λ reply. is_refused (reply_of reply) ≡ false) }
         ensures labels { AreLabelled (self.new).state × LosesNone (self.old).state (self.new).state }
         ensures opening { OnOk result (KeepsSheets (command_of command) self.old self.new) }
+        ensures locked { KeepsPages self.old (command_of command) (self.new).state }
+        ensures chain { (i k : ℕ) → KeepsAlong i (drop k (self.new).done) (self.new).state }
     {
         let _before = self.sheets();
         let answer = self.answer(alloc, command, steps);
@@ -287,10 +293,11 @@ impl Desk {
     }
 
     /// How many sheets the present state has, those of its title page counted. The state and all that can be undone or
-    /// redone keep the rules of a state. Takes no memory.
+    /// redone keep the rules of a state, and each entry leads to the next by an edit. Takes no memory.
     pub fn sheets(&self) -> usize
         ensures count { result ≡ length (sheets_of_state (self.now).state) }
         ensures whole { IsWholeMemory self.now }
+        ensures linked { AreLinked self.now }
     {
         self.script.sheets()
     }

@@ -1,11 +1,11 @@
-use crate::tests::{MOST, words_of};
+use crate::tests::{MOST, spaced, words_of};
 use crate::{Status, run};
 use sp_kit::{Counter, MemoryShelf, MemorySink, MemorySource, Shelf};
 use std::alloc::{AllocError, Global};
 use std::test::Fail;
 
 /// The status of `desk x` where x holds this script, and what was written.
-fn held(alloc: Global, script: &str, commands: Vec<u8>) -> Result<(Status, Vec<u8>), AllocError> {
+pub fn held(alloc: Global, script: &str, commands: Vec<u8>) -> Result<(Status, Vec<u8>), AllocError> {
     let mut output = MemorySink::new(alloc, 1 << 16, MOST, Vec::new(alloc))?;
     let mut input = MemorySource::new(commands, MOST, Vec::new(alloc));
     let mut shelf = MemoryShelf::new(alloc, Vec::new(alloc));
@@ -25,8 +25,8 @@ fn held(alloc: Global, script: &str, commands: Vec<u8>) -> Result<(Status, Vec<u
     }
 }
 
-/// Whether a session answers these commands so. The last one has no line feed.
-fn answers(alloc: Global, script: &str, exchanges: &[(&str, &str)]) -> Result<bool, AllocError> {
+/// Whether a session answers these commands so; in a reply `[n]` stands for n spaces. The last command has no line feed.
+pub fn answers(alloc: Global, script: &str, exchanges: &[(&str, &str)]) -> Result<bool, AllocError> {
     let mut commands = Vec::new(alloc);
     let mut replies = Vec::new(alloc);
     for (command, reply) in exchanges {
@@ -34,23 +34,23 @@ fn answers(alloc: Global, script: &str, exchanges: &[(&str, &str)]) -> Result<bo
             commands.push(b'\n')?;
         }
         commands.extend_from_slice(command.as_bytes())?;
-        replies.extend_from_slice(reply.as_bytes())?;
+        replies.extend_from_slice(spaced(alloc, reply)?.as_slice())?;
         replies.push(b'\n')?;
     }
     let (status, bytes) = held(alloc, script, commands)?;
     Ok(status == Status::Done && bytes.as_slice() == replies.as_slice())
 }
 
-const UNDO: &str = r#"{"do":"undo"}"#;
+pub const UNDO: &str = r#"{"do":"undo"}"#;
 
-const REDO: &str = r#"{"do":"redo"}"#;
+pub const REDO: &str = r#"{"do":"redo"}"#;
 
-const LABELS: &str = r#"{"do":"labels"}"#;
+pub const LABELS: &str = r#"{"do":"labels"}"#;
 
 const ONE_LINE: &str = r#"{"lines":1,"ok":true,"sheets":1}"#;
 
 /// A script, and commands with their replies.
-type Exchanges<'a> = (&'a str, &'a [(&'a str, &'a str)]);
+pub type Exchanges<'a> = (&'a str, &'a [(&'a str, &'a str)]);
 
 #[test]
 fn commands_are_answered(rt: HostRuntime) -> Result<(), Fail> {
@@ -61,7 +61,7 @@ fn commands_are_answered(rt: HostRuntime) -> Result<(), Fail> {
             "!a\n",
             &[(
                 r#"{"do":"sheet","index":0}"#,
-                r#"{"label":"1","ok":true,"round":0,"text":"                                                                         1.\n\n               a\n\f"}"#,
+                r#"{"label":"1","ok":true,"round":0,"text":"[73]1.\n\n[15]a\n\f"}"#,
             )],
         ),
         (

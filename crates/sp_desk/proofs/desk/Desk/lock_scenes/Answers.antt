@@ -1,0 +1,22 @@
+use Rattle.std.proofs.Common.{◌≡◌, ap, ◌∙◌}
+use Rattle.spec_wire.specs.Commands as commands
+use Rattle.spec_machine.specs.Machine.{Memory}
+use Rattle.spec_machine.specs.Answers.{step_of}
+use Rattle.sp_journal.specs.Entries.{Entries}
+use Rattle.sp_state.specs.Entries.{EntryState}
+use Rattle.sp_desk.specs.Memories.{memory_by}
+use Rattle.sp_desk.specs.Answers.{step_to}
+use Rattle.sp_desk.proofs.DeskSteps.{IsStep, scenes-step}
+use Rattle.sp_desk.proofs.desk.Desk.lock_scenes.Goals as goal
+
+stepped : (c : goal.After-scene_count) → IsStep (memory_by c.self.inside.script c.self.inside.journal.done c.self.inside.journal.undone) commands.lock_scenes c.lock_scenes.new.self c.clear.new.self.done c.clear.new.self.undone
+stepped c =
+    scenes-step c.self.inside.script c.lock_scenes.new.self c.self.inside.journal.done c.self.inside.journal.undone c.clear.new.self.done c.clear.new.self.undone c.self.invariant
+    c.in_ok-lock_scenes.ensures.0 c.in_ok-lock_scenes.ensures.1 (ap (λ (j : Entries EntryState). j.done) c.clear.ensures) (ap (λ (j : Entries EntryState). j.undone) c.clear.ensures)
+
+pub invariant_of-self-2 : goal.invariant_of-self-2
+invariant_of-self-2 c = (stepped c).desk
+
+pub returns-clause-step : goal.returns-clause-step
+returns-clause-step c =
+    (stepped c).step ∙ ap (λ (m : Memory). step_of m commands.lock_scenes) c.self.view_is
