@@ -1,7 +1,9 @@
-use Rattle.std.proofs.Common.{◌≡◌, ap, ◌∙◌}
+use Rattle.std.proofs.Common.{◌≡◌, ℕ, ap, ◌∙◌}
+use Rattle.spec_records.specs.Kept.{RecordsOf}
 use Rattle.spec_wire.specs.Commands as commands
+use Rattle.spec_wire.specs.Replies as replies
 use Rattle.spec_machine.specs.Machine.{Memory}
-use Rattle.spec_machine.specs.Answers.{step_of}
+use Rattle.spec_machine.specs.Answers.{record_count, step_of}
 use Rattle.sp_journal.specs.Entries.{Entries}
 use Rattle.sp_state.specs.Entries.{EntryState}
 use Rattle.sp_desk.specs.Memories.{memory_by}
@@ -19,4 +21,5 @@ invariant_of-self-2 c = (stepped c).desk
 
 pub returns-clause-step : goal.returns-clause-step
 returns-clause-step c =
-    (stepped c).step ∙ ap (λ (m : Memory). step_of m commands.lock_pages) c.self.view_is
+    ap (λ (n : ℕ). step_to (memory_by c.lock_pages.new.self c.clear.new.self.done c.clear.new.self.undone) (replies.pages n)) (c.page_count.ensures ∙ ap (λ (r : RecordsOf). record_count r.pages) c.records.ensures)
+    ∙ (stepped c).step ∙ ap (λ (m : Memory). step_of m commands.lock_pages) c.self.view_is
