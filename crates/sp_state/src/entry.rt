@@ -82,10 +82,7 @@ pub(crate) fn edit_entry<S: Steps>(
     ensures same { OnErr result (state_of (text_of lines.new) records.new ≡ state_of (text_of lines.old) records.old) }
 {
     let _count = lines.len();
-    let before = match record_starts(alloc, lines, olds.keys(), &records.pages) {
-        Ok(before) => before,
-        Err(_) => return Err(EditFault::NoMemory),
-    };
+    let before = record_starts(alloc, lines, olds.keys(), &records.pages)?;
     let displaced = lines.change(edit, records.round)?;
     let _changed = lines.len();
     match carry_and_raise(alloc, lines, &displaced, records, &before, olds, steps) {

@@ -31,8 +31,8 @@ carry_and_raise-requires-clause-can g c =
     let back = displaced_of c.in_ok-displaced.displaced in
     whole-carry text back c.args.records.now (whole-before (text_of c.args.lines.now) text back c.args.records.now c.in_ok-displaced.ensures.back c.requires.whole)
 
-pub returns-in-Ok-carry_and_raise-clause-whole : goal.returns-in-Ok-carry_and_raise-clause-whole
-returns-in-Ok-carry_and_raise-clause-whole g c =
+pub returns-in-Ok-clause-whole : goal.returns-in-Ok-clause-whole
+returns-in-Ok-clause-whole g c =
     let old = text_of c.args.lines.now in
     let text = text_of c.change.new.self in
     let edit = edit_of c.args.edit in
@@ -41,16 +41,16 @@ returns-in-Ok-carry_and_raise-clause-whole g c =
     let ensures = c.in_ok-displaced.ensures in
     let is = ensures.text ∙ ap (λ (those : RecordsOf). changed old (replacement_of old.lines edit) those.round) c.records.view_is in
     edited-whole old text records after edit ensures.refuses is c.len-changed.ensures.keeps c.requires.whole
-    (edited-here old text (displaced_of c.in_ok-displaced.displaced) records after edit ensures.refuses is ensures.back ensures.displaced c.in-Ok-carry_and_raise.ensures.records)
+    (edited-here old text (displaced_of c.in_ok-displaced.displaced) records after edit ensures.refuses is ensures.back ensures.displaced c.in-Ok.ensures.records)
 
-pub returns-in-Ok-carry_and_raise-clause-range : goal.returns-in-Ok-carry_and_raise-clause-range
-returns-in-Ok-carry_and_raise-clause-range g c =
-    let entry : EntryState = record { lines = c.in_ok-displaced.displaced; moved = c.in-Ok-carry_and_raise.field-0.moved.items; raised = c.in-Ok-carry_and_raise.field-0.raised.items } in
+pub returns-in-Ok-clause-range : goal.returns-in-Ok-clause-range
+returns-in-Ok-clause-range g c =
+    let entry : EntryState = record { lines = c.in_ok-displaced.displaced; moved = c.in-Ok.field-0.moved.items; raised = c.in-Ok.field-0.raised.items } in
     edited-range (text_of c.args.lines.now) (edit_of c.args.edit) entry c.in_ok-displaced.ensures.refuses c.in_ok-displaced.ensures.displaced
 
-pub returns-in-Ok-carry_and_raise-clause-room : goal.returns-in-Ok-carry_and_raise-clause-room
-returns-in-Ok-carry_and_raise-clause-room g c =
-    let entry : EntryState = record { lines = c.in_ok-displaced.displaced; moved = c.in-Ok-carry_and_raise.field-0.moved.items; raised = c.in-Ok-carry_and_raise.field-0.raised.items } in
+pub returns-in-Ok-clause-room : goal.returns-in-Ok-clause-room
+returns-in-Ok-clause-room g c =
+    let entry : EntryState = record { lines = c.in_ok-displaced.displaced; moved = c.in-Ok.field-0.moved.items; raised = c.in-Ok.field-0.raised.items } in
     let ensures = c.in_ok-displaced.ensures in
     back-room c.args.lines.now c.change.new.self entry ensures.place ensures.back c.len-count.ensures.room ensures.room ensures.displaced_room
 
