@@ -32,16 +32,16 @@ pub adds-heading : (scenes : Scenes) (texts : List (List ℕ)) (placed : PlacedB
     → map entry_of middle ≡ map entry_of old ++ map omitted_of (slice_range scenes.gone p q) → entry_of entry ≡ scene_entry scenes texts i placed → new ≡ middle ++ entry ∷ []
     → AddsBlock scenes texts placed old new i (i + 1) q
 adds-heading scenes texts placed old middle new entry i p q is inside rising walked above added shown pushed = record {
-    entries =
-    ap (map entry_of) pushed
-    ∙ map-append entry_of middle (entry ∷ [])
-    ∙ ap (λ those. those ++ entry_of entry ∷ []) (added ∙ ap (λ gone. map entry_of old ++ map omitted_of gone) (sym (walk-part scenes.labels scenes.gone i p q rising inside walked above)))
-    ∙ append_assoc (map entry_of old) (omitted_at scenes i) (entry_of entry ∷ [])
-    ∙ ap (λ (one : EntryOf). map entry_of old ++ (omitted_at scenes i ++ one ∷ [])) shown
-    ∙ ap (λ those. map entry_of old ++ those) (sym (heading-entries placed.block.kind scenes texts i placed is));
-    headings_are = sym (ap (λ b. cond b (i + 1) i) is);
-    walked = walk-on scenes.labels scenes.gone i p q rising inside walked above;
-  }
+  entries =
+      ap (map entry_of) pushed
+      ∙ map-append entry_of middle (entry ∷ [])
+      ∙ ap (λ those. those ++ entry_of entry ∷ []) (added ∙ ap (λ gone. map entry_of old ++ map omitted_of gone) (sym (walk-part scenes.labels scenes.gone i p q rising inside walked above)))
+      ∙ append_assoc (map entry_of old) (omitted_at scenes i) (entry_of entry ∷ [])
+      ∙ ap (λ (one : EntryOf). map entry_of old ++ (omitted_at scenes i ++ one ∷ [])) shown
+      ∙ ap (λ those. map entry_of old ++ those) (sym (heading-entries placed.block.kind scenes texts i placed is));
+  headings_are = sym (ap (λ b. cond b (i + 1) i) is);
+  walked = walk-on scenes.labels scenes.gone i p q rising inside walked above;
+}
 
 pub entries-end : (scenes : Scenes) (texts : List (List ℕ)) (blocks : List PlacedBlock) (entries new : List Entry) (h p k : ℕ) → length blocks ≤ k
     → map entry_of entries ++ entries_from scenes texts h (drop k blocks) ≡ entries_from scenes texts 0 blocks → h + length (filter is_heading_block (drop k blocks)) ≡ length scenes.labels

@@ -107,11 +107,11 @@ pub record IsPassed (labels gone : List LabelOf) (i p q : ℕ) : Type 0 where
 
 passed : (labels gone : List LabelOf) (i p q : ℕ) → AllPairs Below gone → i < length labels → IsWalked labels gone i p → IsAbove (label_at labels i) gone p q → IsPassed labels gone i p q
 passed labels gone i p q rising inside walked above = record {
-    here = λ j late below.
-        (let low = place-low (λ label. is_lt (label_cmp (label_at gone j) label)) (plain_label 0) labels i inside (above.above j late below) in
-        let high = walked.behind j late (let w = above.within in omega (arith, below, w)) in omega (arith, low, high));
-    behind = λ j late below. by j late below (cases_lt q j);
-  }
+  here = λ j late below.
+      (let low = place-low (λ label. is_lt (label_cmp (label_at gone j) label)) (plain_label 0) labels i inside (above.above j late below) in
+      let high = walked.behind j late (let w = above.within in omega (arith, below, w)) in omega (arith, low, high));
+  behind = λ j late below. by j late below (cases_lt q j);
+}
   where
     at : q < length gone → i < first_above labels (label_at gone q)
     at more =
@@ -130,10 +130,10 @@ passed labels gone i p q rising inside walked above = record {
 -- Behind a heading the walk goes on where its label isn't above what is left.
 pub walk-on : (labels gone : List LabelOf) (i p q : ℕ) → AllPairs Below gone → i < length labels → IsWalked labels gone i p → IsAbove (label_at labels i) gone p q → IsWalked labels gone (i + 1) q
 walk-on labels gone i p q rising inside walked above = record {
-    within = above.within;
-    before = λ j below. by j below (cases_lt j p);
-    behind = λ j late below. (let more = all.behind j late below in omega (arith, more));
-  }
+  within = above.within;
+  before = λ j below. by j below (cases_lt j p);
+  behind = λ j late below. (let more = all.behind j late below in omega (arith, more));
+}
   where
     all : IsPassed labels gone i p q
     all = passed labels gone i p q rising inside walked above

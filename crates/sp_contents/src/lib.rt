@@ -10,6 +10,5 @@ mod sheets;
 
 pub use reply::{outline_reply, outline_text};
 
-
 #[cfg(test)]
 mod tests;

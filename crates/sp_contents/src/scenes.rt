@@ -73,11 +73,7 @@ fn labels_of(
 }
 
 /// What an outline tells of the scenes of a script with these headings.
-fn scenes_with(
-    alloc: Global,
-    script: &Script,
-    headings: &[HeadingAt],
-) -> Result<Scenes, AllocError>
+fn scenes_with(alloc: Global, script: &Script, headings: &[HeadingAt]) -> Result<Scenes, AllocError>
     requires { headings.now ≡ headings_of script.now.lines }
     ensures { IfOk result (λ scenes. scenes ≡ scenes_of script.now) }
 {

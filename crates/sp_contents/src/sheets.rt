@@ -50,7 +50,11 @@ fn if_begun(sheet: Option<&Sheet>, row: usize) -> Option<&Sheet>
 fn begun(sheet: &Sheet, row: usize) -> Option<&Sheet>
     ensures { option_copied result ≡ if_begun row (Some sheet.now) }
 {
-    if sheet.start <= row { Some(sheet) } else { None }
+    if sheet.start <= row {
+        Some(sheet)
+    } else {
+        None
+    }
 }
 
 fn sheet_at(sheets: &[Sheet], place: usize) -> Option<&Sheet>

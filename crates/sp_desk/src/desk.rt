@@ -132,9 +132,7 @@ impl Desk {
             Command::Speakers(on) => self.set_speakers(alloc, on, steps),
             Command::Paper(paper) => self.set_paper(alloc, paper, steps),
             Command::Outline => self.outline_answer(alloc),
-            Command::Save | Command::Packet => {
-                Err(DeskFault::Refused(Refusal::UnknownCommand))
-            }
+            Command::Save | Command::Packet => { Err(DeskFault::Refused(Refusal::UnknownCommand)) }
         }
     }
 

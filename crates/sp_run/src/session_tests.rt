@@ -5,7 +5,11 @@ use std::alloc::{AllocError, Global};
 use std::test::Fail;
 
 /// The status of `desk x` where x holds this script, and what was written.
-pub fn held(alloc: Global, script: &str, commands: Vec<u8>) -> Result<(Status, Vec<u8>), AllocError> {
+pub fn held(
+    alloc: Global,
+    script: &str,
+    commands: Vec<u8>,
+) -> Result<(Status, Vec<u8>), AllocError> {
     let mut output = MemorySink::new(alloc, 1 << 16, MOST, Vec::new(alloc))?;
     let mut input = MemorySource::new(commands, MOST, Vec::new(alloc));
     let mut shelf = MemoryShelf::new(alloc, Vec::new(alloc));
@@ -26,7 +30,11 @@ pub fn held(alloc: Global, script: &str, commands: Vec<u8>) -> Result<(Status, V
 }
 
 /// Whether a session answers these commands so; in a reply `[n]` stands for n spaces. The last command has no line feed.
-pub fn answers(alloc: Global, script: &str, exchanges: &[(&str, &str)]) -> Result<bool, AllocError> {
+pub fn answers(
+    alloc: Global,
+    script: &str,
+    exchanges: &[(&str, &str)],
+) -> Result<bool, AllocError> {
     let mut commands = Vec::new(alloc);
     let mut replies = Vec::new(alloc);
     for (command, reply) in exchanges {
