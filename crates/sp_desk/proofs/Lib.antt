@@ -1,3 +1,3 @@
-mod EntryLaws
+pub mod EntryLaws
 mod DeskSteps
 mod Labels

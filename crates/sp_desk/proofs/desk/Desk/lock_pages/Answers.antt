@@ -1,4 +1,4 @@
-use Rattle.std.proofs.Common.{◌≡◌, ℕ, ap, ◌∙◌}
+use Rattle.std.proofs.Common.{ℕ, ap, ◌∙◌}
 use Rattle.spec_records.specs.Kept.{RecordsOf}
 use Rattle.spec_wire.specs.Commands as commands
 use Rattle.spec_wire.specs.Replies as replies
