@@ -2,7 +2,14 @@
 #![tactic(auto)]
 
 mod commands;
+mod line;
+mod numbers;
 mod script;
+mod session;
 
 pub use commands::sample_commands;
 pub use script::sample_script;
+pub use session::run_sample;
+
+#[cfg(test)]
+mod tests;

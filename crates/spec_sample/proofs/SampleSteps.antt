@@ -35,12 +35,18 @@ room-pieces : (i : ℕ) (front : List ℕ)
     ≡ front ++ flat_map ended_line (room_lines i)
 room-pieces i front = pieces front (decimal i) (second_cue i) (codes "\n") (codes "INT. ROOM ") (codes " - DAY") (codes "The lamp in room ") (codes " is lit.") (codes "ANNA\n(to BERT)\n") (codes "I have counted ") (codes " lamps today. They are all lit.") (codes "Count them again.")
 
--- The text of a room, put behind a script piece by piece.
-pub room-added : (i : ℕ) (front a b c d e f cue : List ℕ) → a ≡ front ++ (codes "INT. ROOM " ++ decimal i) → b ≡ a ++ (codes " - DAY\n\nThe lamp in room " ++ decimal i)
+room-put : (i : ℕ) (front a b c d e f cue : List ℕ) → a ≡ front ++ (codes "INT. ROOM " ++ decimal i) → b ≡ a ++ (codes " - DAY\n\nThe lamp in room " ++ decimal i)
     → c ≡ b ++ (codes " is lit.\n\nANNA\n(to BERT)\nI have counted " ++ decimal i) → d ≡ c ++ codes " lamps today. They are all lit.\n\n" → cue ≡ second_cue i → e ≡ d ++ cue
     → f ≡ e ++ codes "\nCount them again.\n\n" → f ≡ front ++ flat_map ended_line (room_lines i)
-room-added i front a b c d e f cue is_a is_b is_c is_d is_cue is_e is_f =
+room-put i front a b c d e f cue is_a is_b is_c is_d is_cue is_e is_f =
     let to_c = is_c ∙ ap (λ xs. xs ++ (codes " is lit.\n\nANNA\n(to BERT)\nI have counted " ++ decimal i)) (is_b ∙ ap (λ xs. xs ++ (codes " - DAY\n\nThe lamp in room " ++ decimal i)) is_a) in
     let to_d = is_d ∙ ap (λ xs. xs ++ codes " lamps today. They are all lit.\n\n") to_c in
     let to_e = is_e ∙ ap (λ xs. xs ++ cue) to_d ∙ ap (λ xs. ((((front ++ (codes "INT. ROOM " ++ decimal i)) ++ (codes " - DAY\n\nThe lamp in room " ++ decimal i)) ++ (codes " is lit.\n\nANNA\n(to BERT)\nI have counted " ++ decimal i)) ++ codes " lamps today. They are all lit.\n\n") ++ xs) is_cue in
     is_f ∙ ap (λ xs. xs ++ codes "\nCount them again.\n\n") to_e ∙ room-pieces i front
+
+-- The text of a room, put behind a script piece by piece.
+pub room-added : (i number : ℕ) → number ≡ i → (front a b c d e f cue : List ℕ) → a ≡ front ++ (codes "INT. ROOM " ++ decimal number) → b ≡ a ++ (codes " - DAY\n\nThe lamp in room " ++ decimal number)
+    → c ≡ b ++ (codes " is lit.\n\nANNA\n(to BERT)\nI have counted " ++ decimal number) → d ≡ c ++ codes " lamps today. They are all lit.\n\n" → cue ≡ second_cue i → e ≡ d ++ cue
+    → f ≡ e ++ codes "\nCount them again.\n\n" → f ≡ front ++ flat_map ended_line (room_lines i)
+room-added i number same front a b c d e f cue is_a is_b is_c is_d is_cue is_e is_f =
+    room-put number front a b c d e f cue is_a is_b is_c is_d (is_cue ∙ ap second_cue (sym same)) is_e is_f ∙ ap (λ k. front ++ flat_map ended_line (room_lines k)) same
