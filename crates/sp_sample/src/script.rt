@@ -1,14 +1,17 @@
 //! The script of a sample.
-ghost use Rattle.std.specs.Prelude.{◌≡◌, ◌++◌, IfOk, OnOk};
+ghost use Rattle.std.specs.Prelude.{◌≡◌, ◌≤◌, ◌++◌, IfOk, OnOk};
 ghost use Rattle.std.specs.List.{flat_map};
-ghost use Rattle.spec_sample.specs.Sample.{ended_line, room_lines, sample_script, second_cue};
+ghost use Rattle.spec_text.specs.Lines.{lines, reading_of};
+ghost use Rattle.spec_sample.specs.Sample.{ended_line, room_lines, sample_lines, sample_script, second_cue};
 
 use crate::numbers::add_numbered;
 use std::alloc::{AllocError, Global};
 
-/// The script of a sample of so many rooms (docs/RULES.md, "The sample"). `AllocError` comes for want of memory alone.
+/// The script of a sample of so many rooms. Up to 2,000 rooms it keeps the limits, and reading it gives their lines
+/// (docs/RULES.md, "The sample"). `AllocError` comes for want of memory alone.
 pub fn sample_script(alloc: Global, rooms: u32) -> Result<Vec<u8>, AllocError>
-    ensures { IfOk result (λ script. script.items ≡ sample_script rooms) }
+    ensures text { IfOk result (λ script. script.items ≡ sample_script rooms) }
+    ensures reads { rooms ≤ 2000 → IfOk result (λ script. reading_of script.items ≡ lines (sample_lines rooms)) }
 {
     let mut script = Vec::new(alloc);
     for before in 0..rooms {

@@ -9,7 +9,7 @@ use crate::line::desk_line;
 use crate::script::sample_script;
 use sp_desk::{Desk, DeskFault};
 use sp_kit::Steps;
-use sp_text::Lines;
+use sp_text::{Lines, TextFault};
 use sp_wire::Command;
 use std::alloc::{AllocError, Global};
 
@@ -25,7 +25,7 @@ pub fn run_sample<S: Steps>(alloc: Global, rooms: u32, steps: &mut S) -> Result<
     desk_line(alloc, rooms, &desk)
 }
 
-/// The desk of the script of a sample, which keeps the limits: the one fault that reading it can have is want of memory.
+/// The desk of the script of a sample, which keeps the limits.
 fn open_sample<S: Steps>(alloc: Global, rooms: u32, steps: &mut S) -> Result<Desk, AllocError>
     requires { rooms ≤ 2000 }
     ensures { IfOk result (λ desk. desk ≡ opened_memory (sample_opened rooms)) }
@@ -33,7 +33,8 @@ fn open_sample<S: Steps>(alloc: Global, rooms: u32, steps: &mut S) -> Result<Des
     let script = sample_script(alloc, rooms)?;
     match Lines::read(alloc, script.as_slice()) {
         Ok(lines) => Desk::new(alloc, lines, steps),
-        Err(_) => Err(AllocError),
+        Err(TextFault::NoMemory) => Err(AllocError),
+        Err(TextFault::TextFull | TextFault::NotUtf8(_) | TextFault::LineFull(_)) => unreachable!(),
     }
 }
 
