@@ -1,7 +1,7 @@
 -- The lines that reading the script of a sample comes to.
-use Rattle.std.proofs.Common.{◌≡◌, ℕ, ◌+◌, ◌≤◌, List, [], ◌∷◌, length, ap, sym, ◌∙◌, refl, Err}
+use Rattle.std.proofs.Common.{◌≡◌, ℕ, ◌+◌, List, [], ◌∷◌, length, ap, sym, ◌∙◌, refl, Err}
 use Rattle.std.proofs.lemmas.List.{length-map}
-use Rattle.spec_text.specs.Lines.{Reading, LineState, lines, text_full, not_utf8, line_full, reading_of, lines_from, read_lines, line_texts}
+use Rattle.spec_text.specs.Lines.{LineState, lines, text_full, not_utf8, line_full, reading_of, lines_from, read_lines, line_texts}
 use Rattle.spec_sample.specs.Sample.{sample_lines}
 use Rattle.sp_text.specs.Gap.{LinesState}
 use Rattle.sp_text.specs.Reading.{IsRead, IsReading}

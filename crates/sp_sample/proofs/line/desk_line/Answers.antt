@@ -1,4 +1,4 @@
-use Rattle.std.proofs.Common.{◌≡◌, ◌∙◌, ap, length}
+use Rattle.std.proofs.Common.{◌∙◌, ap, length}
 use Rattle.spec_text.specs.Lines.{TextState}
 use Rattle.spec_records.specs.Kept.{RecordsOf}
 use Rattle.sp_sample.proofs.ToldSamples.{made, told}

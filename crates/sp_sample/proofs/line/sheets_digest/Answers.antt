@@ -1,4 +1,4 @@
-use Rattle.std.proofs.Common.{◌≡◌, ◌∙◌, ◌++◌, List, ℕ, subst}
+use Rattle.std.proofs.Common.{◌∙◌, subst}
 use Rattle.sha2.specs.Hashers.{Holds256}
 use Rattle.spec_state.specs.StateSheets.{sheets_of_state}
 use Rattle.spec_state.proofs.SheetTexts.{sheet-at-utf8}

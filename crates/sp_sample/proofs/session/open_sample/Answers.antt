@@ -1,5 +1,4 @@
-use Rattle.std.proofs.Common.{◌≡◌, ap, ◌∙◌, List, ℕ}
-use Rattle.sp_sample.proofs.OpenedSamples.{opening, no-fault}
+use Rattle.sp_sample.proofs.OpenedSamples.{opening}
 use Rattle.sp_sample.proofs.session.open_sample.Goals as goal
 
 pub new-requires-clause-read : goal.new-requires-clause-read
