@@ -2,6 +2,7 @@
 use crate::{sample_commands, sample_script};
 use sp_text::Edit;
 use sp_wire::Command;
+use std::test::Fail;
 
 /// The rooms of a sample of five.
 const ROOMS: [&[u8]; 5] = [
