@@ -1,1 +1,3 @@
+pub mod SampleSteps
 pub mod SampleLaws
+pub mod SampleReading

@@ -3,7 +3,6 @@ use Rattle.std.specs.Prelude.{ℕ, zero, suc, ◌+◌, ◌-◌, ◌*◌, ◌%◌
 use Rattle.std.specs.List.{flat_map}
 use Rattle.hex.specs.Hex.{encode_lower}
 use Rattle.sha2.specs.Sha256.{sha256}
-use Rattle.spec_text.specs.Lines.{Reading, lines, reading_of}
 use Rattle.spec_text.specs.Edits.{replace, splice}
 use Rattle.spec_state.specs.State.{State, opened_state}
 use Rattle.spec_state.specs.StateSheets.{sheets_of_state}
@@ -66,13 +65,9 @@ sample_commands n = lock_scenes ∷ lock_pages ∷ next_round ∷ (edits_down n 
 abbrev pub stepped : Memory → CommandOf → Memory
 stepped memory command = (step_of memory command).after
 
-abbrev pub lines_read : Reading → List (List ℕ)
-lines_read (lines texts) = texts
-lines_read _ = []
-
--- The state of the script, and the one behind the session.
+-- The state of the script's lines, which are all that reading it comes to, and the state behind the session.
 abbrev pub sample_opened : ℕ → State
-sample_opened n = opened_state (lines_read (reading_of (sample_script n)))
+sample_opened n = opened_state (sample_lines n)
 
 abbrev pub sample_state : ℕ → State
 sample_state n = (fold stepped (opened_memory (sample_opened n)) (sample_commands n)).state

@@ -1,0 +1,2 @@
+pub mod OpenedSamples
+pub mod ToldSamples

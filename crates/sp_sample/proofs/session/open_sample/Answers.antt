@@ -1,0 +1,8 @@
+use Rattle.sp_sample.proofs.OpenedSamples.{opening}
+use Rattle.sp_sample.proofs.session.open_sample.Goals as goal
+
+pub new-requires-clause-read : goal.new-requires-clause-read
+new-requires-clause-read g c = (opening c.args.rooms c.in_ok-script.script.items c.as_slice.result.now c.in-Ok.lines c.as_slice.ensures.value (c.in_ok-script.ensures.reads c.requires) c.in-Ok.ensures).read
+
+pub new-requires-clause-next : goal.new-requires-clause-next
+new-requires-clause-next g c = (opening c.args.rooms c.in_ok-script.script.items c.as_slice.result.now c.in-Ok.lines c.as_slice.ensures.value (c.in_ok-script.ensures.reads c.requires) c.in-Ok.ensures).next

@@ -1,0 +1,63 @@
+//! The line that tells of a desk.
+ghost use Rattle.std.specs.Prelude.{◌≡◌, IfOk, string_bytes};
+ghost use Rattle.std.specs.Str.{IsUtf8};
+ghost use Rattle.hex.specs.Hex.{encode_lower};
+ghost use Rattle.sha2.specs.Sha256.{sha256};
+ghost use Rattle.spec_print.specs.Sheets.{sheet_bytes};
+ghost use Rattle.spec_state.specs.Printing.{printed_state};
+ghost use Rattle.spec_sample.specs.Sample.{state_line};
+
+use crate::numbers::add_numbered;
+use sha2::{Digest, Sha256};
+use sp_answers::sheet_reply;
+use sp_desk::Desk;
+use sp_print::PageView;
+use sp_wire::Reply;
+use std::alloc::{AllocError, Global};
+
+/// The line that tells of a desk behind the session of a sample of so many rooms.
+pub fn desk_line(alloc: Global, rooms: u32, desk: &Desk) -> Result<Vec<u8>, AllocError>
+    ensures { IfOk result (λ line. line.items ≡ state_line rooms (desk.now).state) }
+{
+    let digest = sheets_digest(alloc, desk)?;
+    let mut line = Vec::new(alloc);
+    add_numbered(&mut line, b"sample ", u64::from(rooms))?;
+    add_numbered(&mut line, b": ", desk.lines().len() as u64)?;
+    add_numbered(&mut line, b" lines, ", desk.sheets() as u64)?;
+    add_numbered(
+        &mut line,
+        b" sheets, round ",
+        u64::from(desk.records().round),
+    )?;
+    line.extend_from_slice(b", sha256 ")?;
+    line.extend_from_slice(digest.as_bytes())?;
+    line.extend_from_slice(b"\n")?;
+    Ok(line)
+}
+
+/// The digest of all sheets of a desk, in hexadecimal. They are printed one after another, and none is kept.
+fn sheets_digest(alloc: Global, desk: &Desk) -> Result<String, AllocError>
+    ensures { IfOk result (λ text. string_bytes text ≡ encode_lower (sha256 (printed_state (desk.now).state))) }
+{
+    let mut hasher = Sha256::new();
+    for i in 0..desk.sheets() {
+        let Some(page) = desk.sheet(i) else {
+            unreachable!();
+        };
+        let text = sheet_text(alloc, &page)?;
+        hasher.update(text.as_bytes());
+    }
+    let sum = hasher.finalize();
+    hex::encode(alloc, sum.as_slice())
+}
+
+/// The bytes of a sheet, as the reply that tells it has them.
+fn sheet_text(alloc: Global, page: &PageView<'_>) -> Result<String, AllocError>
+    requires { IsUtf8 (sheet_bytes page.now) }
+    ensures { IfOk result (λ text. string_bytes text ≡ sheet_bytes page.now) }
+{
+    match sheet_reply(alloc, page)? {
+        Reply::Sheet { text, .. } => Ok(text),
+        _ => unreachable!(),
+    }
+}
