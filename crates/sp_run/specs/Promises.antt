@@ -3,7 +3,6 @@ use Rattle.std.specs.Prelude.{◌≡◌, List}
 use Rattle.spec_text.specs.Edits.{EditOf}
 use Rattle.spec_wire.specs.Commands.{CommandOf, edit, undo, lock_pages, next_round}
 use Rattle.spec_state.specs.State.{State}
-use Rattle.spec_state.specs.Keeping.{IsWhole}
 use Rattle.spec_state.specs.StateSheets.{bytes_of_state}
 use Rattle.spec_machine.specs.Machine.{Memory, Accepts, AcceptsAll, memory_after, memory_behind, opened_memory}
 use Rattle.spec_machine.specs.KeptMemories.{IsWholeMemory}
