@@ -113,6 +113,15 @@ def session(lines, splices, undos):
     return "".join(json.dumps(command) + "\n" for command in commands)
 
 
+LOCKED = {"pages": "!a\n===\n", "scenes": ".A\n\n"}
+
+
+def lock_steps():
+    """What is timed where pages and scenes are locked, one step after another."""
+    splice = [{"do": "splice", "line": 0, "from": 2, "to": 2, "text": "b"}]
+    return [("lock_scenes", [{"do": "lock_scenes"}]), ("lock_pages", [{"do": "lock_pages"}]), ("next_round", [{"do": "next_round"}]), ("splice", splice), ("undo", [{"do": "undo"}]), ("save", [{"do": "save"}])]
+
+
 def least(command, path, runs):
     """The least time of some runs of a shell command."""
     times = []
@@ -144,12 +153,12 @@ def peak_memory(path):
 
 def main():
     parser = argparse.ArgumentParser()
-    parser.add_argument("--kind", choices=sorted([*KINDS, *LINES, "session"]), action="append")
+    parser.add_argument("--kind", choices=sorted([*KINDS, *LINES, "session", "locks"]), action="append")
     parser.add_argument("--runs", type=int, default=5)
     parser.add_argument("--most", type=int, default=16)
     options = parser.parse_args()
     subprocess.run([TOP / "run", "print"], stdin=subprocess.DEVNULL, check=True)
-    kinds = options.kind or [*KINDS, *LINES, "session"]
+    kinds = options.kind or [*KINDS, *LINES, "session", "locks"]
     with tempfile.TemporaryDirectory() as folder:
         folder = pathlib.Path(folder)
         if sizes := [kind for kind in kinds if kind in KINDS]:
@@ -158,6 +167,8 @@ def main():
             time_lines(folder, lines, options)
         if "session" in kinds:
             time_sessions(folder, options)
+        if "locks" in kinds:
+            time_locks(folder, options)
 
 
 def growth(before, seconds):
@@ -209,6 +220,30 @@ def time_sessions(folder, options):
             times.append(least(DESK, path, 1 if lines == 200_000 else options.runs))
         opened, spliced, undone = times
         print(f"{'session':10} {lines:7} {opened:9.4f} {(spliced - opened) / EDITS:9.5f} {(undone - spliced) / EDITS:9.5f}", flush=True)
+
+
+def time_locks(folder, options):
+    """Times locks, a round, an edit, its undo and a save by the number of lines, and the opening of what was saved."""
+    names = [name for name, _ in lock_steps()]
+    print(f"{'kind':10} {'lines':>7} {'open s':>9} " + " ".join(f"{name:>11}" for name in names) + f" {'reopen s':>9}")
+    for kind, text in LOCKED.items():
+        for lines in (25_000, 50_000, 100_000, 200_000):
+            path = folder / f"locks{kind}{lines}"
+            commands = folder / f"{path.name}.commands"
+            path.write_text(text * (lines // 2))
+            commands.write_text("")
+            opened = before = least(DESK, path, options.runs)
+            done, times = [], []
+            for _, step in lock_steps():
+                done += step
+                commands.write_text("".join(json.dumps(command) + "\n" for command in done))
+                pathlib.Path(f"{path}.desk").unlink(missing_ok=True)
+                seconds = least(f'rm -f "$FILE.desk"; {DESK}', path, options.runs)
+                times.append(seconds - before)
+                before = seconds
+            commands.write_text("")
+            reopened = least(DESK, path, options.runs)
+            print(f"{kind:10} {lines:7} {opened:9.4f} " + " ".join(f"{time:11.4f}" for time in times) + f" {reopened:9.4f}", flush=True)
 
 
 if __name__ == "__main__":
