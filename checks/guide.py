@@ -1,9 +1,12 @@
-"""Runs the sessions of docs/GUIDE.md against the built program: each command must be answered as the guide says."""
+"""Runs the sessions of docs/GUIDE.md against the built program: each command must be answered as the guide says. A session is held
+over a copy of its script, and one that is marked `again` over what the one before it saved."""
 
 import pathlib
 import re
+import shutil
 import subprocess
 import sys
+import tempfile
 
 from report import tell
 
@@ -13,14 +16,17 @@ PROGRAM = TOP / "crates/fountain_cli/out/fountain_cli"
 
 def sessions():
     guide = (TOP / "docs/GUIDE.md").read_text()
-    for script, body in re.findall(r"```session (\S+)\n(.*?)```", guide, re.S):
+    for mark, script, body in re.findall(r"```(session|again) (\S+)\n(.*?)```", guide, re.S):
         lines = body.splitlines()
-        yield script, [line[2:] for line in lines if line.startswith("> ")], [line[2:] for line in lines if line.startswith("< ")]
+        yield mark, script, [line[2:] for line in lines if line.startswith("> ")], [line[2:] for line in lines if line.startswith("< ")]
 
 
-def faults():
-    for script, commands, replies in sessions():
-        run = subprocess.run([PROGRAM, "desk", script], input="".join(f"{command}\n" for command in commands).encode(), capture_output=True, cwd=TOP)
+def faults_in(folder):
+    for mark, script, commands, replies in sessions():
+        if mark == "session":
+            shutil.copy(TOP / script, folder / "script")
+            (folder / "script.desk").unlink(missing_ok=True)
+        run = subprocess.run([PROGRAM, "desk", "script"], input="".join(f"{command}\n" for command in commands).encode(), capture_output=True, cwd=folder)
         told = run.stdout.decode().splitlines()
         if run.returncode or len(told) != len(replies):
             yield f"a session of {script} ends with {run.returncode} after {len(told)} replies of {len(replies)}"
@@ -29,10 +35,15 @@ def faults():
                 yield f"{script}: {command} is answered {reply}"
 
 
+def faults():
+    with tempfile.TemporaryDirectory() as folder:
+        return list(faults_in(pathlib.Path(folder)))
+
+
 def main():
     if not PROGRAM.exists():
         return tell("guide", "no session was run", ["the program isn't built"])
-    return tell("guide", f"{len(list(sessions()))} sessions", list(faults()))
+    return tell("guide", f"{len(list(sessions()))} sessions", faults())
 
 
 if __name__ == "__main__":
