@@ -3,7 +3,6 @@ use Rattle.std.specs.Prelude.{fold, List}
 use Rattle.spec_wire.specs.Commands.{CommandOf}
 use Rattle.spec_machine.specs.Machine.{Memory, opened_memory}
 use Rattle.spec_sample.specs.Sample.{sample_commands, sample_opened, state_line, stepped}
-use Rattle.sp_wire.specs.Values.{command_of}
 use Rattle.sp_sample.proofs.session.run_sample.Goals as goal
 
 pub returns : goal.returns
