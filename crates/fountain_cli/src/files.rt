@@ -93,17 +93,18 @@ fn create_beside<R: Files>(system: &R, alloc: Global, name: &str) -> io::Result<
     Err(io::Error::from(ErrorKind::AlreadyExists))
 }
 
-/// Writes all of the bytes to a new file, with these permissions where the system gives them, and through to the disk.
+/// Writes all of the bytes to a new file and through to the disk; it has these permissions before, where the system gives
+/// them, so that nobody reads what the old file kept from them.
 fn fill_file<W: Write + OpenFile + Drop>(
     file: W,
     permissions: Option<Permissions>,
     bytes: &[u8],
 ) -> io::Result<()> {
     let mut file = file;
-    write_file(&mut file, bytes)?;
     if let Some(permissions) = permissions {
         let _ = file.set_permissions(permissions);
     }
+    write_file(&mut file, bytes)?;
     file.flush()?;
     file.sync_all()
 }
