@@ -16,7 +16,7 @@ use Rattle.sp_run.specs.Forms.{OriginOf, from_source, from_file}
 use Rattle.sp_run.specs.Records.{records_name}
 use Rattle.sp_run.specs.Opening.{SameShelf, HadScript, HadTooLong, HadNone, Holds, HadState, HasState, OpensFresh, FoundBeside, NotBeside}
 use Rattle.sp_run.specs.Ending.{HasLines, outside, WroteNothing, NotOpened, Refuses, Unopened}
-use Rattle.sp_run.proofs.PrintEnds.{had-whole}
+use Rattle.sp_run.proofs.ShowEnds.{had-whole}
 
 -- ---- had
 

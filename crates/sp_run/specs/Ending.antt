@@ -10,7 +10,7 @@ use Rattle.spec_session.specs.Runs.{Answered, AtShelf, Runs, output_of}
 use Rattle.spec_session.specs.Sessions.{SessionEnds, streams}
 use Rattle.spec_session.specs.declared.SessionEnd.{SessionEnd}
 use Rattle.spec_session.specs.declared.SessionEnd.TheVariants as endings
-use Rattle.spec_state.specs.Printing.{Printing, too_long, no_utf8, long_line, printed, printed_state, printing_of}
+use Rattle.spec_state.specs.Printing.{Printing, too_long, no_utf8, long_line, printed, printing_of}
 use Rattle.sp_kit.specs.Causes.{Rose}
 use Rattle.sp_kit.specs.Files.{ShelfState}
 use Rattle.sp_kit.specs.Outside.{SourceState, SinkState, AppendsPrefix}
@@ -19,9 +19,12 @@ use Rattle.sp_text.specs.Gap.{LinesState}
 use Rattle.sp_text.specs.declared.fault.TextFault.TheVariants as faults
 use Rattle.sp_run.specs.declared.status.Status.{Status}
 use Rattle.sp_run.specs.declared.status.Status.TheVariants as statuses
-use Rattle.sp_run.specs.Forms.{OriginOf, Asked, print, desk, from_file}
+use Rattle.sp_run.specs.declared.form.View.{View}
+use Rattle.sp_run.specs.Forms.{OriginOf, Asked, show, desk, sample, from_file, view_bytes}
 use Rattle.sp_run.specs.DeskLines.{AnswersLine, NamedDesk, StopsAtLine, answered_lines, seat, shelf_behind}
 use Rattle.sp_run.specs.Opening.{AreFresh, SameShelf, HadScript, HadState, HadTooLong, HadNoFile, HasRecords, HasState, SourceFailed, ShelfFailed, FailedNothing}
+use Rattle.sp_run.specs.Written.{WroteAll, WrotePart}
+use Rattle.spec_sample.specs.Sample.{sample_output}
 use Rattle.sp_run.specs.Records.{OpensAs, RefusesRecords}
 
 -- What is outside.
@@ -35,22 +38,22 @@ pub record WroteNothing (old new : Outside) : Type 0 where
   pub taken : Keeps old.sink.taken new.sink.taken
   pub kept : new.sink.faults ≡ old.sink.faults
 
--- A script was had whole, with what stands beside it, and all sheets of the state that they open as were written.
-pub record Printed (origin : OriginOf) (old new : Outside) : Type 0 where
+-- A script was had whole, with what stands beside it, and all of this view of the state that they open as was written.
+pub record Shown (view : View) (origin : OriginOf) (old new : Outside) : Type 0 where
   pub state : State
   pub had : HadState origin old.source new.source old.shelf new.shelf state
-  pub wrote : Appends old.sink.taken new.sink.taken (printed_state state)
+  pub wrote : Appends old.sink.taken new.sink.taken (view_bytes view state)
   pub kept : new.sink.faults ≡ old.sink.faults
 
--- A script was had whole, with what stands beside it, and a prefix of its sheets was written.
-pub record PartWritten (origin : OriginOf) (old new : Outside) : Type 0 where
+-- A script was had whole, with what stands beside it, and a prefix of this view of it was written.
+pub record PartWritten (view : View) (origin : OriginOf) (old new : Outside) : Type 0 where
   pub state : State
   pub had : HadState origin old.source new.source old.shelf new.shelf state
-  pub wrote : AppendsPrefix old.sink.taken new.sink.taken (printed_state state)
+  pub wrote : AppendsPrefix old.sink.taken new.sink.taken (view_bytes view state)
 
--- The sink failed, and what was written is a prefix of what a script prints that was had whole.
-pub record PartPrinted (origin : OriginOf) (old new : Outside) : Type 0 where
-  pub part : PartWritten origin old new
+-- The sink failed, and what was written is a prefix of this view of a script that was had whole.
+pub record PartShown (view : View) (origin : OriginOf) (old new : Outside) : Type 0 where
+  pub part : PartWritten view origin old new
   pub rose : Rose old.sink.faults new.sink.faults
 
 -- A script was had whole, is refused for this reason, and nothing was written.
@@ -106,29 +109,29 @@ Unopened origin old new (statuses.BadRecords fault) = RecordsRefused origin old 
 Unopened origin old new statuses.NoMemory = NotOpened origin old new
 Unopened origin old new _ = ⊥
 
--- There was no memory: no count of faults rose, and nothing was written, or a prefix of what a script prints that was
--- had whole.
-pub record OutOfMemory (origin : OriginOf) (old new : Outside) : Type 0 where
+-- There was no memory: no count of faults rose, and nothing was written, or a prefix of this view of a script
+-- that was had whole.
+pub record OutOfMemory (view : View) (origin : OriginOf) (old new : Outside) : Type 0 where
   pub kept : FailedNothing origin old.source new.source old.shelf new.shelf
   pub writes : new.sink.faults ≡ old.sink.faults
-  pub wrote : Keeps old.sink.taken new.sink.taken ⊎ PartWritten origin old new
+  pub wrote : Keeps old.sink.taken new.sink.taken ⊎ PartWritten view origin old new
 
--- How a run ends that prints a script.
-abbrev pub PrintEnds : OriginOf → Outside → Outside → Status → Type 0
-PrintEnds origin old new statuses.Done = Printed origin old new
-PrintEnds origin old new statuses.Usage = ⊥
-PrintEnds origin old new (statuses.NoFile name) = FoundNone origin old new (string_bytes name)
-PrintEnds origin old new (statuses.BadText (faults.NotUtf8 place)) = Refused origin old new (no_utf8 place)
-PrintEnds origin old new (statuses.BadText (faults.LineFull place)) = Refused origin old new (long_line place)
-PrintEnds origin old new (statuses.BadText faults.TextFull) = TooLong origin old new
-PrintEnds origin old new (statuses.BadText faults.NoMemory) = ⊥
-PrintEnds origin old new statuses.ReadFault = ReadFailed origin old new
-PrintEnds origin old new statuses.WriteFault = PartPrinted origin old new
-PrintEnds origin old new statuses.ShelfFault = FetchFailed origin old new
-PrintEnds origin old new (statuses.BadRecords fault) = RecordsRefused origin old new fault
-PrintEnds origin old new statuses.NoMemory = OutOfMemory origin old new
-PrintEnds origin old new (statuses.CommandLong number) = ⊥
-PrintEnds origin old new statuses.InputFull = ⊥
+-- How a run ends that writes this view of a script.
+abbrev pub ShowEnds : View → OriginOf → Outside → Outside → Status → Type 0
+ShowEnds view origin old new statuses.Done = Shown view origin old new
+ShowEnds view origin old new statuses.Usage = ⊥
+ShowEnds view origin old new (statuses.NoFile name) = FoundNone origin old new (string_bytes name)
+ShowEnds view origin old new (statuses.BadText (faults.NotUtf8 place)) = Refused origin old new (no_utf8 place)
+ShowEnds view origin old new (statuses.BadText (faults.LineFull place)) = Refused origin old new (long_line place)
+ShowEnds view origin old new (statuses.BadText faults.TextFull) = TooLong origin old new
+ShowEnds view origin old new (statuses.BadText faults.NoMemory) = ⊥
+ShowEnds view origin old new statuses.ReadFault = ReadFailed origin old new
+ShowEnds view origin old new statuses.WriteFault = PartShown view origin old new
+ShowEnds view origin old new statuses.ShelfFault = FetchFailed origin old new
+ShowEnds view origin old new (statuses.BadRecords fault) = RecordsRefused origin old new fault
+ShowEnds view origin old new statuses.NoMemory = OutOfMemory view origin old new
+ShowEnds view origin old new (statuses.CommandLong number) = ⊥
+ShowEnds view origin old new statuses.InputFull = ⊥
 
 -- ---- a session of a desk
 
@@ -165,10 +168,27 @@ DeskEnds name old new statuses.NoMemory = NotOpened (from_file name) old new ⊎
 DeskEnds name old new (statuses.CommandLong number) = HeldSession name old new (endings.CommandLong number)
 DeskEnds name old new statuses.InputFull = HeldSession name old new endings.InputFull
 
+-- ---- a large sample
+
+-- How a run ends that tells of a sample: its line was written, or a prefix of it, or there was no memory and nothing was.
+abbrev pub SampleEnds : ℕ → Outside → Outside → Status → Type 0
+SampleEnds rooms old new statuses.Done = WroteAll old.sink new.sink (sample_output rooms)
+SampleEnds rooms old new statuses.Usage = ⊥
+SampleEnds rooms old new (statuses.NoFile name) = ⊥
+SampleEnds rooms old new (statuses.BadText fault) = ⊥
+SampleEnds rooms old new statuses.ReadFault = ⊥
+SampleEnds rooms old new statuses.WriteFault = WrotePart old.sink new.sink (sample_output rooms)
+SampleEnds rooms old new statuses.ShelfFault = ⊥
+SampleEnds rooms old new (statuses.BadRecords fault) = ⊥
+SampleEnds rooms old new statuses.NoMemory = WroteNothing old new
+SampleEnds rooms old new (statuses.CommandLong number) = ⊥
+SampleEnds rooms old new statuses.InputFull = ⊥
+
 -- How a run ends whose words ask for this.
 abbrev pub Ends : Asked → Outside → Outside → Status → Type 0
-Ends (print origin) old new status = PrintEnds origin old new status
+Ends (show view origin) old new status = ShowEnds view origin old new status
 Ends (desk name) old new status = DeskEnds name old new status
+Ends (sample rooms) old new status = SampleEnds rooms old new status
 
 -- All command lines of the input were answered by a desk of the script, in order, and what was written are the replies.
 pub record AnsweredAll (name : List ℕ) (old new : Outside) : Type 0 where
@@ -246,6 +266,12 @@ abbrev pub AnswersDesk : List ℕ → Option (List ℕ) → Option (List ℕ) �
 AnswersDesk name None records input status = SaysNoFile name status
 AnswersDesk name (Some script) records input status = AnswersSession script records input status
 
+-- The status says that a sample was told, or that there is no memory.
+abbrev pub AnswersSample : Status → Type 0
+AnswersSample statuses.Done = Unit {0}
+AnswersSample statuses.NoMemory = Unit {0}
+AnswersSample _ = ⊥
+
 -- At most so many bytes were read.
 abbrev pub ReadsUpTo : Option (List ℕ) → Option (List ℕ) → ℕ → Type 0
 ReadsUpTo old new most = (bytes : List ℕ) × Consumes old new bytes × (length bytes ≤ most)
@@ -271,6 +297,13 @@ NotDone statuses.Usage = ⊥
 NotDone status = Unit {0}
 
 -- How the printing of a script ends: Ok is the status Done.
-abbrev pub EndsAs : OriginOf → Outside → Outside → Result (Unit {0}) Status → Type 0
-EndsAs origin old new (Ok done) = PrintEnds origin old new statuses.Done
-EndsAs origin old new (Err status) = PrintEnds origin old new status × NotDone status
+abbrev pub EndsAs : View → OriginOf → Outside → Outside → Result (Unit {0}) Status → Type 0
+EndsAs view origin old new (Ok done) = ShowEnds view origin old new statuses.Done
+EndsAs view origin old new (Err status) = ShowEnds view origin old new status × NotDone status
+
+-- How the telling of a sample ends: Ok is the status Done.
+abbrev pub SampleEndsAs : ℕ → SinkState → SinkState → Result (Unit {0}) Status → Type 0
+SampleEndsAs rooms old new (Ok done) = WroteAll old new (sample_output rooms)
+SampleEndsAs rooms old new (Err statuses.WriteFault) = WrotePart old new (sample_output rooms)
+SampleEndsAs rooms old new (Err statuses.NoMemory) = Keeps old.taken new.taken × (new.faults ≡ old.faults)
+SampleEndsAs rooms old new (Err _) = ⊥

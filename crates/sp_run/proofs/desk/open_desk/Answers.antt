@@ -3,7 +3,7 @@ use Rattle.sp_run.specs.declared.status.Status.{Status}
 use Rattle.sp_run.specs.declared.status.Status.TheVariants as statuses
 use Rattle.sp_run.proofs.OpenedStates.{err-is}
 use Rattle.sp_run.proofs.Opened.{had-unopened, has-state}
-use Rattle.sp_run.proofs.PrintEnds.{unopened-desk}
+use Rattle.sp_run.proofs.ShowEnds.{unopened-desk}
 use Rattle.sp_run.proofs.desk.open_desk.Goals as goal
 
 pub returns-in_err-opened-clause-refused : goal.returns-in_err-opened-clause-refused

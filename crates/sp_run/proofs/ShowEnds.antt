@@ -1,0 +1,78 @@
+-- How the writing of a script ends that was had whole.
+use Rattle.std.proofs.Common.{◌≡◌, ℕ, List, inl, inr, sym, subst}
+use Rattle.std.specs.Prelude.{IsErrAnd, Ok, Err}
+use Rattle.std.specs.declared.result.Result.{Result}
+use Rattle.spec_state.specs.State.{State}
+use Rattle.sp_kit.specs.Files.{ShelfState}
+use Rattle.sp_kit.specs.Outside.{SourceState}
+use Rattle.sp_text.specs.declared.fault.TextFault.TheVariants as faults
+use Rattle.sp_run.specs.Ending.{Outside, PartWritten, Unopened, ShowEnds, DeskEnds, NotDone, EndsAs}
+use Rattle.sp_run.specs.declared.form.View.{View}
+use Rattle.sp_run.specs.Forms.{OriginOf, from_source, from_file, view_bytes}
+use Rattle.sp_run.specs.Opening.{HadScript, HadState, FailedNothing}
+use Rattle.sp_run.specs.Written.{IsWritten}
+use Rattle.sp_run.specs.declared.status.Status.{Status}
+use Rattle.sp_run.specs.declared.status.Status.TheVariants as statuses
+
+-- Where a script was had whole, no fault was counted.
+pub had-whole : (origin : OriginOf) (old new : SourceState) (shelf after : ShelfState) (script : List ℕ) → HadScript origin old new shelf after script → FailedNothing origin old new shelf after
+had-whole from_source old new shelf after script had = (had.0.gave.kept, had.1)
+had-whole (from_file name) old new shelf after script had = (had.1, had.2)
+
+-- A script that didn't open isn't written.
+pub unopened-shows : (view : View) (origin : OriginOf) (old new : Outside) (status : Status) → Unopened origin old new status → ShowEnds view origin old new status × NotDone status
+unopened-shows view origin old new statuses.Done it = absurd it
+unopened-shows view origin old new statuses.Usage it = absurd it
+unopened-shows view origin old new (statuses.NoFile name) it = (it, tt)
+unopened-shows view origin old new (statuses.BadText (faults.NotUtf8 place)) it = (it, tt)
+unopened-shows view origin old new (statuses.BadText (faults.LineFull place)) it = (it, tt)
+unopened-shows view origin old new (statuses.BadText faults.TextFull) it = (it, tt)
+unopened-shows view origin old new (statuses.BadText faults.NoMemory) it = absurd it
+unopened-shows view origin old new statuses.ReadFault it = (it, tt)
+unopened-shows view origin old new statuses.WriteFault it = absurd it
+unopened-shows view origin old new statuses.ShelfFault it = (it, tt)
+unopened-shows view origin old new (statuses.BadRecords fault) it = (it, tt)
+unopened-shows view origin old new statuses.NoMemory it = (record { kept = it.kept; writes = it.nothing.kept; wrote = inl it.nothing.taken }, tt)
+unopened-shows view origin old new (statuses.CommandLong number) it = absurd it
+unopened-shows view origin old new statuses.InputFull it = absurd it
+
+-- A script that didn't open has no session.
+pub unopened-desk : (name : List ℕ) (old new : Outside) (status : Status) → Unopened (from_file name) old new status → DeskEnds name old new status × NotDone status
+unopened-desk name old new statuses.Done it = absurd it
+unopened-desk name old new statuses.Usage it = absurd it
+unopened-desk name old new (statuses.NoFile given) it = (it, tt)
+unopened-desk name old new (statuses.BadText (faults.NotUtf8 place)) it = (it, tt)
+unopened-desk name old new (statuses.BadText (faults.LineFull place)) it = (it, tt)
+unopened-desk name old new (statuses.BadText faults.TextFull) it = (it, tt)
+unopened-desk name old new (statuses.BadText faults.NoMemory) it = absurd it
+unopened-desk name old new statuses.ReadFault it = absurd it.failed
+unopened-desk name old new statuses.WriteFault it = absurd it
+unopened-desk name old new statuses.ShelfFault it = (it, tt)
+unopened-desk name old new (statuses.BadRecords fault) it = (it, tt)
+unopened-desk name old new statuses.NoMemory it = (inl it, tt)
+unopened-desk name old new (statuses.CommandLong number) it = absurd it
+unopened-desk name old new statuses.InputFull it = absurd it
+
+-- The answer is this status.
+pub err-ends : (view : View) (origin : OriginOf) (old new : Outside) (status : Status) (result : Result (Unit {0}) Status) → IsErrAnd result (λ s. s ≡ status) → Unopened origin old new status → EndsAs view origin old new result
+err-ends view origin old new status (Ok done) is it = absurd is
+err-ends view origin old new status (Err other) is it = subst (λ (s : Status). ShowEnds view origin old new s × NotDone s) (sym is) (unopened-shows view origin old new status it)
+
+pub show-ends : (view : View) (origin : OriginOf) (old new : Outside) (state : State) (result : Result (Unit {0}) Status) → HadState origin old.source new.source old.shelf new.shelf state
+    → IsWritten old.sink new.sink (view_bytes view state) result → EndsAs view origin old new result
+show-ends view origin old new state (Ok done) had written = record { state = state; had = had; wrote = written.wrote; kept = written.kept }
+show-ends view origin old new state (Err statuses.WriteFault) had written =
+    let part : PartWritten view origin old new = record { state = state; had = had; wrote = written.wrote } in
+    (record { part = part; rose = written.rose }, tt)
+show-ends view origin old new state (Err statuses.NoMemory) had written =
+    let part : PartWritten view origin old new = record { state = state; had = had; wrote = written.wrote } in
+    (record { kept = had-whole origin old.source new.source old.shelf new.shelf had.script had.had; writes = written.kept; wrote = inr part }, tt)
+show-ends view origin old new state (Err statuses.Done) had written = absurd written
+show-ends view origin old new state (Err statuses.Usage) had written = absurd written
+show-ends view origin old new state (Err (statuses.NoFile name)) had written = absurd written
+show-ends view origin old new state (Err (statuses.BadText fault)) had written = absurd written
+show-ends view origin old new state (Err statuses.ReadFault) had written = absurd written
+show-ends view origin old new state (Err statuses.ShelfFault) had written = absurd written
+show-ends view origin old new state (Err (statuses.BadRecords fault)) had written = absurd written
+show-ends view origin old new state (Err (statuses.CommandLong number)) had written = absurd written
+show-ends view origin old new state (Err statuses.InputFull) had written = absurd written

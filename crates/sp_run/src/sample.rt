@@ -1,0 +1,24 @@
+//! The large sample (docs/RULES.md, "The program" and "The sample").
+ghost use Rattle.std.specs.Prelude.{◌≤◌};
+ghost use Rattle.sp_run.specs.Forms.{most_rooms};
+ghost use Rattle.sp_run.specs.Ending.{SampleEndsAs};
+
+use crate::status::Status;
+use sp_kit::{Sink, Steps, write_whole};
+use sp_sample::run_sample;
+use std::alloc::Global;
+
+/// Writes the line that tells of the sample of so many rooms, which is made whole first.
+pub fn write_sample<O: Sink, S: Steps>(
+    alloc: Global,
+    rooms: u32,
+    output: &mut O,
+    steps: &mut S,
+) -> Result<(), Status>
+    requires { rooms ≤ most_rooms }
+    ensures { SampleEndsAs rooms (O.state output.old) (O.state output.new) result }
+{
+    let line = run_sample(alloc, rooms, steps)?;
+    write_whole(output, line.as_slice())?;
+    Ok(())
+}

@@ -1,0 +1,62 @@
+//! Writing a script: its sheets or its outline to the sink (docs/RULES.md, "The program").
+ghost use Rattle.std.specs.Prelude.{◌≡◌, ◌+◌};
+ghost use Rattle.spec_text.specs.Limits.{raw_limit};
+ghost use Rattle.spec_machine.specs.Outlines.{outline_of};
+ghost use Rattle.sp_run.specs.Forms.{origin_of, view_bytes};
+ghost use Rattle.sp_run.specs.Opening.{LeavesSource, LeavesShelf};
+ghost use Rattle.sp_run.specs.Ending.{EndsAs, ReadsUpTo, outside};
+ghost use Rattle.sp_run.specs.Written.{IsWritten};
+
+use crate::form::{Origin, View};
+use crate::opening::open_state;
+use crate::sheets::write_sheets;
+use crate::status::Status;
+use sp_contents::outline_text;
+use sp_kit::{Shelf, Sink, Source, Steps, write_whole};
+use sp_state::Script;
+use std::alloc::Global;
+
+/// Writes a view of a script.
+pub fn show_script<I: Source, O: Sink, F: Shelf, S: Steps>(
+    alloc: Global,
+    view: View,
+    origin: Origin<'_>,
+    input: &mut I,
+    output: &mut O,
+    shelf: &mut F,
+    steps: &mut S,
+) -> Result<(), Status>
+    ensures ends { EndsAs view (origin_of origin.entry) (outside (I.state input.old) (O.state output.old) (F.state shelf.old)) (outside (I.state input.new) (O.state output.new) (F.state shelf.new)) result }
+    ensures budget { ReadsUpTo (I.state input.old).unread (I.state input.new).unread (raw_limit + 1) }
+    ensures source_kept { LeavesSource (origin_of origin.entry) input.old input.new }
+    ensures shelf_kept { LeavesShelf (origin_of origin.entry) shelf.old shelf.new }
+    ensures files_kept { (F.state shelf.new).files ≡ (F.state shelf.old).files }
+{
+    let opened = open_state(alloc, origin, input, shelf)?;
+    let script = Script::open(alloc, opened.lines, opened.records, steps)?;
+    write_view(alloc, view, &script, output)
+}
+
+/// Writes a view of a script that was opened.
+fn write_view<O: Sink>(
+    alloc: Global,
+    view: View,
+    script: &Script,
+    output: &mut O,
+) -> Result<(), Status>
+    ensures { IsWritten (O.state output.old) (O.state output.new) (view_bytes view script.now) result }
+{
+    match view {
+        View::Sheets => write_sheets(alloc, script, output),
+        View::Outline => write_outline(alloc, script, output),
+    }
+}
+
+/// Writes the outline of a script, which is made whole first.
+fn write_outline<O: Sink>(alloc: Global, script: &Script, output: &mut O) -> Result<(), Status>
+    ensures { IsWritten (O.state output.old) (O.state output.new) (outline_of script.now) result }
+{
+    let text = outline_text(alloc, script)?;
+    write_whole(output, text.as_bytes())?;
+    Ok(())
+}
