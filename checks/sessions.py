@@ -1,7 +1,7 @@
 """Runs the sessions of checks/sessions/ against the built program: each command must be answered as it is written there.
 
 A session begins with a line `# TITLE`; then come the lines of its script behind `| `, and commands behind `> ` with their replies
-behind `< `. The replies were found by another program, which has the same rules and shares no code with this one.
+behind `< `. The replies were worked out from the rules apart from this program.
 """
 
 import pathlib

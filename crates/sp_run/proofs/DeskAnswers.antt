@@ -12,7 +12,7 @@ use Rattle.sp_kit.specs.Files.{Files}
 use Rattle.sp_text.specs.declared.fault.TextFault.TheVariants as faults
 use Rattle.sp_run.specs.declared.status.Status.{Status}
 use Rattle.sp_run.specs.declared.status.Status.TheVariants as statuses
-use Rattle.sp_run.specs.DeskLines.{AnswersLine, StopsAtLine, seat}
+use Rattle.sp_run.specs.DeskLines.{AnswersLine, StopsAtLine, desk_at}
 use Rattle.sp_run.specs.Records.{records_name, RefusesRecords}
 use Rattle.sp_run.specs.Ending.{Outside, HeldSession, Opens, AnswersDesk, DeskEnds}
 use Rattle.sp_run.specs.Statuses.{status_of_end}
@@ -32,7 +32,7 @@ session-answers : (name : List ℕ) (old new : Outside) (end : SessionEnd) → H
     → (files : Files) → old.shelf.files ≡ Some files → (input : List ℕ) → old.source.unread ≡ Some input → AnswersDesk name (files name) (files (records_name name)) input (status_of_end end)
 session-answers name old new end session calm files is input told =
     let settles =
-    ends-settle AnswersLine StopsAtLine (streams old.source old.sink) (streams new.source new.sink) (seat name (opened_memory session.state) old.shelf) session.after end session.ends calm input told in
+    ends-settle AnswersLine StopsAtLine (streams old.source old.sink) (streams new.source new.sink) (desk_at name (opened_memory session.state) old.shelf) session.after end session.ends calm input told in
     held-both name session.has.script session.has.records old.shelf.files files Opens (λ o r. AnswersDesk name o r input (status_of_end end)) (settles-input name input end settles) session.has.has session.has.beside is
     (session.state, session.has.opens)
 

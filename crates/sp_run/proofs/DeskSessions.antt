@@ -16,7 +16,7 @@ use Rattle.spec_machine.specs.Answers.{Step}
 use Rattle.sp_kit.specs.Files.{Files, ShelfState}
 use Rattle.sp_run.specs.Records.{records_name}
 use Rattle.sp_run.specs.Saving.{Changes, KeepsAllBut, PutBoth, files_of}
-use Rattle.sp_run.specs.DeskLines.{NamedDesk, AnswersLine, StopsAtLine, Stores, Leaves, asks_save, answered_line, answered_lines, seat, shelf_behind}
+use Rattle.sp_run.specs.DeskLines.{NamedDesk, AnswersLine, StopsAtLine, Stores, Leaves, asks_save, answered_line, answered_lines, desk_at, shelf_behind}
 use Rattle.std.specs.declared.option.Option.{Option}
 use Rattle.sp_run.specs.Forms.{desk}
 use Rattle.sp_run.specs.Opening.{SameShelf}
@@ -32,14 +32,14 @@ same-shelf old new same = λ i. record { files = same.files i; faults = same.fau
 
 -- The session of a desk that was opened.
 pub session-held : (name : List ℕ) (old new : Outside) (between : ShelfState) (memory : Memory) (after : AtShelf NamedDesk) (end : SessionEnd) → OpensDesk old.shelf between name memory
-    → SessionEnds AnswersLine StopsAtLine (streams old.source old.sink) (streams new.source new.sink) (seat name memory between) after end → new.shelf ≡ after.shelf → HeldSession name old new end
+    → SessionEnds AnswersLine StopsAtLine (streams old.source old.sink) (streams new.source new.sink) (desk_at name memory between) after end → new.shelf ≡ after.shelf → HeldSession name old new end
 session-held name old new between memory after end opens ends left =
     let same = same-shelf old.shelf between opens.same in record {
       state = opens.state;
       has = opens.has;
       after = after;
-      ends = subst (λ (it : Memory). SessionEnds AnswersLine StopsAtLine (streams old.source old.sink) (streams new.source new.sink) (seat name it old.shelf) after end) opens.is
-          (subst (λ (it : ShelfState). SessionEnds AnswersLine StopsAtLine (streams old.source old.sink) (streams new.source new.sink) (seat name memory it) after end) same ends);
+      ends = subst (λ (it : Memory). SessionEnds AnswersLine StopsAtLine (streams old.source old.sink) (streams new.source new.sink) (desk_at name it old.shelf) after end) opens.is
+          (subst (λ (it : ShelfState). SessionEnds AnswersLine StopsAtLine (streams old.source old.sink) (streams new.source new.sink) (desk_at name memory it) after end) same ends);
       left = left;
     }
 
@@ -76,7 +76,7 @@ pub held-answered : (name : List ℕ) (old new : Outside) → HeldSession name o
 held-answered name old new held =
     let course = held.ends.course in
     let all = held.ends.ends in
-    let before = seat name (opened_memory held.state) old.shelf in
+    let before = desk_at name (opened_memory held.state) old.shelf in
     let runs : Runs AnswersLine before (command_lines course.read) course.steps = subst (λ (lines : List (List ℕ)). Runs AnswersLine before lines course.steps) all.lines held.ends.went.runs in
     record {
       state = held.state;
@@ -140,7 +140,7 @@ runs-calm before (line ∷ lines) (step ∷ steps) runs same low =
 
 pub answered-calmly : (name : List ℕ) (old new : Outside) → AnsweredAll name old new → new.shelf.faults ≡ old.shelf.faults → old.shelf.faults < 2 ^ 64 - 1 → AnsweredCalmly name old new
 answered-calmly name old new all same low =
-    let before = seat name (opened_memory all.state) old.shelf in
+    let before = desk_at name (opened_memory all.state) old.shelf in
     let last : (left_by before all.steps).shelf ≡ new.shelf = sym (runs-last before (command_lines all.input) all.steps all.runs) ∙ sym all.left in
     let end : (left_by before all.steps).shelf.faults ≡ old.shelf.faults = ap (λ (it : ShelfState). it.faults) last ∙ same in
     let steps = runs-calm before (command_lines all.input) all.steps all.runs end low in
@@ -204,11 +204,11 @@ same-name one other asked old new holds =
     let same : one ≡ other = cc in subst (λ (n : List ℕ). Changes old new (λ before after. KeepsAllBut before after n (records_name n))) same holds
 
 pub held-others : (name : List ℕ) (memory : Memory) (shelf : ShelfState) (old new : Outside) (after : AtShelf NamedDesk) (end : SessionEnd)
-    → SessionEnds AnswersLine StopsAtLine (streams old.source old.sink) (streams new.source new.sink) (seat name memory shelf) after end
+    → SessionEnds AnswersLine StopsAtLine (streams old.source old.sink) (streams new.source new.sink) (desk_at name memory shelf) after end
     → Changes shelf.files after.shelf.files (λ one other. KeepsAllBut one other name (records_name name))
 held-others name memory shelf old new after end ends =
-    let begun : KeepsTo name shelf (seat name memory shelf) = record { named = refl; others = same-others (seat name memory shelf) (seat name memory shelf) refl } in
+    let begun : KeepsTo name shelf (desk_at name memory shelf) = record { named = refl; others = same-others (desk_at name memory shelf) (desk_at name memory shelf) refl } in
     (ends-keep AnswersLine StopsAtLine (KeepsTo name shelf)
     (λ one line other reply answers. keeps-more name shelf one other (replies-name one other line reply answers) (replies-others one other line reply answers))
     (λ one line other stops. keeps-more name shelf one other stops.name (leaves-others (asks_save (command_of_line line)) one other stops.leaves))
-    (streams old.source old.sink) (streams new.source new.sink) (seat name memory shelf) after end ends begun).others
+    (streams old.source old.sink) (streams new.source new.sink) (desk_at name memory shelf) after end ends begun).others

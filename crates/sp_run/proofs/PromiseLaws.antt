@@ -13,6 +13,7 @@ use Rattle.spec_machine.proofs.DeskLaws.{locking-stays, beginning-stays}
 use Rattle.spec_locked_pages.specs.Chains.{AreLinked}
 use Rattle.spec_locked_pages.proofs.ChainLaws.{opened-linked, steps-linked}
 use Rattle.spec_locked_pages.proofs.PageLaws.{page-laws}
+use Rattle.spec_locked_pages.proofs.SheetParts.{bytes-among}
 use Rattle.sp_desk.proofs.EntryLaws.{last-more}
 use Rattle.sp_run.specs.Promises.{KeepsPromises, IsPromised}
 
@@ -34,6 +35,7 @@ memory-kept earlier later whole linked can =
       round = beginning-stays now after.state;
       undo = edit-undone now;
       pages = page-laws now after (steps-linked earlier later linked can);
+      among = bytes-among now.state;
     }
 
 pub promises_kept : (state : State) → IsWhole state → IsPromised state

@@ -17,7 +17,7 @@ use Rattle.sp_kit.specs.declared.shelf.ShelfFault.{ShelfFault}
 use Rattle.sp_kit.specs.declared.shelf.ShelfFault.TheVariants as shelf_faults
 use Rattle.sp_run.specs.Records.{records_name}
 use Rattle.sp_run.specs.Saving.{Changes, KeepsAllBut, TwoFiles, files_of, PutBoth, PutFirst, StoredBoth, StoreFailed, LeftBoth, StoreLeft, StoresBoth, RepliesToSave}
-use Rattle.sp_run.specs.DeskLines.{NamedDesk, seat, is_save, asks_save, saved_step, line_step_by, Stores, RepliesTo, Leaves, StopsAt}
+use Rattle.sp_run.specs.DeskLines.{NamedDesk, desk_at, is_save, asks_save, saved_step, line_step_by, Stores, RepliesTo, Leaves, StopsAt}
 
 -- The record file doesn't stand under the script's name.
 pub names-differ : (name : List ℕ) → name ≢ records_name name
@@ -167,10 +167,10 @@ stored-as name state it old new named text beside records stored =
 
 -- A reply to a save is one to its command.
 pub save-replies : (name : List ℕ) (memory : Memory) (old new : ShelfState) (reply : ReplyOf) (command : CommandOf) → is_save command ≡ true → RepliesToSave name memory.state old new reply
-    → RepliesTo (seat name memory old) (Ok command) (seat name memory new) reply
+    → RepliesTo (desk_at name memory old) (Ok command) (desk_at name memory new) reply
 save-replies name memory old new (saved digest) command asks it =
-    let before = seat name memory old in
-    let after = seat name memory new in
+    let before = desk_at name memory old in
+    let after = desk_at name memory new in
     inl (record {
       step = ap (λ (d : List ℕ). record { after = memory; reply = saved d }) it.0 ∙ ap (λ (b : Bool). if b then saved_step memory else step_of memory command) (sym asks);
       name = refl;
@@ -181,20 +181,20 @@ save-replies name memory old new _ command asks it = absurd it
 
 -- What a save leaves for want of memory.
 pub save-stops : (name : List ℕ) (memory : Memory) (old new : ShelfState) (command : CommandOf) → is_save command ≡ true → StoreLeft (files_of name memory.state) old new
-    → StopsAt (seat name memory old) (Ok command) (seat name memory new)
+    → StopsAt (desk_at name memory old) (Ok command) (desk_at name memory new)
 save-stops name memory old new command asks it =
-    record { memory = inl refl; name = refl; leaves = subst (λ (b : Bool). Leaves b (seat name memory old) (seat name memory new)) (sym asks) it }
+    record { memory = inl refl; name = refl; leaves = subst (λ (b : Bool). Leaves b (desk_at name memory old) (desk_at name memory new)) (sym asks) it }
 
 -- Anything else leaves the shelf.
 pub other-replies : (name : List ℕ) (before after : Memory) (old new : ShelfState) (reply : ReplyOf) (asked : Result CommandOf FaultOf) → asks_save asked ≡ false → new ≡ old
-    → record { after = after; reply = reply } ≡ line_step_by before asked → RepliesTo (seat name before old) asked (seat name after new) reply
+    → record { after = after; reply = reply } ≡ line_step_by before asked → RepliesTo (desk_at name before old) asked (desk_at name after new) reply
 other-replies name before after old new reply asked asks same step =
-    inl (record { step = step; name = refl; stores = subst (λ (b : Bool). Stores b (seat name before old) (seat name after new)) (sym asks) same })
+    inl (record { step = step; name = refl; stores = subst (λ (b : Bool). Stores b (desk_at name before old) (desk_at name after new)) (sym asks) same })
 
 pub other-stops : (name : List ℕ) (before after : Memory) (old new : ShelfState) (asked : Result CommandOf FaultOf) → asks_save asked ≡ false → new ≡ old → after ≡ before
-    → StopsAt (seat name before old) asked (seat name after new)
+    → StopsAt (desk_at name before old) asked (desk_at name after new)
 other-stops name before after old new asked asks same kept =
-    record { memory = inl kept; name = refl; leaves = subst (λ (b : Bool). Leaves b (seat name before old) (seat name after new)) (sym asks) same }
+    record { memory = inl kept; name = refl; leaves = subst (λ (b : Bool). Leaves b (desk_at name before old) (desk_at name after new)) (sym asks) same }
 
 -- A step of the machine is the step of a line that asks for its command.
 pub machine-step : (memory : Memory) (command : CommandOf) (step : Step) → is_save command ≡ false → step ≡ step_of memory command → step ≡ line_step_by memory (Ok command)

@@ -18,8 +18,8 @@ pub record NamedDesk : Type 0 where
   pub memory : Memory
 
 -- A desk, its script's name, and the shelf.
-abbrev pub seat : List ℕ → Memory → ShelfState → AtShelf NamedDesk
-seat name memory files = record { it = record { name = name; memory = memory }; shelf = files }
+abbrev pub desk_at : List ℕ → Memory → ShelfState → AtShelf NamedDesk
+desk_at name memory files = record { it = record { name = name; memory = memory }; shelf = files }
 
 -- ---- what a line asks for
 

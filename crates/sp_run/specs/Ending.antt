@@ -21,7 +21,7 @@ use Rattle.sp_run.specs.declared.status.Status.{Status}
 use Rattle.sp_run.specs.declared.status.Status.TheVariants as statuses
 use Rattle.sp_run.specs.declared.form.View.{View}
 use Rattle.sp_run.specs.Forms.{OriginOf, Asked, show, desk, sample, from_file, view_bytes}
-use Rattle.sp_run.specs.DeskLines.{AnswersLine, NamedDesk, StopsAtLine, answered_lines, seat, shelf_behind}
+use Rattle.sp_run.specs.DeskLines.{AnswersLine, NamedDesk, StopsAtLine, answered_lines, desk_at, shelf_behind}
 use Rattle.sp_run.specs.Opening.{AreFresh, SameShelf, HadScript, HadState, HadTooLong, HadNoFile, HasRecords, HasState, SourceFailed, ShelfFailed, FailedNothing}
 use Rattle.sp_run.specs.Written.{WroteAll, WrotePart}
 use Rattle.spec_sample.specs.Sample.{sample_output}
@@ -141,7 +141,7 @@ pub record HeldSession (name : List ℕ) (old new : Outside) (end : SessionEnd) 
   pub state : State
   pub has : HasState old.shelf name state
   pub after : AtShelf NamedDesk
-  pub ends : SessionEnds AnswersLine StopsAtLine (streams old.source old.sink) (streams new.source new.sink) (seat name (opened_memory state) old.shelf) after end
+  pub ends : SessionEnds AnswersLine StopsAtLine (streams old.source old.sink) (streams new.source new.sink) (desk_at name (opened_memory state) old.shelf) after end
   pub left : new.shelf ≡ after.shelf
 
 -- The shelf has a script under the name and was left as it was, and this is the memory of its desk.
@@ -198,7 +198,7 @@ pub record AnsweredAll (name : List ℕ) (old new : Outside) : Type 0 where
   pub gave : Consumes old.source.unread new.source.unread input
   pub at_end : IsAtEnd new.source.unread
   pub steps : List (Answered (AtShelf NamedDesk))
-  pub runs : Runs AnswersLine (seat name (opened_memory state) old.shelf) (command_lines input) steps
+  pub runs : Runs AnswersLine (desk_at name (opened_memory state) old.shelf) (command_lines input) steps
   pub wrote : Appends old.sink.taken new.sink.taken (output_of steps)
   pub left : new.shelf ≡ shelf_behind old.shelf (command_lines input) steps
 

@@ -1,5 +1,5 @@
 -- What is promised of the memories that accepted commands lead to (docs/RULES.md, "The desk").
-use Rattle.std.specs.Prelude.{◌≡◌, List}
+use Rattle.std.specs.Prelude.{◌≡◌, ℕ, List}
 use Rattle.spec_text.specs.Edits.{EditOf}
 use Rattle.spec_wire.specs.Commands.{CommandOf, edit, undo, lock_pages, next_round}
 use Rattle.spec_state.specs.State.{State}
@@ -7,10 +7,12 @@ use Rattle.spec_state.specs.StateSheets.{bytes_of_state}
 use Rattle.spec_machine.specs.Machine.{Memory, Accepts, AcceptsAll, memory_after, memory_behind, opened_memory}
 use Rattle.spec_machine.specs.KeptMemories.{IsWholeMemory}
 use Rattle.spec_machine.specs.LabelPromises.{AreLabelled, LosesNone}
+use Rattle.spec_locked_pages.specs.Segments.{IsLockedPage, StandsAmong, bytes_at}
 use Rattle.spec_locked_pages.specs.Promises.{ArePageLaws}
 
 -- Of a memory and a later one: the states keep the rules, labels rise and none is lost, a lock of pages and a new round leave the
--- bytes of every sheet, an undo gives back the whole state before its edit, and locked pages keep their bytes.
+-- bytes of every sheet, an undo gives back the whole state before its edit, locked pages keep their bytes, and the sheets of a locked
+-- page are among those that the state has.
 pub record KeepsPromises (earlier now : Memory) : Type 0 where
   pub whole : IsWholeMemory now
   pub labels : AreLabelled now.state
@@ -19,6 +21,7 @@ pub record KeepsPromises (earlier now : Memory) : Type 0 where
   pub round : bytes_of_state (memory_after now next_round).state ≡ bytes_of_state now.state
   pub undo : (it : EditOf) → (memory_after (memory_after now (edit it)) undo).state ≡ now.state
   pub pages : ArePageLaws now
+  pub among : (i : ℕ) → IsLockedPage now.state i → StandsAmong (bytes_at now.state i) (bytes_of_state now.state)
 
 -- So it is for all commands that are accepted, one after another, from an opened state on.
 pub record IsPromised (state : State) : Type 0 where

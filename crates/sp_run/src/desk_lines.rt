@@ -3,7 +3,7 @@ ghost use Rattle.std.specs.Prelude.{◌≡◌, IfOk, OnErr};
 ghost use Rattle.std.specs.declared.result.Result.TheVariants.{Ok};
 ghost use Rattle.spec_wire.specs.Lines.{command_of_line};
 ghost use Rattle.sp_wire.specs.Values.{command_of, reply_of};
-ghost use Rattle.sp_run.specs.DeskLines.{RepliesTo, StopsAt, is_save, seat};
+ghost use Rattle.sp_run.specs.DeskLines.{RepliesTo, StopsAt, is_save, desk_at};
 
 use crate::saving::save;
 use sp_desk::{Desk, DeskFault};
@@ -46,8 +46,8 @@ fn reply_to_command<F: Shelf, S: Steps>(
     shelf: &mut F,
     steps: &mut S,
 ) -> Result<Reply, AllocError>
-    ensures reply { IfOk result (λ reply. RepliesTo (seat name.now desk.old (F.state shelf.old)) (Ok (command_of command)) (seat name.now desk.new (F.state shelf.new)) (reply_of reply)) }
-    ensures stops { OnErr result (StopsAt (seat name.now desk.old (F.state shelf.old)) (Ok (command_of command)) (seat name.now desk.new (F.state shelf.new))) }
+    ensures reply { IfOk result (λ reply. RepliesTo (desk_at name.now desk.old (F.state shelf.old)) (Ok (command_of command)) (desk_at name.now desk.new (F.state shelf.new)) (reply_of reply)) }
+    ensures stops { OnErr result (StopsAt (desk_at name.now desk.old (F.state shelf.old)) (Ok (command_of command)) (desk_at name.now desk.new (F.state shelf.new))) }
 {
     if is_save(&command) {
         return save(alloc, name, desk, shelf);
@@ -68,8 +68,8 @@ fn reply_to_line<F: Shelf, S: Steps>(
     shelf: &mut F,
     steps: &mut S,
 ) -> Result<Reply, AllocError>
-    ensures reply { IfOk result (λ reply. RepliesTo (seat name.now desk.old (F.state shelf.old)) (command_of_line line.now) (seat name.now desk.new (F.state shelf.new)) (reply_of reply)) }
-    ensures stops { OnErr result (StopsAt (seat name.now desk.old (F.state shelf.old)) (command_of_line line.now) (seat name.now desk.new (F.state shelf.new))) }
+    ensures reply { IfOk result (λ reply. RepliesTo (desk_at name.now desk.old (F.state shelf.old)) (command_of_line line.now) (desk_at name.now desk.new (F.state shelf.new)) (reply_of reply)) }
+    ensures stops { OnErr result (StopsAt (desk_at name.now desk.old (F.state shelf.old)) (command_of_line line.now) (desk_at name.now desk.new (F.state shelf.new))) }
 {
     match read_command(alloc, line) {
         Ok(command) => reply_to_command(alloc, name, desk, command, shelf, steps),

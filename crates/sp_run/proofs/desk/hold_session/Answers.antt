@@ -4,7 +4,7 @@ use Rattle.spec_session.specs.Sessions.{SessionEnds, streams}
 use Rattle.std.specs.declared.option.Option.{Option}
 use Rattle.sp_kit.specs.Files.{Files}
 use Rattle.sp_kit.specs.Outside.{SourceState}
-use Rattle.sp_run.specs.DeskLines.{AnswersLine, StopsAtLine, seat}
+use Rattle.sp_run.specs.DeskLines.{AnswersLine, StopsAtLine, desk_at}
 use Rattle.sp_run.specs.Records.{records_name}
 use Rattle.sp_run.specs.Saving.{Changes, KeepsAllBut}
 use Rattle.sp_run.specs.Ending.{DeskEnds, outside}
@@ -26,7 +26,7 @@ returns-clause-ends g c =
     let new = outside (g.I.Source.state c.session.new.input) (g.O.Sink.state c.session.new.output) (g.F.Shelf.state c.session.new.shelf) in
     let between = g.F.Shelf.state c.open_desk.new.shelf in
     let after = at_shelf c.session.new.responder (g.F.Shelf.state c.session.new.shelf) in
-    let ends = subst (λ (source : SourceState). SessionEnds AnswersLine StopsAtLine (streams source old.sink) (streams new.source new.sink) (seat c.args.name.now c.in-Ok.desk between) after c.session.result)
+    let ends = subst (λ (source : SourceState). SessionEnds AnswersLine StopsAtLine (streams source old.sink) (streams new.source new.sink) (desk_at c.args.name.now c.in-Ok.desk between) after c.session.result)
     (ap g.I.Source.state c.open_desk.ensures.source_kept) c.session.ensures.ends in
     let held = session-held c.args.name.now old new between c.in-Ok.desk after c.session.result c.in-Ok.ensures.opened ends refl in
     subst (DeskEnds c.args.name.now old new) (sym c.from.ensures) (held-ends c.args.name.now old new c.session.result held)
