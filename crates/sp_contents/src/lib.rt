@@ -9,6 +9,3 @@ mod scenes;
 mod sheets;
 
 pub use reply::{outline_reply, outline_text};
-
-#[cfg(test)]
-mod tests;
