@@ -39,7 +39,10 @@ fn a_file_is_printed_by_its_name(rt: HostRuntime) -> Result<(), Fail> {
     let (status, bytes) = printed(&rt, name.as_str())?;
     let mut shelf = FileShelf::new(alloc, &rt);
     assert_eq!(rt; shelf.store(name.as_str(), b"!Again."), Ok(()));
-    assert_eq!(rt; fs::read(&rt, name.as_str())?.as_slice(), b"!Again.");
+    assert_eq!(rt;
+        fs::read(&rt, name.as_str())?.as_slice(),
+        b"!Again.".as_slice()
+    );
     assert_eq!(rt; shelf.store(folder_name, b""), Err(ShelfFault::Failed));
     assert_eq!(rt; shelf.store("a\0b", b""), Err(ShelfFault::Failed));
     fs::remove_file(&rt, name.as_str())?;
