@@ -1,5 +1,6 @@
 -- What a desk makes of command lines (docs/RULES.md, "Sessions").
-use Rattle.std.specs.Prelude.{◌≡◌, ℕ, ◌⊎◌, Bool, true, false, if◌then◌else◌, List, [], ◌∷◌}
+use Rattle.std.specs.Prelude.{◌≡◌, ℕ, ◌+◌, ◌⊎◌, Bool, true, false, ◌&&◌, if◌then◌else◌, List, [], ◌∷◌, map}
+use Rattle.std.specs.Str.{bytes_eq}
 use Rattle.std.specs.declared.result.Result.{Result}
 use Rattle.std.specs.declared.result.Result.TheVariants.{Ok, Err}
 use Rattle.spec_records.specs.RecordFile.{digest_of}
@@ -10,6 +11,7 @@ use Rattle.spec_session.specs.Runs.{Answered, AtShelf}
 use Rattle.spec_machine.specs.Machine.{Memory}
 use Rattle.spec_machine.specs.Answers.{Step, step_of}
 use Rattle.sp_kit.specs.Files.{ShelfState}
+use Rattle.sp_run.specs.Promises.{Follows}
 use Rattle.sp_run.specs.Saving.{SavesState, StoreFailed, StoreLeft, files_of}
 
 -- A desk of the script that has this name.
@@ -82,8 +84,25 @@ abbrev pub RepliesTo : AtShelf NamedDesk → Result CommandOf FaultOf → AtShel
 RepliesTo before asked after reply = IsDone before asked after reply ⊎ IsUnsaved before asked after reply
 
 -- How a desk answers a line.
-abbrev pub AnswersLine : AtShelf NamedDesk → List ℕ → AtShelf NamedDesk → List ℕ → Type 0
-AnswersLine before line after bytes = (reply : ReplyOf) × (bytes ≡ reply_line reply) × RepliesTo before (command_of_line line) after reply
+pub record AnswersLine (before : AtShelf NamedDesk) (line : List ℕ) (after : AtShelf NamedDesk) (bytes : List ℕ) : Type 0 where
+  pub reply : ReplyOf
+  pub is : bytes ≡ reply_line reply
+  pub replies : RepliesTo before (command_of_line line) after reply
+  pub follows : Follows before.it.memory after.it.memory
+
+-- The memory of a desk, and behind it those that these steps left.
+abbrev pub memories_of : Memory → List (Answered (AtShelf NamedDesk)) → List Memory
+memories_of memory steps = memory ∷ map (λ (step : Answered (AtShelf NamedDesk)). step.after.it.memory) steps
+
+-- The line asks to save, and was answered that a store failed.
+abbrev pub is_unsaved : List ℕ → Answered (AtShelf NamedDesk) → Bool
+is_unsaved line step = asks_save (command_of_line line) && bytes_eq step.reply (reply_line (refused shelf))
+
+-- How many of these lines are saves that were answered that a store failed.
+abbrev pub unsaved_count : List (List ℕ) → List (Answered (AtShelf NamedDesk)) → ℕ
+unsaved_count [] steps = 0
+unsaved_count (line ∷ lines) [] = 0
+unsaved_count (line ∷ lines) (step ∷ steps) = (if is_unsaved line step then 1 else 0) + unsaved_count lines steps
 
 -- The shelf as the last save of these lines left it, which were answered by these steps; as it was, where none is a save.
 abbrev pub shelf_behind : ShelfState → List (List ℕ) → List (Answered (AtShelf NamedDesk)) → ShelfState

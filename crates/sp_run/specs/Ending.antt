@@ -1,5 +1,5 @@
 -- How a run ends: a relation between what is outside before it and after it, and its status (docs/RULES.md, "The program").
-use Rattle.std.specs.Prelude.{◌≡◌, ℕ, ◌≤◌, ◌⊎◌, List, length, string_bytes, Option, Some, None, Ok, Err}
+use Rattle.std.specs.Prelude.{◌≡◌, ℕ, ◌+◌, ◌-◌, ◌^◌, ◌<◌, ◌≤◌, ◌⊎◌, List, length, string_bytes, Option, Some, None, Ok, Err}
 use Rattle.std.specs.declared.result.Result.{Result}
 use Rattle.std.specs.Io.KnownBytes.{Appends, Consumes, IsAtEnd, Keeps}
 use Rattle.spec_text.specs.Lines.{line_texts, lines, reading_of}
@@ -21,7 +21,10 @@ use Rattle.sp_run.specs.declared.status.Status.{Status}
 use Rattle.sp_run.specs.declared.status.Status.TheVariants as statuses
 use Rattle.sp_run.specs.declared.form.View.{View}
 use Rattle.sp_run.specs.Forms.{OriginOf, Asked, show, desk, sample, from_file, view_bytes}
-use Rattle.sp_run.specs.DeskLines.{AnswersLine, NamedDesk, StopsAtLine, answered_lines, desk_at, shelf_behind}
+use Rattle.spec_machine.specs.KeptMemories.{IsWholeMemory}
+use Rattle.spec_locked_pages.specs.Chains.{AreLinked}
+use Rattle.sp_run.specs.DeskLines.{AnswersLine, NamedDesk, StopsAtLine, answered_lines, desk_at, memories_of, shelf_behind, unsaved_count}
+use Rattle.sp_run.specs.Promises.{ArePromised}
 use Rattle.sp_run.specs.Opening.{AreFresh, SameShelf, HadScript, HadState, HadTooLong, HadNoFile, HasRecords, HasState, SourceFailed, ShelfFailed, FailedNothing}
 use Rattle.sp_run.specs.Written.{WroteAll, WrotePart}
 use Rattle.spec_sample.specs.Sample.{sample_output}
@@ -135,14 +138,20 @@ ShowEnds view origin old new statuses.InputFull = ⊥
 
 -- ---- a session of a desk
 
+-- Each save that failed raised the shelf's count of faults, where the count can tell.
+abbrev pub CountsUnsaved : ShelfState → ShelfState → List (List ℕ) → List (Answered (AtShelf NamedDesk)) → Type 0
+CountsUnsaved old new lines steps = new.faults < 2 ^ 64 - 1 → old.faults + unsaved_count lines steps ≤ new.faults
+
 -- The shelf has a script under the name; it was opened as a desk with what stands beside it, and so its session ended, which
--- left the shelf as it is now.
+-- left the shelf as it is now. All memories that the desk had keep what is promised.
 pub record HeldSession (name : List ℕ) (old new : Outside) (end : SessionEnd) : Type 0 where
   pub state : State
   pub has : HasState old.shelf name state
   pub after : AtShelf NamedDesk
   pub ends : SessionEnds AnswersLine StopsAtLine (streams old.source old.sink) (streams new.source new.sink) (desk_at name (opened_memory state) old.shelf) after end
   pub left : new.shelf ≡ after.shelf
+  pub promised : ArePromised (memories_of (opened_memory state) ends.course.steps)
+  pub counted : CountsUnsaved old.shelf new.shelf ends.course.lines ends.course.steps
 
 -- The shelf has a script under the name and was left as it was, and this is the memory of its desk.
 pub record OpensDesk (shelf after : ShelfState) (name : List ℕ) (memory : Memory) : Type 0 where
@@ -150,6 +159,8 @@ pub record OpensDesk (shelf after : ShelfState) (name : List ℕ) (memory : Memo
   pub has : HasState shelf name state
   pub same : SameShelf shelf after
   pub is : memory ≡ opened_memory state
+  pub whole : IsWholeMemory memory
+  pub linked : AreLinked memory
 
 -- How a run ends that answers commands by a desk.
 abbrev pub DeskEnds : List ℕ → Outside → Outside → Status → Type 0
@@ -190,7 +201,8 @@ Ends (show view origin) old new status = ShowEnds view origin old new status
 Ends (desk name) old new status = DeskEnds name old new status
 Ends (sample rooms) old new status = SampleEnds rooms old new status
 
--- All command lines of the input were answered by a desk of the script, in order, and what was written are the replies.
+-- All command lines of the input were answered by a desk of the script, in order, what was written are the replies, and all
+-- memories that the desk had keep what is promised.
 pub record AnsweredAll (name : List ℕ) (old new : Outside) : Type 0 where
   pub state : State
   pub has : HasState old.shelf name state
@@ -201,6 +213,8 @@ pub record AnsweredAll (name : List ℕ) (old new : Outside) : Type 0 where
   pub runs : Runs AnswersLine (desk_at name (opened_memory state) old.shelf) (command_lines input) steps
   pub wrote : Appends old.sink.taken new.sink.taken (output_of steps)
   pub left : new.shelf ≡ shelf_behind old.shelf (command_lines input) steps
+  pub promised : ArePromised (memories_of (opened_memory state) steps)
+  pub counted : CountsUnsaved old.shelf new.shelf (command_lines input) steps
 
 -- All command lines of the input were answered by a desk of the script, and each save was done.
 pub record AnsweredCalmly (name : List ℕ) (old new : Outside) : Type 0 where

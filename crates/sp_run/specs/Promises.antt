@@ -1,5 +1,5 @@
 -- What is promised of the memories that accepted commands lead to (docs/RULES.md, "The desk").
-use Rattle.std.specs.Prelude.{◌≡◌, ℕ, List}
+use Rattle.std.specs.Prelude.{◌≡◌, ℕ, ◌≤◌, List, Some, slice_get}
 use Rattle.spec_text.specs.Edits.{EditOf}
 use Rattle.spec_wire.specs.Commands.{CommandOf, edit, undo, lock_pages, next_round}
 use Rattle.spec_state.specs.State.{State}
@@ -7,6 +7,7 @@ use Rattle.spec_state.specs.StateSheets.{bytes_of_state}
 use Rattle.spec_machine.specs.Machine.{Memory, Accepts, AcceptsAll, memory_after, memory_behind, opened_memory}
 use Rattle.spec_machine.specs.KeptMemories.{IsWholeMemory}
 use Rattle.spec_machine.specs.LabelPromises.{AreLabelled, LosesNone}
+use Rattle.spec_locked_pages.specs.Chains.{AreLinked}
 use Rattle.spec_locked_pages.specs.Segments.{IsLockedPage, StandsAmong, bytes_at}
 use Rattle.spec_locked_pages.specs.Promises.{ArePageLaws}
 
@@ -22,6 +23,16 @@ pub record KeepsPromises (earlier now : Memory) : Type 0 where
   pub undo : (it : EditOf) → (memory_after (memory_after now (edit it)) undo).state ≡ now.state
   pub pages : ArePageLaws now
   pub among : (i : ℕ) → IsLockedPage now.state i → StandsAmong (bytes_at now.state i) (bytes_of_state now.state)
+
+-- Of any two memories that a desk has one after the other, and of each for itself.
+pub record ArePromised (memories : List Memory) : Type 0 where
+  pub kept : (i j : ℕ) (earlier now : Memory) → i ≤ j → slice_get memories i ≡ Some earlier → slice_get memories j ≡ Some now → KeepsPromises earlier now
+
+-- What each answer of a desk leaves: the memory is whole, its entries lead to one another by edits, and no locked label is lost.
+pub record Follows (earlier now : Memory) : Type 0 where
+  pub whole : IsWholeMemory now
+  pub linked : AreLinked now
+  pub lost : LosesNone earlier.state now.state
 
 -- So it is for all commands that are accepted, one after another, from an opened state on.
 pub record IsPromised (state : State) : Type 0 where

@@ -28,7 +28,9 @@ fn open_desk<I: Source, F: Shelf, S: Steps>(
     ensures files_kept { (F.state shelf.new).files ≡ (F.state shelf.old).files }
 {
     let opened = open_state(alloc, Origin::File(name), input, shelf)?;
-    Ok(Desk::open(alloc, opened.lines, opened.records, steps)?)
+    let desk = Desk::open(alloc, opened.lines, opened.records, steps)?;
+    let _sheets = desk.sheets();
+    Ok(desk)
 }
 
 /// Answers the command lines of the source by a desk of the script that the shelf has under a name.

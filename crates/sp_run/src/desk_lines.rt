@@ -2,6 +2,7 @@
 ghost use Rattle.std.specs.Prelude.{◌≡◌, IfOk, OnErr};
 ghost use Rattle.std.specs.declared.result.Result.TheVariants.{Ok};
 ghost use Rattle.spec_wire.specs.Lines.{command_of_line};
+ghost use Rattle.spec_machine.specs.LabelPromises.{LosesNone};
 ghost use Rattle.sp_wire.specs.Values.{command_of, reply_of};
 ghost use Rattle.sp_run.specs.DeskLines.{RepliesTo, StopsAt, is_save, desk_at};
 
@@ -48,6 +49,7 @@ fn reply_to_command<F: Shelf, S: Steps>(
 ) -> Result<Reply, AllocError>
     ensures reply { IfOk result (λ reply. RepliesTo (desk_at name.now desk.old (F.state shelf.old)) (Ok (command_of command)) (desk_at name.now desk.new (F.state shelf.new)) (reply_of reply)) }
     ensures stops { OnErr result (StopsAt (desk_at name.now desk.old (F.state shelf.old)) (Ok (command_of command)) (desk_at name.now desk.new (F.state shelf.new))) }
+    ensures lost { LosesNone (desk.old).state (desk.new).state }
 {
     if is_save(&command) {
         return save(alloc, name, desk, shelf);
@@ -70,6 +72,7 @@ fn reply_to_line<F: Shelf, S: Steps>(
 ) -> Result<Reply, AllocError>
     ensures reply { IfOk result (λ reply. RepliesTo (desk_at name.now desk.old (F.state shelf.old)) (command_of_line line.now) (desk_at name.now desk.new (F.state shelf.new)) (reply_of reply)) }
     ensures stops { OnErr result (StopsAt (desk_at name.now desk.old (F.state shelf.old)) (command_of_line line.now) (desk_at name.now desk.new (F.state shelf.new))) }
+    ensures lost { LosesNone (desk.old).state (desk.new).state }
 {
     match read_command(alloc, line) {
         Ok(command) => reply_to_command(alloc, name, desk, command, shelf, steps),
@@ -96,6 +99,7 @@ impl<'a, 'b, S: Steps> Responder for DeskLines<'a, 'b, S> {
             shelf,
             self.steps,
         )?;
+        let _sheets = self.desk.sheets();
         write_reply(self.alloc, &reply)
     }
 }

@@ -160,8 +160,11 @@ pages-lost state (Some records) =
     more-lost page_label_of records (new_page_records records (body_sheets state) (keys_in state)) (extended_page_records records (body_sheets state) (keys_in state))
     (extended_page_records-permutation records (body_sheets state) (keys_in state))
 
-all-stay : (state : State) → LosesNone state state
+pub all-stay : (state : State) → LosesNone state state
 all-stay state = record { pages = none-lost (page_labels state); scenes = none-lost (scene_labels state) }
+
+pub lost-on : (one other more : State) → LosesNone one other → LosesNone other more → LosesNone one more
+lost-on one other more first second = record { pages = lost-then _ _ _ first.pages second.pages; scenes = lost-then _ _ _ first.scenes second.scenes }
 
 undo-lost : (memory : Memory) (last : Option EntryOf) → last_entry memory.done ≡ last → IsWholeMemory memory → LosesNone memory.state (undone_to memory last).state
 undo-lost memory None is whole = all-stay memory.state
@@ -206,4 +209,4 @@ steps-lost memory [] whole can = all-stay memory.state
 steps-lost memory (command ∷ commands) whole can =
     let here = step-lost memory command whole can.0 in
     let rest = steps-lost (memory_after memory command) commands (step-whole memory command whole can.0) can.1 in
-    record { pages = lost-then _ _ _ here.pages rest.pages; scenes = lost-then _ _ _ here.scenes rest.scenes }
+    lost-on memory.state (memory_after memory command).state (memory_behind (memory_after memory command) commands).state here rest

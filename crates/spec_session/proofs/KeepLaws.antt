@@ -12,7 +12,8 @@ ran_out-keep : {R : Type 0} (stops : R → List ℕ → R → Type 0) (P : R →
 ran_out-keep stops P keeps unread before after course (inl left) holds = subst P (sym left) holds
 ran_out-keep stops P keeps unread before after course (inr (line, first, stopped)) holds = keeps (left_by before course.steps) line after stopped holds
 
-ends_as-keep : {R : Type 0} (stops : R → List ℕ → R → Type 0) (P : R → Type 0) → ((before : R) (line : List ℕ) (after : R) → stops before line after → P before → P after)
+-- It holds of what is left where it holds behind the last answer.
+pub ends_as-keep : {R : Type 0} (stops : R → List ℕ → R → Type 0) (P : R → Type 0) → ((before : R) (line : List ℕ) (after : R) → stops before line after → P before → P after)
     → (old new : Streams) (before after : R) (course : Course R) (end : SessionEnd) → EndsAs stops old new before after course end → P (left_by before course.steps) → P after
 ends_as-keep stops P keeps old new before after course endings.Done it holds = subst P (sym it.replied.left) holds
 ends_as-keep stops P keeps old new before after course endings.ReadFault it holds = subst P (sym it.replied.left) holds
