@@ -3,7 +3,7 @@ and on scripts of 25,000 to 200,000 lines that a careless reader is slow on; and
 200,000 lines: the opening, a splice and an undo.
 
 For each kind of script and each size it prints the time of `print`, MB/s, the peak memory over the size of the input, how
-much longer it took than at half the size, and the ratio to `fold | pr`. Each time is the least of several runs.
+much longer it took than at half the size, the ratio to `fold | pr`, and that of `html` to `print`. Each time is the least of several runs.
 
     python3 bench/bench.py [--kind NAME] [--runs N] [--most MIB]
 """
@@ -21,6 +21,7 @@ TOP = pathlib.Path(__file__).resolve().parent.parent
 PROGRAM = TOP / "crates/fountain_cli/out/fountain_cli"
 MIB = 1 << 20
 PRINT = '"$PROGRAM" print < "$FILE" > /dev/null'
+HTML = '"$PROGRAM" html "$FILE" > /dev/null'
 DESK = '"$PROGRAM" desk "$FILE" < "$FILE.commands" > /dev/null'
 # How many splices a session has, and how many undos.
 EDITS = 200
@@ -177,7 +178,7 @@ def growth(before, seconds):
 
 def time_sizes(folder, kinds, options):
     """Times scripts by their size, and prints a row for each."""
-    print(f"{'kind':10} {'MiB':>4} {'print s':>9} {'MB/s':>7} {'memory':>7} {'growth':>7} {'/ fold|pr':>9}")
+    print(f"{'kind':10} {'MiB':>4} {'print s':>9} {'MB/s':>7} {'memory':>7} {'growth':>7} {'/ fold|pr':>9} {'html / print':>12}")
     for kind in kinds:
         before = None
         for size in (1, 2, 4, 8, 16):
@@ -187,9 +188,10 @@ def time_sizes(folder, kinds, options):
             path.write_bytes(KINDS[kind](random.Random(size), size * MIB))
             seconds = least(PRINT, path, options.runs)
             other = least('fold -s -w 60 "$FILE" | pr -l 57 > /dev/null', path, options.runs)
+            html = least(HTML, path, options.runs)
             count = path.stat().st_size
             memory = peak_memory(path) / count
-            print(f"{kind:10} {size:4} {seconds:9.4f} {count / 1e6 / seconds:7.1f} {memory:7.2f} {growth(before, seconds)} {seconds / other:9.2f}", flush=True)
+            print(f"{kind:10} {size:4} {seconds:9.4f} {count / 1e6 / seconds:7.1f} {memory:7.2f} {growth(before, seconds)} {seconds / other:9.2f} {html / seconds:12.2f}", flush=True)
             before = seconds
             path.unlink()
 

@@ -1,4 +1,4 @@
-//! Writing a script: its sheets or its outline to the sink (docs/RULES.md, "The program").
+//! Writing a script: its sheets, its outline or its page for a browser to the sink (docs/RULES.md, "The program").
 ghost use Rattle.std.specs.Prelude.{◌≡◌, ◌+◌};
 ghost use Rattle.spec_text.specs.Limits.{raw_limit};
 ghost use Rattle.spec_machine.specs.Outlines.{outline_of};
@@ -9,7 +9,7 @@ ghost use Rattle.sp_run.specs.Written.{IsWritten};
 
 use crate::form::{Origin, View};
 use crate::opening::open_state;
-use crate::sheets::write_sheets;
+use crate::sheets::{write_pages, write_sheets};
 use crate::status::Status;
 use sp_contents::outline_text;
 use sp_kit::{Shelf, Sink, Source, Steps, write_whole};
@@ -49,6 +49,7 @@ fn write_view<O: Sink>(
     match view {
         View::Sheets => write_sheets(alloc, script, output),
         View::Outline => write_outline(alloc, script, output),
+        View::Html => write_pages(alloc, script, output),
     }
 }
 
