@@ -16,3 +16,5 @@ pub mod NumberBlocks
 pub mod PlainRows
 pub mod RowNumbers
 pub mod RowCues
+pub mod StatePages
+pub mod StateUnchanged

@@ -88,7 +88,7 @@ left-stays round was now law choice is left =
     (subst (λ (r : List SegmentOf). IsIn choice (run_choices round now before r (first_fresh round c.back))) (sym a.run_is) c.there) left
 
 -- The last record of a run.
-last-owner : (segment : SegmentOf) (others : List SegmentOf) → get_or (map owner_of others) (length (map owner_of others) - 1) segment.owner ≡ (last_of segment others).owner
+pub last-owner : (segment : SegmentOf) (others : List SegmentOf) → get_or (map owner_of others) (length (map owner_of others) - 1) segment.owner ≡ (last_of segment others).owner
 last-owner segment [] = refl
 last-owner segment (other ∷ []) = refl
 last-owner segment (other ∷ next ∷ others) =

@@ -23,7 +23,7 @@ use Rattle.spec_packet.proofs.PacketLaws.{in-runs-middle}
 use Rattle.spec_packet.proofs.PacketLaw.{omitted-last, packet-law}
 
 -- Pairs by index are pairs in order.
-pairs-order : {X : Type 0} (R : X → X → Type 0) (xs : List X) → AllPairs R xs → InOrder R xs
+pub pairs-order : {X : Type 0} (R : X → X → Type 0) (xs : List X) → AllPairs R xs → InOrder R xs
 pairs-order R [] pairs = tt
 pairs-order R (x ∷ xs) pairs = ((λ y is. all-in (R x) y xs (AllPairs-head R x xs pairs) is), pairs-order R xs (AllPairs-tail R x xs pairs))
 
