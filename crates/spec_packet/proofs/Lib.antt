@@ -18,3 +18,6 @@ pub mod RowNumbers
 pub mod RowCues
 pub mod StatePages
 pub mod StateUnchanged
+pub mod CleanRows
+pub mod StatePrinted
+pub mod MemoryPackets
