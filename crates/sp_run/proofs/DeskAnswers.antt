@@ -67,3 +67,4 @@ desk-answers name old new (statuses.BadRecords fault) ends calm fetches low file
 desk-answers name old new statuses.NoMemory ends calm fetches low files is input told = memory-found name (files name) (files (records_name name)) input
 desk-answers name old new (statuses.CommandLong number) ends calm fetches low files is input told = session-answers name old new (endings.CommandLong number) ends calm files is input told
 desk-answers name old new statuses.InputFull ends calm fetches low files is input told = session-answers name old new endings.InputFull ends calm files is input told
+desk-answers name old new (statuses.BadSheets file sheet) ends calm fetches low files is input told = absurd ends

@@ -125,6 +125,7 @@ unfetched-beside name shelf after texts statuses.ReadFault it = absurd it
 unfetched-beside name shelf after texts statuses.WriteFault it = absurd it
 unfetched-beside name shelf after texts (statuses.CommandLong number) it = absurd it
 unfetched-beside name shelf after texts statuses.InputFull it = absurd it
+unfetched-beside name shelf after texts (statuses.BadSheets file sheet) it = absurd it
 
 -- The bytes that were fetched are refused.
 pub refused-beside : (name : List ℕ) (shelf after : ShelfState) (text : LinesState) (bytes : List ℕ) (status : Status) → FetchedRecords shelf after name (Some bytes) → RefusesFresh text bytes status
@@ -141,6 +142,7 @@ refused-beside name shelf after text bytes statuses.ReadFault fetched it = absur
 refused-beside name shelf after text bytes statuses.WriteFault fetched it = absurd it
 refused-beside name shelf after text bytes (statuses.CommandLong number) fetched it = absurd it
 refused-beside name shelf after text bytes statuses.InputFull fetched it = absurd it
+refused-beside name shelf after text bytes (statuses.BadSheets file sheet) fetched it = absurd it
 
 -- The same of what a call answered that read the bytes.
 pub found-some : {T : Type 0} (view : T → State) (name : List ℕ) (shelf after : ShelfState) (text : LinesState) (bytes : List ℕ) (result : Result T Status) → FetchedRecords shelf after name (Some bytes)

@@ -35,6 +35,7 @@ unopened-shows view origin old new (statuses.BadRecords fault) it = (it, tt)
 unopened-shows view origin old new statuses.NoMemory it = (record { kept = it.kept; writes = it.nothing.kept; wrote = inl it.nothing.taken }, tt)
 unopened-shows view origin old new (statuses.CommandLong number) it = absurd it
 unopened-shows view origin old new statuses.InputFull it = absurd it
+unopened-shows view origin old new (statuses.BadSheets file sheet) it = absurd it
 
 -- A script that didn't open has no session.
 pub unopened-desk : (name : List ℕ) (old new : Outside) (status : Status) → Unopened (from_file name) old new status → DeskEnds name old new status × NotDone status
@@ -52,6 +53,7 @@ unopened-desk name old new (statuses.BadRecords fault) it = (it, tt)
 unopened-desk name old new statuses.NoMemory it = (inl it, tt)
 unopened-desk name old new (statuses.CommandLong number) it = absurd it
 unopened-desk name old new statuses.InputFull it = absurd it
+unopened-desk name old new (statuses.BadSheets file sheet) it = absurd it
 
 -- The answer is this status.
 pub err-ends : (view : View) (origin : OriginOf) (old new : Outside) (status : Status) (result : Result (Unit {0}) Status) → IsErrAnd result (λ s. s ≡ status) → Unopened origin old new status → EndsAs view origin old new result
@@ -76,3 +78,4 @@ show-ends view origin old new state (Err statuses.ShelfFault) had written = absu
 show-ends view origin old new state (Err (statuses.BadRecords fault)) had written = absurd written
 show-ends view origin old new state (Err (statuses.CommandLong number)) had written = absurd written
 show-ends view origin old new state (Err statuses.InputFull) had written = absurd written
+show-ends view origin old new state (Err (statuses.BadSheets file sheet)) had written = absurd written

@@ -20,7 +20,7 @@ use Rattle.sp_text.specs.declared.fault.TextFault.TheVariants as faults
 use Rattle.sp_run.specs.declared.status.Status.{Status}
 use Rattle.sp_run.specs.declared.status.Status.TheVariants as statuses
 use Rattle.sp_run.specs.declared.form.View.{View}
-use Rattle.sp_run.specs.Forms.{OriginOf, Asked, show, desk, sample, from_file, view_bytes}
+use Rattle.sp_run.specs.Forms.{OriginOf, Asked, show, desk, sample, collate, from_file, view_bytes}
 use Rattle.spec_machine.specs.KeptMemories.{IsWholeMemory}
 use Rattle.spec_locked_pages.specs.Chains.{AreLinked}
 use Rattle.sp_run.specs.DeskLines.{AnswersLine, NamedDesk, StopsAtLine, answered_lines, desk_at, memories_of, shelf_behind, unsaved_count}
@@ -29,6 +29,7 @@ use Rattle.sp_run.specs.Opening.{AreFresh, SameShelf, HadScript, HadState, HadTo
 use Rattle.sp_run.specs.Written.{WroteAll, WrotePart}
 use Rattle.spec_sample.specs.Sample.{sample_output}
 use Rattle.sp_run.specs.Records.{OpensAs, RefusesRecords}
+use Rattle.sp_run.specs.Collating.{CollateEnds}
 
 -- What is outside.
 pub record Outside : Type 0 where
@@ -135,6 +136,7 @@ ShowEnds view origin old new (statuses.BadRecords fault) = RecordsRefused origin
 ShowEnds view origin old new statuses.NoMemory = OutOfMemory view origin old new
 ShowEnds view origin old new (statuses.CommandLong number) = ⊥
 ShowEnds view origin old new statuses.InputFull = ⊥
+ShowEnds view origin old new (statuses.BadSheets file sheet) = ⊥
 
 -- ---- a session of a desk
 
@@ -178,6 +180,7 @@ DeskEnds name old new (statuses.BadRecords fault) = RecordsRefused (from_file na
 DeskEnds name old new statuses.NoMemory = NotOpened (from_file name) old new ⊎ HeldSession name old new endings.NoMemory
 DeskEnds name old new (statuses.CommandLong number) = HeldSession name old new (endings.CommandLong number)
 DeskEnds name old new statuses.InputFull = HeldSession name old new endings.InputFull
+DeskEnds name old new (statuses.BadSheets file sheet) = ⊥
 
 -- ---- a large sample
 
@@ -194,12 +197,14 @@ SampleEnds rooms old new (statuses.BadRecords fault) = ⊥
 SampleEnds rooms old new statuses.NoMemory = WroteNothing old new
 SampleEnds rooms old new (statuses.CommandLong number) = ⊥
 SampleEnds rooms old new statuses.InputFull = ⊥
+SampleEnds rooms old new (statuses.BadSheets file sheet) = ⊥
 
 -- How a run ends whose words ask for this.
 abbrev pub Ends : Asked → Outside → Outside → Status → Type 0
 Ends (show view origin) old new status = ShowEnds view origin old new status
 Ends (desk name) old new status = DeskEnds name old new status
 Ends (sample rooms) old new status = SampleEnds rooms old new status
+Ends (collate one other) old new status = CollateEnds one other old.shelf new.shelf old.sink new.sink status
 
 -- All command lines of the input were answered by a desk of the script, in order, what was written are the replies, and all
 -- memories that the desk had keep what is promised.

@@ -1,0 +1,58 @@
+//! The collation of two files of printed sheets (docs/RULES.md, "The program" and "Collation").
+ghost use Rattle.std.specs.Prelude.{◌≡◌, IfOk, IfErr};
+ghost use Rattle.sp_run.specs.Collating.{FetchedSheets, NoSheets, Comes, NotCollated, CollateEnds, gives};
+
+use crate::status::Status;
+use sp_collation::collate;
+use sp_kit::{Fetched, Shelf, ShelfFault, Sink, write_whole};
+use sp_text::TextFault;
+use std::alloc::Global;
+
+/// The most bytes of a file of sheets.
+const SHEETS_LIMIT: usize = 268_435_456;
+
+/// Fetches the file under a name.
+fn fetch_sheets<F: Shelf>(alloc: Global, name: &str, shelf: &mut F) -> Result<Vec<u8>, Status>
+    ensures given { IfOk result (λ bytes. FetchedSheets (F.state shelf.old) (F.state shelf.new) name.now bytes.items) }
+    ensures refused { IfErr result (NoSheets (F.state shelf.old) (F.state shelf.new) name.now) }
+    ensures files_kept { (F.state shelf.new).files ≡ (F.state shelf.old).files }
+{
+    match shelf.fetch(name, SHEETS_LIMIT) {
+        Ok(Fetched::Bytes(bytes)) => Ok(bytes),
+        Ok(Fetched::Absent) => Err(Status::NoFile(String::from_str(alloc, name)?)),
+        Ok(Fetched::Longer) => Err(Status::BadText(TextFault::TextFull)),
+        Err(ShelfFault::Failed) => Err(Status::ShelfFault),
+        Err(ShelfFault::NoMemory) => Err(Status::NoMemory),
+    }
+}
+
+/// The collation of the files under two names, both fetched first.
+fn collated<F: Shelf>(alloc: Global, old: &str, new: &str, shelf: &mut F) -> Result<Vec<u8>, Status>
+    ensures comes { IfOk result (λ bytes. Comes old.now new.now (F.state shelf.old) (F.state shelf.new) (gives bytes.items)) }
+    ensures refused { IfErr result (NotCollated old.now new.now (F.state shelf.old) (F.state shelf.new)) }
+    ensures files_kept { (F.state shelf.new).files ≡ (F.state shelf.old).files }
+{
+    let first = fetch_sheets(alloc, old, shelf)?;
+    let second = fetch_sheets(alloc, new, shelf)?;
+    Ok(collate(alloc, &first, &second)?)
+}
+
+/// Writes the collation of the files under two names, which is made whole first.
+pub fn collate_files<O: Sink, F: Shelf>(
+    alloc: Global,
+    old: &str,
+    new: &str,
+    output: &mut O,
+    shelf: &mut F,
+) -> Status
+    ensures ends { CollateEnds old.now new.now (F.state shelf.old) (F.state shelf.new) (O.state output.old) (O.state output.new) result }
+    ensures files_kept { (F.state shelf.new).files ≡ (F.state shelf.old).files }
+{
+    match collated(alloc, old, new, shelf) {
+        Ok(bytes) => match write_whole(output, &bytes) {
+            Ok(()) => Status::Done,
+            Err(_) => Status::WriteFault,
+        },
+        Err(status) => status,
+    }
+}

@@ -1,0 +1,5 @@
+pub mod Packets
+pub mod PrintedTexts
+pub mod RecordRows
+pub mod SheetFacts
+pub mod StatePackets
