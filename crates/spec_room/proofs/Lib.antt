@@ -1,0 +1,12 @@
+pub mod ChangeLaws
+pub mod StandingLaws
+pub mod PlaceLaws
+pub mod HoldingLaws
+pub mod LoopLaws
+pub mod MachineSteps
+pub mod RoomLaws
+pub mod SeatLaws
+pub mod CommandLaws
+pub mod StepLaws
+pub mod SessionLaws
+pub mod Rows
