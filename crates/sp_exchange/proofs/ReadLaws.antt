@@ -1,0 +1,76 @@
+-- An edit reads the stanzas of its window.
+use Rattle.std.proofs.Common.{◌≡◌, ℕ, ◌+◌, ◌≤◌, List, None, length, refl, sym, ap, ap₂, subst, ◌∙◌, arith}
+use Rattle.spec_text.specs.Lines.{TextState, line_texts}
+use Rattle.spec_text.specs.Edits.{Displacement, EditOf, changed, displaced_by, refusal_of, replacement_of, restored}
+use Rattle.spec_text.specs.Ranges.{RangeOf, range_of}
+use Rattle.spec_text.proofs.ExchangeLaws.{length-stretch}
+use Rattle.spec_text.proofs.TakenEdits.{taken-inside}
+use Rattle.spec_script.specs.BlockValues.{StanzaOf}
+use Rattle.spec_reread.specs.Windows.{CountsWindow, IsBefore, IsEdited, IsWindow, stanzas_between}
+use Rattle.spec_reread.proofs.Edits.{edited-back, edited-lines}
+use Rattle.spec_reread.proofs.Resync.{window-one}
+use Rattle.sp_reread.specs.Cache.{ReadsWithin, counted_on}
+use Rattle.sp_exchange.specs.Reads.{ReadsAtMost, ReadsWindow, WindowHas, WindowHasAtLeast}
+use Rattle.sp_exchange.specs.Restoring.{text_stanzas}
+
+-- The range of what was displaced.
+abbrev range_by : Displacement → RangeOf
+range_by d = record { first = d.first; old = length d.lines; new = d.stands }
+
+range-same : (text : TextState) (edit : EditOf) (d : Displacement) → refusal_of text edit ≡ None → d ≡ displaced_by text (replacement_of text.lines edit) → range_by d ≡ range_of (replacement_of text.lines edit)
+range-same text edit d taken is =
+    let it = replacement_of text.lines edit in
+    ap range_by is
+    ∙ ap (λ (old : ℕ). let range : RangeOf = record { first = it.first; old = old; new = length it.texts } in range) (length-stretch text.lines it.first it.old (taken-inside text edit taken))
+
+-- The text before is one that the stanzas could have had.
+is-before : (old new : TextState) (d : Displacement) → d.first + d.stands ≤ length new.lines → restored new d ≡ old → IsBefore (text_stanzas old) (line_texts old.lines) (line_texts new.lines) d.first (length d.lines) d.stands
+is-before old new d place leads = record {
+  edited = subst (λ (t : TextState). IsEdited (line_texts t.lines) (line_texts new.lines) d.first (length d.lines) d.stands) leads
+      (edited-back (line_texts new.lines) (line_texts (restored new d).lines) d.first d.stands (length d.lines) (edited-lines new.lines d.lines d.first d.stands place));
+  all = refl;
+}
+
+counts-window : (old new : TextState) (d : Displacement) (at count : ℕ) → d.first + d.stands ≤ length new.lines → restored new d ≡ old
+    → CountsWindow (text_stanzas old) (line_texts new.lines) d.first (length d.lines) d.stands at count → WindowHas (line_texts old.lines) (line_texts new.lines) (range_by d) count
+counts-window old new d at count place leads c = record {
+  are = λ a b w.
+      let before = line_texts old.lines in
+      let after = line_texts new.lines in
+      let one = window-one before after d.first (length d.lines) d.stands c.a c.b a b (c.is before (is-before old new d place leads)) w in
+      c.counted ∙ ap₂ (λ (x y : ℕ). length (stanzas_between after x y)) one.0 one.1;
+}
+
+-- What was read is the window of the edit.
+pub reads-window : (old new : TextState) (edit : EditOf) (d : Displacement) (at count reads reads' : ℕ) → refusal_of old edit ≡ None → d ≡ displaced_by old (replacement_of old.lines edit)
+    → d.first + d.stands ≤ length new.lines → restored new d ≡ old → CountsWindow (text_stanzas old) (line_texts new.lines) d.first (length d.lines) d.stands at count → reads' ≡ counted_on count reads
+    → ReadsWindow (line_texts old.lines) (line_texts new.lines) (range_of (replacement_of old.lines edit)) reads reads'
+reads-window old new edit d at count reads reads' taken is place leads c counted = record {
+  count = count;
+  counted = counted;
+  are = subst (λ (range : RangeOf). WindowHas (line_texts old.lines) (line_texts new.lines) range count) (range-same old edit d taken is) (counts-window old new d at count place leads c);
+}
+
+pub window-at-most : (before after : List (List ℕ)) (range : RangeOf) (reads reads' : ℕ) → ReadsWindow before after range reads reads' → ReadsAtMost before after range reads reads'
+window-at-most before after range reads reads' r = record {
+  count = r.count;
+  counted = r.counted;
+  low = record { low = λ a b w. omega (arith, r.are.are a b w) };
+}
+
+pub none-read : (before after : List (List ℕ)) (range : RangeOf) (reads : ℕ) → ReadsAtMost before after range reads reads
+none-read before after range reads = record { count = 0; counted = refl; low = record { low = λ a b w. omega arith } }
+
+pub reads-within : (old new : TextState) (edit : EditOf) (d : Displacement) (stanzas : List StanzaOf) (reads reads' : ℕ) → refusal_of old edit ≡ None → d ≡ displaced_by old (replacement_of old.lines edit)
+    → d.first + d.stands ≤ length new.lines → restored new d ≡ old → stanzas ≡ text_stanzas old → ReadsWithin (line_texts new.lines) d.first (length d.lines) d.stands stanzas reads reads'
+    → ReadsAtMost (line_texts old.lines) (line_texts new.lines) (range_of (replacement_of old.lines edit)) reads reads'
+reads-within old new edit d stanzas reads reads' taken is place leads were r =
+    let before = line_texts old.lines in
+    let after = line_texts new.lines in
+    let was = subst (λ (xs : List StanzaOf). IsBefore xs before after d.first (length d.lines) d.stands) (sym were) (is-before old new d place leads) in
+    let low : WindowHasAtLeast before after (range_by d) r.rise = record { low = λ a b w. r.within.most before a b was w } in
+    record {
+      count = r.rise;
+      counted = r.counted;
+      low = subst (λ (range : RangeOf). WindowHasAtLeast before after range r.rise) (range-same old edit d taken is) low;
+    }

@@ -1,0 +1,65 @@
+use Rattle.std.proofs.Common.{List, length, ap, sym, subst, ◌∙◌}
+use Rattle.spec_text.specs.Lines.{TextState, line_texts}
+use Rattle.spec_text.specs.Edits.{replacement_of}
+use Rattle.spec_text.specs.Ranges.{range_of}
+use Rattle.spec_script.specs.BlockValues.{StanzaOf}
+use Rattle.spec_reread.specs.Windows.{CountsWindow}
+use Rattle.sp_text.specs.Changing.{edit_of}
+use Rattle.sp_text.specs.DisplacedLines.{displaced_of}
+use Rattle.sp_text.specs.Gap.{text_of}
+use Rattle.sp_reread.specs.Cache.{GivesBack}
+use Rattle.sp_exchange.specs.Reads.{ReadsAtMost, ReadsWindow}
+use Rattle.sp_exchange.specs.Restoring.{CanRestoreText, text_stanzas}
+use Rattle.sp_exchange.proofs.ReadLaws.{reads-window, reads-within, window-at-most}
+use Rattle.sp_exchange.proofs.RestoreLaws.{lines-room, room-back, was-list}
+use Rattle.sp_exchange.proofs.change.change_text.Given.{Over}
+use Rattle.sp_exchange.proofs.change.change_text.Goals as goal
+
+pub reread-requires : goal.reread-requires
+reread-requires g c =
+    was-list (text_of c.args.lines.now) (text_of c.change.new.self) (displaced_of c.in_ok-displaced.displaced) c.args.stanzas.now.stanzas c.in_ok-displaced.ensures.place c.in_ok-displaced.ensures.back c.requires
+
+pub restore_in_room-requires-clause-room : goal.restore_in_room-requires-clause-room
+restore_in_room-requires-clause-room g c =
+    let ensures = c.in_ok-displaced.ensures in
+    lines-room c.args.lines.now c.change.new.self c.in_ok-displaced.displaced ensures.place ensures.back c.len-count.ensures.room ensures.room
+
+pub returns-in-Ok-clause-room : goal.returns-in-Ok-clause-room
+returns-in-Ok-clause-room g c =
+    let new = text_of c.change.new.self in
+    let back = c.in_ok-displaced.displaced in
+    let ensures = c.in_ok-displaced.ensures in
+    let can : CanRestoreText new back c.in-Ok.swapped = record {
+      place = ensures.place;
+      keeps = ensures.again;
+      stanzas = subst (GivesBack c.in-Ok.swapped (text_stanzas new)) (c.requires ∙ ap text_stanzas (sym ensures.back))
+          (subst (λ (xs : List StanzaOf). GivesBack c.in-Ok.swapped xs c.args.stanzas.now.stanzas) c.in-Ok.ensures.list c.in-Ok.ensures.back);
+    } in
+    room-back c.args.lines.now c.change.new.self c.args.stanzas.now c.reread.new.stanzas back c.in-Ok.swapped can ensures.back c.requires c.in-Ok.ensures.list
+    c.len-count.ensures.room ensures.room c.len-stanzas.ensures.enough c.in-Ok.ensures.room ensures.displaced_room c.in-Ok.ensures.back_room
+
+-- What was read where all went well.
+read : (g : Over) (c : goal.In-Ok g) → let old = text_of c.args.lines.now in let it = replacement_of old.lines (edit_of c.args.edit) in
+    ReadsWindow (line_texts old.lines) (line_texts (text_of c.change.new.self).lines) (range_of it) (g.S.Steps.reads c.args.steps.now) (g.S.Steps.reads c.reread.new.steps)
+read g c =
+    let ensures = c.in_ok-displaced.ensures in
+    reads-window (text_of c.args.lines.now) (text_of c.change.new.self) (edit_of c.args.edit) (displaced_of c.in_ok-displaced.displaced) c.in-Ok.swapped.at c.in-Ok.swapped.stands
+    (g.S.Steps.reads c.args.steps.now) (g.S.Steps.reads c.reread.new.steps) ensures.refuses ensures.displaced ensures.place ensures.back
+    (subst (λ (xs : List StanzaOf). CountsWindow xs (line_texts c.change.new.self.lines) c.in_ok-displaced.displaced.first (length c.in_ok-displaced.displaced.lines) c.in_ok-displaced.displaced.stands c.in-Ok.swapped.at c.in-Ok.swapped.stands) c.requires c.in-Ok.ensures.window)
+    c.in-Ok.ensures.reads
+
+pub returns-in-Ok-clause-reads : goal.returns-in-Ok-clause-reads
+returns-in-Ok-clause-reads g c =
+    subst (λ (t : TextState). ReadsWindow (line_texts c.args.lines.now.lines) (line_texts t.lines) (range_of (replacement_of c.args.lines.now.lines (edit_of c.args.edit))) (g.S.Steps.reads c.args.steps.now) (g.S.Steps.reads c.reread.new.steps))
+    c.in_ok-displaced.ensures.text (read g c)
+
+pub returns-in-Ok-clause-at_most : goal.returns-in-Ok-clause-at_most
+returns-in-Ok-clause-at_most g c = window-at-most _ _ _ _ _ (returns-in-Ok-clause-reads g c)
+
+pub returns-in-Err-clause-at_most : goal.returns-in-Err-clause-at_most
+returns-in-Err-clause-at_most g c =
+    let ensures = c.in_ok-displaced.ensures in
+    subst (λ (t : TextState). ReadsAtMost (line_texts c.args.lines.now.lines) (line_texts t.lines) (range_of (replacement_of c.args.lines.now.lines (edit_of c.args.edit))) (g.S.Steps.reads c.args.steps.now) (g.S.Steps.reads c.reread.new.steps))
+    ensures.text
+    (reads-within (text_of c.args.lines.now) (text_of c.change.new.self) (edit_of c.args.edit) (displaced_of c.in_ok-displaced.displaced) c.args.stanzas.now.stanzas
+    (g.S.Steps.reads c.args.steps.now) (g.S.Steps.reads c.reread.new.steps) ensures.refuses ensures.displaced ensures.place ensures.back c.requires c.in-Err.ensures.at_most)

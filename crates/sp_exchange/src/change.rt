@@ -1,0 +1,161 @@
+//! A text and its stanzas, changed and restored.
+ghost use Rattle.std.specs.Prelude.{◌≡◌, ◌+◌, ◌-◌, ◌≤◌, length, IfErr, IfOk, IsOk, OnErr, OnOk};
+ghost use Rattle.spec_text.specs.Edits.{changed, displaced_by, refusal_of, replacement_of, restored};
+ghost use Rattle.spec_text.specs.Lines.{IsText, line_texts};
+ghost use Rattle.spec_text.specs.Ranges.{range_of};
+ghost use Rattle.spec_script.specs.Stanzas.{stanzas_of};
+ghost use Rattle.spec_reread.specs.Windows.{CountsWindow, WasList, stanza_lines_in};
+ghost use Rattle.sp_text.specs.Changing.{Refuses, edit_of};
+ghost use Rattle.sp_text.specs.DisplacedLines.{displaced_of};
+ghost use Rattle.sp_text.specs.Gap.{text_of};
+ghost use Rattle.sp_reread.specs.Cache.{GivesBack, ReadsWithin, counted_on, exchanged};
+ghost use Rattle.sp_exchange.specs.Reads.{IsRefused, ReadsAtMost, ReadsWindow};
+ghost use Rattle.sp_exchange.specs.Restoring.{CanRestoreText, HasRoomFor, IsSameText, IsTurned, text_before, text_stanzas};
+
+use sp_kit::Steps;
+use sp_reread::{Stanzas, Swapped, Unswapped};
+use sp_text::{Displaced, Edit, EditFault, Lines, Unrestored};
+use std::alloc::AllocError;
+
+/// There was no memory to restore. It hands back what was to be restored.
+#[derive(Drop)]
+pub struct UnrestoredText {
+    pub lines: Displaced,
+    pub stanzas: Swapped,
+}
+
+/// Puts displaced lines back where there is room.
+fn restore_in_room(lines: &mut Lines, back: Displaced)
+    requires place { back.first + back.stands ≤ length lines.old.lines }
+    requires keeps { IsText (restored (text_of lines.old) (displaced_of back)) }
+    requires room { length lines.old.lines - back.stands + length back.lines ≤ lines.old.room }
+    requires back_room { back.stands ≤ back.room }
+    ensures { text_of lines.new ≡ restored (text_of lines.old) (displaced_of back) }
+{
+    match lines.restore(back) {
+        Ok(_) => {}
+        Err(_) => unreachable!(),
+    }
+}
+
+/// Puts displaced stanzas back where there is room.
+fn put_back_in_room(stanzas: &mut Stanzas, back: Swapped) -> Swapped
+    requires place { back.at + back.stands ≤ length stanzas.old.stanzas }
+    requires low { stanza_lines_in (exchanged stanzas.old.stanzas back.at back.stands back.stanzas) ≤ 18446744073709551615 }
+    requires room { length stanzas.old.stanzas - back.stands + length back.stanzas ≤ stanzas.old.room }
+    requires back_room { back.stands ≤ back.room }
+    ensures list { stanzas.new.stanzas ≡ exchanged stanzas.old.stanzas back.at back.stands back.stanzas }
+    ensures out { GivesBack result stanzas.new.stanzas stanzas.old.stanzas }
+    ensures at { result.at ≡ back.at }
+    ensures stands { result.stands ≡ length back.stanzas }
+{
+    match stanzas.put_back(back) {
+        Ok(other) => other,
+        Err(_) => unreachable!(),
+    }
+}
+
+/// Makes stanzas those of a text from which lines were displaced. Each stanza of the window is read once.
+fn reread<S: Steps>(
+    stanzas: &mut Stanzas,
+    lines: &Lines,
+    displaced: &Displaced,
+    steps: &mut S,
+) -> Result<Swapped, AllocError>
+    requires { WasList stanzas.old.stanzas (line_texts lines.now.lines) displaced.now.first (length displaced.now.lines) displaced.now.stands }
+    ensures list { OnOk result (stanzas.new.stanzas ≡ stanzas_of (line_texts lines.now.lines)) }
+    ensures back { IfOk result (λ it. GivesBack it stanzas.new.stanzas stanzas.old.stanzas) }
+    ensures window { IfOk result (λ it. CountsWindow stanzas.old.stanzas (line_texts lines.now.lines) displaced.now.first (length displaced.now.lines) displaced.now.stands it.at it.stands) }
+    ensures reads { IfOk result (λ it. S.reads steps.new ≡ counted_on it.stands (S.reads steps.old)) }
+    ensures at_most { OnErr result (ReadsWithin (line_texts lines.now.lines) displaced.now.first (length displaced.now.lines) displaced.now.stands stanzas.old.stanzas (S.reads steps.old) (S.reads steps.new)) }
+    ensures fills { S.fills steps.new ≡ S.fills steps.old }
+    ensures same { OnErr result (stanzas.new.stanzas ≡ stanzas.old.stanzas) }
+    ensures room { stanzas.old.room ≤ stanzas.new.room }
+    ensures back_room { IfOk result (λ it. it.stands ≤ it.room) }
+{
+    stanzas.update(
+        lines,
+        displaced.first as usize,
+        displaced.lines.len(),
+        displaced.stands as usize,
+        steps,
+    )
+}
+
+/// Makes the edit in a text and in its stanzas, and answers the lines and the stanzas that it displaced (docs/RULES.md,
+/// "Edits" and "Windows"). Each stanza of its window is read once, and no other. NoMemory comes for want of memory alone.
+/// A refused edit leaves text and stanzas as they were.
+pub fn change_text<S: Steps>(
+    lines: &mut Lines,
+    stanzas: &mut Stanzas,
+    edit: Edit,
+    round: u8,
+    steps: &mut S,
+) -> Result<(Displaced, Swapped), EditFault>
+    requires { stanzas.old.stanzas ≡ text_stanzas (text_of lines.old) }
+    ensures refuses { Refuses (refusal_of (text_of lines.old) (edit_of edit)) result }
+    ensures text { OnOk result (text_of lines.new ≡ changed (text_of lines.old) (replacement_of lines.old.lines (edit_of edit)) round) }
+    ensures displaced { IfOk result (λ it. displaced_of it.0 ≡ displaced_by (text_of lines.old) (replacement_of lines.old.lines (edit_of edit))) }
+    ensures leads { IfOk result (λ it. text_before (text_of lines.new) it.0 ≡ text_of lines.old) }
+    ensures can { IfOk result (λ it. CanRestoreText (text_of lines.new) it.0 it.1) }
+    ensures stanzas { stanzas.new.stanzas ≡ text_stanzas (text_of lines.new) }
+    ensures room { IfOk result (λ it. HasRoomFor lines.new stanzas.new it.0 it.1) }
+    ensures reads { OnOk result (ReadsWindow (line_texts lines.old.lines) (line_texts (changed (text_of lines.old) (replacement_of lines.old.lines (edit_of edit)) round).lines) (range_of (replacement_of lines.old.lines (edit_of edit))) (S.reads steps.old) (S.reads steps.new)) }
+    ensures at_most { ReadsAtMost (line_texts lines.old.lines) (line_texts (changed (text_of lines.old) (replacement_of lines.old.lines (edit_of edit)) round).lines) (range_of (replacement_of lines.old.lines (edit_of edit))) (S.reads steps.old) (S.reads steps.new) }
+    ensures unread { IsRefused (refusal_of (text_of lines.old) (edit_of edit)) → S.reads steps.new ≡ S.reads steps.old }
+    ensures fills { S.fills steps.new ≡ S.fills steps.old }
+    ensures same { OnErr result (text_of lines.new ≡ text_of lines.old) }
+{
+    let _count = lines.len();
+    let _stanzas = stanzas.len();
+    let displaced = lines.change(edit, round)?;
+    match reread(stanzas, lines, &displaced, steps) {
+        Ok(swapped) => Ok((displaced, swapped)),
+        Err(_) => {
+            restore_in_room(lines, displaced);
+            Err(EditFault::NoMemory)
+        }
+    }
+}
+
+/// Puts lines and stanzas back in the place of those that stand there now, and answers what it displaced. No stanza is
+/// read. It takes memory only where there is no room for what it puts back. On an error there was none, text and stanzas
+/// are as they were, and what was to be restored is handed back.
+pub fn restore_text(
+    lines: &mut Lines,
+    stanzas: &mut Stanzas,
+    back: Displaced,
+    swapped: Swapped,
+) -> Result<(Displaced, Swapped), UnrestoredText>
+    requires stanzas { stanzas.old.stanzas ≡ text_stanzas (text_of lines.old) }
+    requires can { CanRestoreText (text_of lines.old) back swapped }
+    ensures text { OnOk result (text_of lines.new ≡ text_before (text_of lines.old) back) }
+    ensures turned { IfOk result (λ it. IsTurned (text_of lines.old) back swapped it.0 it.1) }
+    ensures stanzas { stanzas.new.stanzas ≡ text_stanzas (text_of lines.new) }
+    ensures room { IfOk result (λ it. HasRoomFor lines.new stanzas.new it.0 it.1) }
+    ensures same { OnErr result (text_of lines.new ≡ text_of lines.old) }
+    ensures handed_back { IfErr result (λ error. IsSameText error.lines error.stanzas back swapped) }
+    ensures succeeds { HasRoomFor lines.old stanzas.old back swapped → IsOk result }
+{
+    let _count = lines.len();
+    let _stanzas = stanzas.len();
+    let other = match stanzas.put_back(swapped) {
+        Ok(other) => other,
+        Err(Unswapped { back: swapped }) => {
+            return Err(UnrestoredText {
+                lines: back,
+                stanzas: swapped,
+            });
+        }
+    };
+    match lines.restore(back) {
+        Ok(displaced) => Ok((displaced, other)),
+        Err(Unrestored { back }) => {
+            let swapped = put_back_in_room(stanzas, other);
+            Err(UnrestoredText {
+                lines: back,
+                stanzas: swapped,
+            })
+        }
+    }
+}
