@@ -1,5 +1,5 @@
 -- A room after a command: it keeps what each room keeps, and is what the step of the definitions makes of it.
-use Rattle.std.proofs.Common.{◌≡◌, ℕ, ◌+◌, ◌-◌, ◌<◌, ◌^◌, Bool, true, false, not, cond, List, [], ◌∷◌, ◌++◌, length, drop, map, refl, sym, ap, subst, ◌∙◌, arith, append-nil}
+use Rattle.std.proofs.Common.{◌≡◌, ℕ, ◌+◌, ◌-◌, ◌<◌, ◌^◌, Bool, true, false, not, cond, List, [], ◌∷◌, ◌++◌, length, drop, refl, sym, ap, subst, ◌∙◌, arith, append-nil}
 use Rattle.std.specs.Prelude.{IfOk, OnOk, OnErr}
 use Rattle.std.specs.Str.{bytes_eq}
 use Rattle.std.specs.declared.result.Result.{Result}
@@ -8,7 +8,7 @@ use Rattle.std.proofs.lemmas.List.{length-map, map-append, drop-map}
 use Rattle.spec_text.specs.Edits.{EditOf}
 use Rattle.spec_text.specs.Ranges.{RangeOf}
 use Rattle.spec_wire.specs.Commands.{CommandOf, RoomLineOf, edit, undo, redo, lock_scenes, lock_pages, next_round, sheet, labels, blocks, outline, save, speakers, paper, packet}
-use Rattle.spec_wire.specs.Replies.{ReplyOf, refused, is_refused, not_yours}
+use Rattle.spec_wire.specs.Replies.{ReplyOf, is_refused, not_yours}
 use Rattle.spec_machine.specs.Machine.{Memory}
 use Rattle.spec_machine.specs.Answers.{Step, step_of}
 use Rattle.spec_room.specs.Changes.{Text, turned}

@@ -34,10 +34,7 @@ pub fn last_owner(owners: &[Owner]) -> Option<&Owner>
 }
 
 /// Makes room for one change and one owner more.
-pub fn make_room(
-    changes: &mut VecDeque<Change>,
-    owners: &mut Vec<Owner>,
-) -> Result<(), AllocError>
+pub fn make_room(changes: &mut VecDeque<Change>, owners: &mut Vec<Owner>) -> Result<(), AllocError>
     ensures changes { changes.new.items ≡ changes.old.items }
     ensures owners { owners.new.items ≡ owners.old.items }
     ensures room { OnOk result ((deque_len changes.new < deque_capacity changes.new) × (vec_len owners.new < vec_capacity owners.new)) }

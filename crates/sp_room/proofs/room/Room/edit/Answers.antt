@@ -32,7 +32,7 @@ stepped g c =
     let undid : c.clear.new.self.items ≡ [] = c.clear.ensures.items in
     let seat : string_bytes c.in_ok-seat.seat ≡ c.args.seat.now = c.in_ok-seat.ensures.ok in
     subst (λ (seat : List ℕ). Answered (room_of it.desk it.version it.changes.items it.done.items it.undone.items) (line_of seat c.args.seen (edit (edit_of c.args.edit))) c.ask.new.desk (it.version + 1)
-        c.remember.new.changes.items c.push_reserved.new.self.items c.clear.new.self.items (reply_of c.in_ok-reply.reply)) seat
+    c.remember.new.changes.items c.push_reserved.new.self.items c.clear.new.self.items (reply_of c.in_ok-reply.reply)) seat
     (edit_answered it.desk c.ask.new.desk it.version it.changes.items c.remember.new.changes.items it.done.items it.undone.items c.push_reserved.new.self.items c.clear.new.self.items
     (string_bytes c.in_ok-seat.seat) c.args.seen (edit_of c.args.edit) (edit_of c.moved_to.result) range c.in-Ok.place (reply_of c.in_ok-reply.reply)
     c.self.invariant few c.edit_change-range.ensures found c.moved_to.ensures c.in_ok-reply.ensures.step c.in_ok-reply.ensures.unrefused remembered did undid)

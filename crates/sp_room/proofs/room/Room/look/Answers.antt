@@ -1,10 +1,10 @@
-use Rattle.std.proofs.Common.{◌≡◌, ℕ, ◌<◌, ◌^◌, Bool, true, false, List, [], length, ap, sym, ◌∙◌, subst}
+use Rattle.std.proofs.Common.{ℕ, ◌<◌, ◌^◌, List, [], length, ap, sym, ◌∙◌, subst}
 use Rattle.spec_wire.specs.Commands.{RoomLineOf}
 use Rattle.spec_room.specs.Kinds.{kind_of}
 use Rattle.spec_room.specs.Rooms.{RoomState, room_step_to, room_step_of}
 use Rattle.sp_wire.specs.Values.{command_of, reply_of}
 use Rattle.sp_room.specs.Answers.{line_of}
-use Rattle.sp_room.proofs.Answering.{Answered, no-change, no-change-looks, forgets_answered, looks_answered}
+use Rattle.sp_room.proofs.Answering.{no-change, no-change-looks, forgets_answered, looks_answered}
 use Rattle.sp_room.proofs.room.Room.look.Goals as goal
 use Rattle.sp_room.proofs.room.Room.look.Goals.{then-forgets, else-forgets}
 

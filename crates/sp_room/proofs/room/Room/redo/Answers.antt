@@ -1,7 +1,6 @@
-use Rattle.std.proofs.Common.{◌≡◌, ℕ, ◌+◌, ◌<◌, ◌^◌, Bool, true, false, not, List, [], ◌∷◌, ◌++◌, length, ap, sym, ◌∙◌, subst, refl}
+use Rattle.std.proofs.Common.{◌≡◌, ℕ, ◌+◌, ◌<◌, ◌^◌, true, List, [], ◌∷◌, ◌++◌, length, ap, sym, ◌∙◌, subst}
 use Rattle.std.specs.Str.{bytes_eq}
 use Rattle.spec_wire.specs.Commands.{redo}
-use Rattle.spec_room.specs.Changes.{turned}
 use Rattle.spec_room.specs.Rooms.{RoomState, kept_changes, last_of, room_step_of}
 use Rattle.sp_wire.specs.Values.{reply_of}
 use Rattle.sp_room.specs.Changes.{range_of}
