@@ -81,7 +81,7 @@ stood_open state whole = record {
 stood_goes : (state : State) (commands : List CommandOf) (old : RoomState) (texts : List Text) (it : RoomLineOf) (asked : Kind) → Stood state commands old texts
     → asked_of old it.seat it.seen (kind_of it.command) ≡ Ok asked → Accepts old.desk (command_at it.command asked)
     → Stood state (commands ++ command_at it.command asked ∷ []) (room_after old it.seat asked (memory_after old.desk (command_at it.command asked)))
-      (versions_after texts (kind_of it.command) (memory_after old.desk (command_at it.command asked)).state.lines)
+    (versions_after texts (kind_of it.command) (memory_after old.desk (command_at it.command asked)).state.lines)
 stood_goes state commands old texts it asked stood asks can =
     let command = command_at it.command asked in
     let new = memory_after old.desk command in

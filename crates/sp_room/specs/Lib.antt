@@ -1,0 +1,5 @@
+pub mod Changes
+pub mod Owners
+pub mod Asking
+pub mod Answers
+pub mod Inside
