@@ -23,7 +23,6 @@ returns-clause-whole c =
       pages = option_map (λ those. those.items) c.records.inside.pages;
     } in
     let it : MadeOf = record {
-      stanzas = c.made.inside.stanzas.stanzas;
       titles = c.made.inside.titles.elements;
       body = c.made.inside.body.elements;
       keys = c.made.inside.body.keys;
@@ -48,7 +47,6 @@ returns-clause-made c =
       pages = option_map (λ those. those.items) c.records.inside.pages;
     } in
     let it : MadeOf = record {
-      stanzas = c.made.inside.stanzas.stanzas;
       titles = c.made.inside.titles.elements;
       body = c.made.inside.body.elements;
       keys = c.made.inside.body.keys;
