@@ -1,4 +1,4 @@
-use Rattle.std.proofs.Common.{◌≡◌, List, ap, sym, subst, ◌∙◌}
+use Rattle.std.proofs.Common.{◌≡◌, ap, sym, subst, ◌∙◌}
 use Rattle.std.specs.Prelude.{is_some, option_map}
 use Rattle.spec_labels.specs.Scenes.{AreHeadings, locked_labels, locked_records}
 use Rattle.spec_records.specs.Kept.{RecordsOf}
