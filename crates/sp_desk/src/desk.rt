@@ -1,6 +1,7 @@
 //! A script with the journal of its edits.
 ghost use Rattle.std.specs.Prelude.{◌≡◌, ℕ, ◌≤◌, drop, false, Some, length, slice_get, IfOk, IfNone, IfSome, OnOk};
 ghost use Rattle.spec_text.specs.Lines.{line_texts, read_lines};
+ghost use Rattle.spec_script.specs.Stanzas.{stanzas_of};
 ghost use Rattle.spec_state.specs.State.{opened_state, text_of};
 ghost use Rattle.spec_state.specs.Keeping.{IsWhole, records_of, state_of};
 ghost use Rattle.spec_state.specs.StateSheets.{sheets_of_state};
@@ -15,7 +16,9 @@ ghost use Rattle.spec_machine.specs.Machine.{opened_memory};
 ghost use Rattle.sp_text.specs.Gap.{text_of as lines_text};
 ghost use Rattle.sp_text.specs.Changing.{edit_of};
 ghost use Rattle.sp_wire.specs.Values.{command_of, reply_of};
+ghost use Rattle.sp_reread.specs.Cache.{RisesWithin, counted_on};
 ghost use Rattle.sp_desk.specs.Answers.{IsAnswer};
+ghost use Rattle.sp_desk.specs.Reads.{CommandReads};
 
 use crate::DeskFault;
 use crate::replies::{edited_reply, next_after, page_count, scene_count, sheet_labels};
@@ -56,7 +59,9 @@ impl Desk {
     pub fn new<S: Steps>(alloc: Global, lines: Lines, steps: &mut S) -> Result<Desk, AllocError>
         requires read { lines.lines ≡ read_lines (line_texts lines.lines) }
         requires next { lines.next ≡ length lines.lines }
-        ensures { IfOk result (λ desk. desk ≡ opened_memory (opened_state (line_texts lines.lines))) }
+        ensures memory { IfOk result (λ desk. desk ≡ opened_memory (opened_state (line_texts lines.lines))) }
+        ensures reads { OnOk result (S.reads steps.new ≡ counted_on (length (stanzas_of (line_texts lines.lines))) (S.reads steps.old)) }
+        ensures at_most { RisesWithin (length (stanzas_of (line_texts lines.lines))) (S.reads steps.old) (S.reads steps.new) }
     {
         let _count = lines.len();
         let script = Script::new(alloc, lines, steps)?;
@@ -75,7 +80,9 @@ impl Desk {
         steps: &mut S,
     ) -> Result<Desk, AllocError>
         requires { IsWhole (state_of (lines_text lines) records) }
-        ensures { IfOk result (λ desk. desk ≡ opened_memory (state_of (lines_text lines) records)) }
+        ensures memory { IfOk result (λ desk. desk ≡ opened_memory (state_of (lines_text lines) records)) }
+        ensures reads { OnOk result (S.reads steps.new ≡ counted_on (length (stanzas_of (line_texts lines.lines))) (S.reads steps.old)) }
+        ensures at_most { RisesWithin (length (stanzas_of (line_texts lines.lines))) (S.reads steps.old) (S.reads steps.new) }
     {
         let script = Script::open(alloc, lines, records, steps)?;
         Ok(Desk {
@@ -87,7 +94,8 @@ impl Desk {
     /// Answers a command, as the machine does: what it makes of the memory, and the reply; a refusal is a fault and never
     /// `Reply::Refused`. NoMemory may come in place of any answer, and then nothing is changed. An edit, an undo, a redo and
     /// a setting lay out the whole text and fill each page of the body once; the other commands, locks and rounds among
-    /// them, lay out nothing (docs/RULES.md, "The desk"). No command loses a locked label, and an accepted lock of pages or
+    /// them, lay out nothing (docs/RULES.md, "The desk"). An edit reads each stanza of its window once, and no other command
+    /// reads one (docs/RULES.md, "Windows"). No command loses a locked label, and an accepted lock of pages or
     /// a new round leaves the bytes of every sheet as they were (docs/RULES.md, "Page records" and "Scene numbers"). An edit
     /// keeps the bytes of each locked page that it leaves alone, and so do all edits that can be undone, from each of them
     /// on (docs/RULES.md, "Windows").
@@ -103,6 +111,7 @@ impl Desk {
         ensures opening { OnOk result (KeepsSheets (command_of command) self.old self.new) }
         ensures locked { KeepsPages self.old (command_of command) (self.new).state }
         ensures chain { (i k : ℕ) → KeepsAlong i (drop k (self.new).done) (self.new).state }
+        ensures reads { CommandReads (self.old).state (command_of command) result (S.reads steps.old) (S.reads steps.new) }
     {
         let _before = self.sheets();
         let answer = self.answer(alloc, command, steps);
@@ -118,6 +127,7 @@ impl Desk {
     ) -> Result<Reply, DeskFault>
         ensures step { IsAnswer self.old (command_of command) self.new result }
         ensures unrefused { IfOk result (λ reply. is_refused (reply_of reply) ≡ false) }
+        ensures reads { CommandReads (self.old).state (command_of command) result (S.reads steps.old) (S.reads steps.new) }
     {
         match command {
             Command::Edit(edit) => self.edit(alloc, edit, steps),
@@ -144,6 +154,7 @@ impl Desk {
     ) -> Result<Reply, DeskFault>
         ensures step { IsAnswer self.old (commands.edit (edit_of edit)) self.new result }
         ensures unrefused { IfOk result (λ reply. is_refused (reply_of reply) ≡ false) }
+        ensures reads { CommandReads (self.old).state (commands.edit (edit_of edit)) result (S.reads steps.old) (S.reads steps.new) }
     {
         self.journal.reserve_one()?;
         let entry = self.script.edit(alloc, edit, steps)?;
@@ -154,6 +165,7 @@ impl Desk {
     fn undo<S: Steps>(&mut self, alloc: Global, steps: &mut S) -> Result<Reply, DeskFault>
         ensures step { IsAnswer self.old commands.undo self.new result }
         ensures unrefused { IfOk result (λ reply. is_refused (reply_of reply) ≡ false) }
+        ensures reads { S.reads steps.new ≡ S.reads steps.old }
     {
         self.journal.reserve_one()?;
         let Some(entry) = self.journal.take_done() else {
@@ -174,6 +186,7 @@ impl Desk {
     fn redo<S: Steps>(&mut self, alloc: Global, steps: &mut S) -> Result<Reply, DeskFault>
         ensures step { IsAnswer self.old commands.redo self.new result }
         ensures unrefused { IfOk result (λ reply. is_refused (reply_of reply) ≡ false) }
+        ensures reads { S.reads steps.new ≡ S.reads steps.old }
     {
         self.journal.reserve_one()?;
         let Some(entry) = self.journal.take_undone() else {
@@ -228,6 +241,7 @@ impl Desk {
     ) -> Result<Reply, DeskFault>
         ensures step { IsAnswer self.old (commands.speakers on) self.new result }
         ensures unrefused { IfOk result (λ reply. is_refused (reply_of reply) ≡ false) }
+        ensures reads { S.reads steps.new ≡ S.reads steps.old }
     {
         if self.script.records().pages.is_some() {
             return Err(DeskFault::Refused(Refusal::PagesLocked));
@@ -247,6 +261,7 @@ impl Desk {
     ) -> Result<Reply, DeskFault>
         ensures step { IsAnswer self.old (commands.paper paper) self.new result }
         ensures unrefused { IfOk result (λ reply. is_refused (reply_of reply) ≡ false) }
+        ensures reads { S.reads steps.new ≡ S.reads steps.old }
     {
         if self.script.records().pages.is_some() {
             return Err(DeskFault::Refused(Refusal::PagesLocked));

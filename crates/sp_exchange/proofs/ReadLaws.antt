@@ -1,12 +1,12 @@
 -- An edit reads the stanzas of its window.
 use Rattle.std.proofs.Common.{◌≡◌, ℕ, ◌+◌, ◌≤◌, List, None, length, refl, sym, ap, ap₂, subst, ◌∙◌, arith}
 use Rattle.spec_text.specs.Lines.{TextState, line_texts}
-use Rattle.spec_text.specs.Edits.{Displacement, EditOf, changed, displaced_by, refusal_of, replacement_of, restored}
+use Rattle.spec_text.specs.Edits.{Displacement, EditOf, displaced_by, refusal_of, replacement_of, restored}
 use Rattle.spec_text.specs.Ranges.{RangeOf, range_of}
 use Rattle.spec_text.proofs.ExchangeLaws.{length-stretch}
 use Rattle.spec_text.proofs.TakenEdits.{taken-inside}
 use Rattle.spec_script.specs.BlockValues.{StanzaOf}
-use Rattle.spec_reread.specs.Windows.{CountsWindow, IsBefore, IsEdited, IsWindow, stanzas_between}
+use Rattle.spec_reread.specs.Windows.{CountsWindow, IsBefore, IsEdited, stanzas_between}
 use Rattle.spec_reread.proofs.Edits.{edited-back, edited-lines}
 use Rattle.spec_reread.proofs.Resync.{window-one}
 use Rattle.sp_reread.specs.Cache.{ReadsWithin, counted_on}

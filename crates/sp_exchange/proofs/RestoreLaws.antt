@@ -1,11 +1,11 @@
 -- What an edit displaced can be put back, and putting it back twice changes nothing.
-use Rattle.std.proofs.Common.{◌≡◌, ℕ, ◌+◌, ◌-◌, ◌≤◌, List, length, take, drop, refl, sym, ap, ap₂, subst, ◌∙◌, arith}
+use Rattle.std.proofs.Common.{◌≡◌, ℕ, ◌+◌, ◌-◌, ◌≤◌, List, length, take, drop, sym, ap, ap₂, subst, ◌∙◌, arith}
 use Rattle.std.proofs.lemmas.List.{append_cancel_left, append_cancel_right, length-map}
 use Rattle.spec_text.specs.Lines.{LineState, TextState, IsText, line_texts}
 use Rattle.spec_text.specs.Edits.{Displacement, displaced_again, restored}
 use Rattle.spec_text.proofs.ExchangeLaws.{length-exchanged, length-stretch, stretch-exchanged}
 use Rattle.spec_script.specs.BlockValues.{StanzaOf}
-use Rattle.spec_reread.specs.Windows.{IsEdited, WasList, stanza_lines_in}
+use Rattle.spec_reread.specs.Windows.{WasList, stanza_lines_in}
 use Rattle.spec_reread.proofs.Counts.{count-from}
 use Rattle.spec_reread.proofs.Edits.{edited-back, edited-lines}
 use Rattle.sp_text.specs.DisplacedLines.{DisplacedState, displaced_of}

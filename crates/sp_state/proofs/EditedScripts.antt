@@ -1,12 +1,11 @@
--- The range of an edit, and room to take it back.
-use Rattle.std.proofs.Common.{◌≡◌, ℕ, ◌+◌, ◌≤◌, None, length, ap, ◌∙◌, arith}
+-- The range of an edit.
+use Rattle.std.proofs.Common.{◌≡◌, ℕ, None, length, ap, ◌∙◌}
 use Rattle.spec_text.specs.Lines.{TextState}
-use Rattle.spec_text.specs.Edits.{EditOf, Displacement, displaced_by, refusal_of, replacement_of, restored}
+use Rattle.spec_text.specs.Edits.{EditOf, Displacement, displaced_by, refusal_of, replacement_of}
 use Rattle.spec_text.specs.Ranges.{RangeOf, range_of}
-use Rattle.spec_text.proofs.ExchangeLaws.{length-stretch, length-exchanged}
+use Rattle.spec_text.proofs.ExchangeLaws.{length-stretch}
 use Rattle.spec_text.proofs.TakenEdits.{taken-inside}
-use Rattle.sp_text.specs.Gap.{LinesState, text_of}
-use Rattle.sp_state.specs.Entries.{EntryState, HasRoom, displaced, done_range}
+use Rattle.sp_state.specs.Entries.{EntryState, displaced, done_range}
 
 -- The range of an entry is that of its edit.
 pub edited-range : (text : TextState) (edit : EditOf) (entry : EntryState) → refusal_of text edit ≡ None → displaced entry ≡ displaced_by text (replacement_of text.lines edit)
@@ -15,11 +14,3 @@ edited-range text edit entry taken is =
     let it = replacement_of text.lines edit in
     ap (λ (d : Displacement). let range : RangeOf = record { first = d.first; old = length d.lines; new = d.stands } in range) is
     ∙ ap (λ (old : ℕ). let range : RangeOf = record { first = it.first; old = old; new = length it.texts } in range) (length-stretch text.lines it.first it.old (taken-inside text edit taken))
-
--- There is room to take it back.
-pub back-room : (old new : LinesState) (entry : EntryState) → entry.lines.first + entry.lines.stands ≤ length new.lines → restored (text_of new) (displaced entry) ≡ text_of old
-    → length old.lines ≤ old.room → old.room ≤ new.room → entry.lines.stands ≤ entry.lines.room → HasRoom new entry
-back-room old new entry place is fits grows room =
-    let count = ap (λ (t : TextState). length t.lines) is in
-    let many = length-exchanged new.lines entry.lines.first entry.lines.stands entry.lines.lines place in
-    record { lines_room = omega (arith, count, many, place, fits, grows); entry_room = room }

@@ -1,24 +1,16 @@
 -- Undoing and redoing are each other's opposites, and the same entry leads to the same state.
-use Rattle.std.proofs.Common.{◌≡◌, ◌≢◌, ℕ, zero, suc, ◌+◌, ◌<◌, ◌≤◌, Bool, cond, Option, Some, None, List, [], ◌∷◌, length, map, get_or, ne_eqb, eq-eqb, refl, ap, ap₂, sym, ◌∙◌, subst, arith}
+use Rattle.std.proofs.Common.{◌≡◌, ◌≢◌, ℕ, zero, suc, ◌+◌, ◌<◌, Bool, cond, Option, Some, None, List, [], ◌∷◌, length, map, get_or, ne_eqb, eq-eqb, refl, ap, ap₂, sym, ◌∙◌, subst, arith}
 use Rattle.std.specs.Prelude.{All, AllPairs, IfSome, slice_get, unwrap_or, option_map}
 use Rattle.std.proofs.lemmas.List.Elements.{All-head, All-tail}
-use Rattle.spec_text.specs.Lines.{LineState, TextState, IsText}
-use Rattle.spec_text.specs.Edits.{Displacement, restored, displaced_again}
-use Rattle.spec_text.proofs.ExchangeLaws.{length-stretch, stretch-exchanged}
+use Rattle.spec_text.specs.Edits.{Displacement, restored}
 use Rattle.spec_labels.specs.declared.Moved.{Moved}
 use Rattle.spec_labels.specs.PageRecords.{PageRecordOf, moved_of, moved_at, with_anchor, put_back_from, put_back_records, taken_back}
 use Rattle.spec_labels.proofs.PutBackLaws.{put_back-twice}
 use Rattle.spec_state.specs.State.{State, text_of}
-use Rattle.sp_state.specs.Entries.{EntryState, displaced, undone_state, redone_state, done_range, undone_range, with_text, FitRecords, CanRestore, CanUndo, CanRedo, had_by, AreTurned, IsUndone, IsRedone, IsSameEntry}
+use Rattle.sp_exchange.proofs.RestoreLaws.{turned-twice, same-can as same-restores}
+use Rattle.sp_state.specs.Entries.{EntryState, undone_state, redone_state, done_range, undone_range, with_text, FitRecords, CanRestore, CanUndo, CanRedo, had_by, IsUndone, IsRedone, IsSameEntry}
 
 -- ---- turning twice
-
--- What is displaced by restoring what was displaced.
-pub displaced-twice : (text : TextState) (back : Displacement) → back.first + back.stands ≤ length text.lines → displaced_again (restored text back) (displaced_again text back) ≡ back
-displaced-twice text back inside =
-    ap₂ (λ (count : ℕ) (lines : List LineState). let it : Displacement = record { first = back.first; stands = count; lines = lines; next = back.next } in it)
-    (length-stretch text.lines back.first back.stands inside)
-    (stretch-exchanged text.lines back.first back.stands back.lines (omega (arith, inside)))
 
 moved_at-found : (moved : List Moved) (k : ℕ) (d : Moved) → k < length moved → AllPairs (λ (one other : Moved). one.index ≢ other.index) moved → moved_at moved (get_or moved k d).index ≡ Some (get_or moved k d)
 moved_at-found [] k d within distinct = absurd (omega (arith, within))
@@ -82,18 +74,13 @@ had-twice (Some records) first second fits later_fits =
       taken-twice middle second later_fits.distinct,
     )
 
-lines-again : (state after : State) (entry other back : EntryState) → entry.lines.first + entry.lines.stands ≤ length state.lines → text_of after ≡ restored (text_of state) (displaced entry)
-    → AreTurned state entry other → AreTurned after other back → displaced back ≡ displaced entry
-lines-again state after entry other back place text turned again =
-    again.are ∙ ap₂ (λ (t : TextState) (d : Displacement). displaced_again t d) text turned.are ∙ displaced-twice (text_of state) (displaced entry) place
-
 -- An edit undone and done again has its entry again.
 pub undone-redone : (state : State) (entry other back : EntryState) → CanUndo state entry → IsUndone state entry other → IsRedone (undone_state state entry) other back → IsSameEntry back entry
 undone-redone state entry other back can undone redone =
     let both = had-twice state.pages entry.raised entry.moved can.first_fits can.second_fits in
     let after = (undone_state state entry).pages in
     record {
-      lines = lines-again state (undone_state state entry) entry other back can.place refl undone.lines redone.lines;
+      text = turned-twice (text_of state) entry.lines other.lines back.lines entry.stanzas other.stanzas back.stanzas can.text undone.text redone.text;
       moved = redone.moved ∙ ap (had_by after) undone.moved ∙ both.1;
       raised = redone.raised ∙ ap₂ (λ (ms rs : List Moved). had_by (option_map (put_back_records ms) after) rs) undone.moved undone.raised ∙ both.0;
     }
@@ -104,42 +91,32 @@ redone-undone state entry other back can redone undone =
     let both = had-twice state.pages entry.moved entry.raised can.first_fits can.second_fits in
     let after = (redone_state state entry).pages in
     record {
-      lines = lines-again state (redone_state state entry) entry other back can.place refl redone.lines undone.lines;
+      text = turned-twice (text_of state) entry.lines other.lines back.lines entry.stanzas other.stanzas back.stanzas can.text redone.text undone.text;
       moved = undone.moved ∙ ap₂ (λ (rs ms : List Moved). had_by (option_map (put_back_records rs) after) ms) redone.raised redone.moved ∙ both.0;
       raised = undone.raised ∙ ap (had_by after) redone.raised ∙ both.1;
     }
 
 -- ---- the same entry
 
-pub same-refl : (entry : EntryState) → IsSameEntry entry entry
-same-refl entry = record { lines = refl; moved = refl; raised = refl }
-
-pub same-sym : (one other : EntryState) → IsSameEntry one other → IsSameEntry other one
-same-sym one other same = record { lines = sym same.lines; moved = sym same.moved; raised = sym same.raised }
-
-pub same-then : (one other third : EntryState) → IsSameEntry one other → IsSameEntry other third → IsSameEntry one third
-same-then one other third same later = record { lines = same.lines ∙ later.lines; moved = same.moved ∙ later.moved; raised = same.raised ∙ later.raised }
-
 pub same-undone_state : (state : State) (one other : EntryState) → IsSameEntry one other → undone_state state one ≡ undone_state state other
 same-undone_state state one other same =
-    ap₂ (λ (d : Displacement) (pages : Option (List PageRecordOf)). with_text state (restored (text_of state) d) pages) same.lines
+    ap₂ (λ (d : Displacement) (pages : Option (List PageRecordOf)). with_text state (restored (text_of state) d) pages) same.text.lines
     (ap₂ (λ (ms rs : List Moved). option_map (λ records. put_back_records ms (put_back_records rs records)) state.pages) same.moved same.raised)
 
 pub same-redone_state : (state : State) (one other : EntryState) → IsSameEntry one other → redone_state state one ≡ redone_state state other
 same-redone_state state one other same =
-    ap₂ (λ (d : Displacement) (pages : Option (List PageRecordOf)). with_text state (restored (text_of state) d) pages) same.lines
+    ap₂ (λ (d : Displacement) (pages : Option (List PageRecordOf)). with_text state (restored (text_of state) d) pages) same.text.lines
     (ap₂ (λ (ms rs : List Moved). option_map (λ records. put_back_records rs (put_back_records ms records)) state.pages) same.moved same.raised)
 
 pub same-done_range : (one other : EntryState) → IsSameEntry one other → done_range one ≡ done_range other
-same-done_range one other same = ap (λ (d : Displacement). record { first = d.first; old = length d.lines; new = d.stands }) same.lines
+same-done_range one other same = ap (λ (d : Displacement). record { first = d.first; old = length d.lines; new = d.stands }) same.text.lines
 
 pub same-undone_range : (one other : EntryState) → IsSameEntry one other → undone_range one ≡ undone_range other
-same-undone_range one other same = ap (λ (d : Displacement). record { first = d.first; old = d.stands; new = length d.lines }) same.lines
+same-undone_range one other same = ap (λ (d : Displacement). record { first = d.first; old = d.stands; new = length d.lines }) same.text.lines
 
 same-can : (state : State) (one other : EntryState) (first second : List Moved) → IsSameEntry one other → CanRestore state other first second → CanRestore state one first second
 same-can state one other first second same can = record {
-  place = subst (λ (d : Displacement). d.first + d.stands ≤ length state.lines) (sym same.lines) can.place;
-  text = subst (λ (d : Displacement). IsText (restored (text_of state) d)) (sym same.lines) can.text;
+  text = same-restores (text_of state) one.lines other.lines one.stanzas other.stanzas same.text can.text;
   first_fits = can.first_fits;
   second_fits = can.second_fits;
 }

@@ -61,7 +61,6 @@ scenes-sheets state scenes = sym (sheets-by (with_scenes state scenes) state.pag
 pub scenes-made : (state : State) (it : MadeOf) (scenes : List SceneRecordOf) (labels : List LabelOf) → IsMadeOf state it → labels ≡ locked_labels scenes (headings_of state.lines)
     → IsMadeOf (with_scenes state (Some scenes)) (record it { labels = Some labels })
 scenes-made state it scenes labels made are = record {
-  stanzas = made.stanzas;
   titles = made.titles;
   body = made.body;
   keys = made.keys ∙ sym (scenes-keys state (Some scenes));
@@ -87,7 +86,6 @@ pub lock-made : (state : State) (it : MadeOf) → IsWhole state → CanLockPages
 lock-made state it whole can made =
     let sound = whole-sound state whole in
     record {
-      stanzas = made.stanzas;
       titles = made.titles;
       body = made.body;
       keys = made.keys ∙ sym (ap (map key_of) (rows-stay state sound));
@@ -121,7 +119,6 @@ pub round-made : (state : State) (it : MadeOf) → IsWhole state → IsMadeOf st
 round-made state it whole made =
     let sound = whole-sound state whole in
     record {
-      stanzas = made.stanzas;
       titles = made.titles;
       body = made.body;
       keys = made.keys ∙ sym (ap (map key_of) (rows-stay state sound));

@@ -1,18 +1,21 @@
 -- What an edit displaced, and the states that it leads to (docs/RULES.md, "The desk").
-use Rattle.std.specs.Prelude.{◌≡◌, ◌≢◌, ◌+◌, ◌-◌, ◌<◌, ◌≤◌, List, length, map, All, AllPairs, Option, Some, None, option_map, IfSome}
-use Rattle.spec_text.specs.Lines.{TextState, IsText}
-use Rattle.spec_text.specs.Edits.{Displacement, restored, displaced_again}
+use Rattle.std.specs.Prelude.{◌≡◌, ◌≢◌, ◌<◌, List, length, map, All, AllPairs, Option, Some, None, option_map, IfSome}
+use Rattle.spec_text.specs.Lines.{TextState}
+use Rattle.spec_text.specs.Edits.{Displacement, restored}
 use Rattle.spec_text.specs.Ranges.{RangeOf}
 use Rattle.spec_labels.specs.declared.Moved.{Moved}
 use Rattle.spec_labels.specs.PageRecords.{PageRecordOf, put_back_records, taken_back}
 use Rattle.spec_state.specs.State.{State, text_of}
 use Rattle.sp_text.specs.DisplacedLines.{DisplacedState, displaced_of}
 use Rattle.sp_text.specs.Gap.{LinesState}
+use Rattle.sp_reread.specs.Cache.{StanzasState, SwappedState}
+use Rattle.sp_exchange.specs.Restoring.{CanRestoreText, HasRoomFor, IsSameText, IsTurned}
 
--- What an edit displaced: lines, the anchors of page records that it carried, and the rounds of those that it raised. Carrying comes
--- first, so it is undone last.
+-- What an edit displaced: lines, stanzas, the anchors of page records that it carried, and the rounds of those that it raised.
+-- Carrying comes first, so it is undone last.
 pub record EntryState : Type 0 where
   pub lines : DisplacedState
+  pub stanzas : SwappedState
   pub moved : List Moved
   pub raised : List Moved
 
@@ -48,10 +51,9 @@ pub record FitRecords (moved : List Moved) (records : List PageRecordOf) : Type 
   pub within : All (λ (it : Moved). it.index < length records) moved
   pub distinct : AllPairs (λ (one other : Moved). one.index ≢ other.index) moved
 
--- The lines can be put back, and so can two lists of anchors and rounds, one after the other.
+-- The lines and their stanzas can be put back, and so can two lists of anchors and rounds, one after the other.
 pub record CanRestore (state : State) (entry : EntryState) (first second : List Moved) : Type 0 where
-  pub place : entry.lines.first + entry.lines.stands ≤ length state.lines
-  pub text : IsText (restored (text_of state) (displaced entry))
+  pub text : CanRestoreText (text_of state) entry.lines entry.stanzas
   pub first_fits : IfSome state.pages (FitRecords first)
   pub second_fits : IfSome state.pages (λ records. FitRecords second (put_back_records first records))
 
@@ -76,31 +78,24 @@ abbrev pub had_by : Option (List PageRecordOf) → List Moved → List Moved
 had_by None moved = moved
 had_by (Some records) moved = map (taken_back records) moved
 
--- Restoring an entry's lines left these, in a vector that has not lost room.
-pub record AreTurned (state : State) (entry other : EntryState) : Type 0 where
-  pub are : displaced other ≡ displaced_again (text_of state) (displaced entry)
-  pub kept_room : entry.lines.room ≤ other.lines.room
-  pub room : other.lines.stands ≤ other.lines.room
-
 -- The entry that undoing another leaves: what stood in the place of what it put back.
 pub record IsUndone (state : State) (entry other : EntryState) : Type 0 where
-  pub lines : AreTurned state entry other
+  pub text : IsTurned (text_of state) entry.lines entry.stanzas other.lines other.stanzas
   pub raised : other.raised ≡ had_by state.pages entry.raised
   pub moved : other.moved ≡ had_by (option_map (put_back_records entry.raised) state.pages) entry.moved
 
 -- The entry that redoing another leaves.
 pub record IsRedone (state : State) (entry other : EntryState) : Type 0 where
-  pub lines : AreTurned state entry other
+  pub text : IsTurned (text_of state) entry.lines entry.stanzas other.lines other.stanzas
   pub moved : other.moved ≡ had_by state.pages entry.moved
   pub raised : other.raised ≡ had_by (option_map (put_back_records entry.moved) state.pages) entry.raised
 
--- Lines and an entry have room for what its turning puts into them.
-pub record HasRoom (lines : LinesState) (entry : EntryState) : Type 0 where
-  pub lines_room : length lines.lines - entry.lines.stands + length entry.lines.lines ≤ lines.room
-  pub entry_room : entry.lines.stands ≤ entry.lines.room
+-- Lines, stanzas and an entry have room for what its turning puts into them.
+abbrev pub HasRoom : LinesState → StanzasState → EntryState → Type 0
+HasRoom lines stanzas entry = HasRoomFor lines stanzas entry.lines entry.stanzas
 
 -- The same entry; its vectors may have other room.
 pub record IsSameEntry (one other : EntryState) : Type 0 where
-  pub lines : displaced one ≡ displaced other
+  pub text : IsSameText one.lines one.stanzas other.lines other.stanzas
   pub moved : one.moved ≡ other.moved
   pub raised : one.raised ≡ other.raised

@@ -5,3 +5,4 @@ pub mod Made
 pub mod Raised
 pub mod Places
 pub mod Openings
+pub mod Reads

@@ -1,8 +1,6 @@
 -- What is made of a state.
 use Rattle.std.specs.Prelude.{◌≡◌, ℕ, ◌<◌, ◌≤◌, All, AllPairs, IfSome, List, [], length, Option, Some, None}
-use Rattle.spec_text.specs.Lines.{LineState, line_texts}
-use Rattle.spec_script.specs.BlockValues.{StanzaOf}
-use Rattle.spec_script.specs.Stanzas.{stanzas_of}
+use Rattle.spec_text.specs.Lines.{LineState}
 use Rattle.spec_pages.specs.Rows.{ElementOf}
 use Rattle.spec_labels.specs.declared.RowKey.{RowKey}
 use Rattle.spec_labels.specs.Labels.{LabelOf}
@@ -14,10 +12,9 @@ use Rattle.sp_state.specs.Numbered.{marked_sheets}
 use Rattle.spec_state.specs.Headings.{heading_labels}
 use Rattle.spec_state.specs.StateSheets.{layout_in, keys_in, title_starts, body_sheets}
 
--- Its stanzas, its elements laid out, the keys of its body's rows, the labels of its headings, the first rows of its title
--- sheets, and its other sheets.
+-- Its elements laid out, the keys of its body's rows, the labels of its headings, the first rows of its title sheets, and its
+-- other sheets.
 pub record MadeOf : Type 0 where
-  pub stanzas : List StanzaOf
   pub titles : List ElementOf
   pub body : List ElementOf
   pub keys : List RowKey
@@ -27,7 +24,6 @@ pub record MadeOf : Type 0 where
 
 -- They are those of the state.
 pub record IsMadeOf (state : State) (it : MadeOf) : Type 0 where
-  pub stanzas : it.stanzas ≡ stanzas_of (line_texts state.lines)
   pub titles : it.titles ≡ (layout_in state).titles
   pub body : it.body ≡ (layout_in state).body
   pub keys : it.keys ≡ keys_in state
@@ -35,15 +31,13 @@ pub record IsMadeOf (state : State) (it : MadeOf) : Type 0 where
   pub title_starts : it.title_starts ≡ title_starts state
   pub sheets : it.sheets ≡ body_sheets state
 
--- Its stanzas, its text laid out, and the labels of its headings.
+-- Its text laid out, and the labels of its headings.
 pub record LaidOf : Type 0 where
-  pub stanzas : List StanzaOf
   pub layout : LayoutOf
   pub labels : Option (List LabelOf)
 
 -- They are those of the state, and ask nothing of its page records.
 pub record IsLaidOf (state : State) (it : LaidOf) : Type 0 where
-  pub stanzas : it.stanzas ≡ stanzas_of (line_texts state.lines)
   pub layout : it.layout ≡ keyed state.lines (layout_in state)
   pub labels : it.labels ≡ heading_labels state.lines state.scenes
 

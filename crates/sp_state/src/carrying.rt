@@ -9,6 +9,7 @@ ghost use Rattle.spec_state.specs.Keeping.{IsWhole, state_of};
 ghost use Rattle.spec_state.specs.StateSheets.{keys_in, layout_in};
 ghost use Rattle.sp_text.specs.DisplacedLines.{displaced_of};
 ghost use Rattle.sp_text.specs.Gap.{text_of};
+ghost use Rattle.sp_exchange.specs.Restoring.{text_stanzas};
 ghost use Rattle.sp_compare.specs.BareRows.{AreLaid};
 ghost use Rattle.sp_layout.specs.Bodies.{row_count};
 ghost use Rattle.sp_layout.specs.LaidOut.{keyed};
@@ -18,10 +19,10 @@ ghost use Rattle.sp_state.specs.Raised.{AreCarried, AreSegments, FitPages, put_b
 use crate::made::{Laid, lay};
 use crate::raising::raises;
 use sp_compare::{BothTexts, OldLines};
-use sp_kit::Steps;
 use sp_layout::{Body, Layout};
 use sp_locks::{carry, put_back, starts};
 use sp_records::Records;
+use sp_reread::Stanzas;
 use sp_text::{Displaced, Lines};
 use spec_labels::Moved;
 use std::alloc::{AllocError, Global};
@@ -85,15 +86,16 @@ fn raises_among(
 }
 
 /// The text after an edit laid out, and the rounds that its page records get.
-fn laid_with_raises<S: Steps>(
+fn laid_with_raises(
     alloc: Global,
     lines: &Lines,
+    stanzas: &Stanzas,
     displaced: &Displaced,
     records: &Records,
     before: &[usize],
     olds: &Body,
-    steps: &mut S,
 ) -> Result<(Laid, Vec<Moved>), AllocError>
+    requires stanzas { stanzas.now.stanzas ≡ text_stanzas (text_of lines.now) }
     requires whole { IsWhole (state_of (text_of lines.now) records.now) }
     requires place { displaced.now.first + displaced.now.stands ≤ length lines.now.lines }
     requires text { IsText (restored (text_of lines.now) (displaced_of displaced.now)) }
@@ -102,7 +104,7 @@ fn laid_with_raises<S: Steps>(
     ensures laid { IfOk result (λ it. IsLaidOf (state_of (text_of lines.now) records.now) it.0) }
     ensures raises { IfOk result (λ it. (labels : Option (List LabelOf)) → it.1.items ≡ raises_in (segment_rows (shown_rows (restored (text_of lines.now) (displaced_of displaced.now)).lines labels olds.now.elements) before.now) (state_of (text_of lines.now) records.now) records.now.pages) }
 {
-    let laid = lay(alloc, lines, records, steps)?;
+    let laid = lay(alloc, lines, stanzas, records)?;
     let raises = raises_among(alloc, lines, displaced, records, before, olds, &laid.layout)?;
     Ok((laid, raises))
 }
@@ -118,15 +120,16 @@ pub(crate) struct Turned {
 
 /// Carries page records after an edit, and gives those the round whose rows differ. `olds` are the rows before the edit,
 /// and `before` the first rows that its page records had.
-pub(crate) fn carry_and_raise<S: Steps>(
+pub(crate) fn carry_and_raise(
     alloc: Global,
     lines: &Lines,
+    stanzas: &Stanzas,
     displaced: &Displaced,
     records: &mut Records,
     before: &[usize],
     olds: &Body,
-    steps: &mut S,
 ) -> Result<Turned, AllocError>
+    requires stanzas { stanzas.now.stanzas ≡ text_stanzas (text_of lines.now) }
     requires place { displaced.now.first + displaced.now.stands ≤ length lines.now.lines }
     requires whole { IsWhole (state_before (text_of lines.now) (displaced_of displaced.now) records.old) }
     requires carried { IsWhole (state_of (text_of lines.now) (records_carried (text_of lines.now) (displaced_of displaced.now) records.old)) }
@@ -142,7 +145,7 @@ pub(crate) fn carry_and_raise<S: Steps>(
     ensures same { OnErr result (records.new ≡ records.old) }
 {
     let mut moved = carry_pages(alloc, records, lines, displaced)?;
-    match laid_with_raises(alloc, lines, displaced, records, before, olds, steps) {
+    match laid_with_raises(alloc, lines, stanzas, displaced, records, before, olds) {
         Ok((laid, mut raised)) => {
             put_back_pages(records, &mut raised);
             Ok(Turned {

@@ -69,16 +69,18 @@ fn first_scenes(
 pub(crate) fn lock_scenes_made(
     alloc: Global,
     lines: &Lines,
+    stanzas: &Stanzas,
     records: &mut Records,
     made: &mut Made,
 ) -> Result<(), OpeningFault>
     requires whole { IsWhole (state_of (text_of lines.now) records.old) }
+    requires stanzas { stanzas.now.stanzas ≡ stanzas_of (line_texts lines.now.lines) }
     requires made { IsMadeOf (state_of (text_of lines.now) records.old) made.old }
     ensures opening { IsOpening (scenes_refusal (state_of (text_of lines.now) records.old)) (scenes_locked (state_of (text_of lines.now) records.old)) (state_of (text_of lines.now) records.old) (state_of (text_of lines.now) records.new) result }
     ensures whole { IsWhole (state_of (text_of lines.now) records.new) }
     ensures made { IsMadeOf (state_of (text_of lines.now) records.new) made.new }
 {
-    let headings = headings_by(alloc, lines, &made.stanzas)?;
+    let headings = headings_by(alloc, lines, stanzas)?;
     let (scenes, labels) = first_scenes(alloc, &records.scenes, &headings)?;
     records.scenes = Some(scenes);
     made.labels = Some(labels);
@@ -171,10 +173,12 @@ fn extend_pages(
 pub(crate) fn lock_pages_made(
     alloc: Global,
     lines: &Lines,
+    stanzas: &Stanzas,
     records: &mut Records,
     made: &Made,
 ) -> Result<(), OpeningFault>
     requires whole { IsWhole (state_of (text_of lines.now) records.old) }
+    requires stanzas { stanzas.now.stanzas ≡ stanzas_of (line_texts lines.now.lines) }
     requires made { IsMadeOf (state_of (text_of lines.now) records.old) made.now }
     ensures opening { IsOpening (pages_refusal (state_of (text_of lines.now) records.old)) (pages_locked (state_of (text_of lines.now) records.old)) (state_of (text_of lines.now) records.old) (state_of (text_of lines.now) records.new) result }
     ensures whole { IsWhole (state_of (text_of lines.now) records.new) }
@@ -189,7 +193,7 @@ pub(crate) fn lock_pages_made(
     if made.body.rows() == 0 {
         return Err(OpeningFault::NoPages);
     }
-    let scenes = extended_scenes(alloc, lines, &records.scenes, &made.stanzas)?;
+    let scenes = extended_scenes(alloc, lines, &records.scenes, stanzas)?;
     let pages = first_pages(alloc, made)?;
     records.scenes = scenes;
     records.pages = Some(pages);
@@ -200,10 +204,12 @@ pub(crate) fn lock_pages_made(
 pub(crate) fn next_round_made(
     alloc: Global,
     lines: &Lines,
+    stanzas: &Stanzas,
     records: &mut Records,
     made: &Made,
 ) -> Result<(), OpeningFault>
     requires whole { IsWhole (state_of (text_of lines.now) records.old) }
+    requires stanzas { stanzas.now.stanzas ≡ stanzas_of (line_texts lines.now.lines) }
     requires made { IsMadeOf (state_of (text_of lines.now) records.old) made.now }
     ensures opening { IsOpening (round_refusal (state_of (text_of lines.now) records.old)) (round_begun (state_of (text_of lines.now) records.old)) (state_of (text_of lines.now) records.old) (state_of (text_of lines.now) records.new) result }
     ensures whole { IsWhole (state_of (text_of lines.now) records.new) }
@@ -212,7 +218,7 @@ pub(crate) fn next_round_made(
     if records.round >= ROUND_LIMIT {
         return Err(OpeningFault::RoundsFull);
     }
-    let scenes = extended_scenes(alloc, lines, &records.scenes, &made.stanzas)?;
+    let scenes = extended_scenes(alloc, lines, &records.scenes, stanzas)?;
     extend_pages(alloc, &mut records.pages, made)?;
     records.scenes = scenes;
     records.round += 1;

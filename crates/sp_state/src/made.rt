@@ -1,4 +1,4 @@
-//! What is made of a state: its stanzas, its elements in rows, the labels of its headings, and its sheets.
+//! What is made of a state and its stanzas: its elements in rows, the labels of its headings, and its sheets.
 ghost use Rattle.std.specs.Prelude.{◌≡◌, ℕ, ◌≤◌, ◌++◌, [], option_map, All, IfOk, IfSome};
 ghost use Rattle.spec_text.specs.Lines.{line_texts};
 ghost use Rattle.spec_script.specs.Stanzas.{stanzas_of};
@@ -8,6 +8,7 @@ ghost use Rattle.spec_state.specs.Headings.{heading_labels};
 ghost use Rattle.spec_state.specs.StateSheets.{body_sheets, layout_in};
 ghost use Rattle.spec_state.specs.Keeping.{IsWhole, state_of};
 ghost use Rattle.sp_text.specs.Gap.{text_of};
+ghost use Rattle.sp_exchange.specs.Restoring.{text_stanzas};
 ghost use Rattle.sp_layout.specs.Bodies.{row_count, shapes_in};
 ghost use Rattle.sp_layout.specs.LaidOut.{keyed};
 ghost use Rattle.sp_state.specs.Made.{AskedOfPages, IsLaidOf, IsMadeOf, key_starts, marked_or_locked};
@@ -27,11 +28,10 @@ use spec_pages::Paper;
 use std::alloc::{AllocError, Global};
 use std::marker::Model;
 
-/// The stanzas of a state, its elements laid out, the labels of its headings where scenes are locked, the first rows of
-/// its title sheets, and its other sheets.
+/// The elements of a state laid out, the labels of its headings where scenes are locked, the first rows of its title
+/// sheets, and its other sheets.
 #[derive(Drop)]
 pub struct Made {
-    pub stanzas: Stanzas,
     pub titles: Body,
     pub body: Body,
     pub labels: Option<Vec<Label>>,
@@ -46,7 +46,6 @@ impl Model for Made {
     ghost Value = { MadeOf };
 
     ghost view = { λ m. record {
-      stanzas = m.stanzas.stanzas;
       titles = m.titles.elements;
       body = m.body.elements;
       keys = m.body.keys;
@@ -105,7 +104,8 @@ fn body_pages<S: Steps>(
 ) -> Result<Pages, AllocError>
     requires breaks { All (λ (stop : ℕ). stop ≤ row_count body.now.elements) breaks.now }
     requires starts { All (λ (stop : ℕ). stop ≤ row_count body.now.elements) starts.now }
-    ensures { IfOk result (λ pages. pages.starts ≡ page_starts (rows_on paper) (shapes_in body.now.elements) (breaks.now ++ starts.now)) }
+    ensures starts { IfOk result (λ pages. pages.starts ≡ page_starts (rows_on paper) (shapes_in body.now.elements) (breaks.now ++ starts.now)) }
+    ensures reads { S.reads steps.new ≡ S.reads steps.old }
 {
     let stops = merged_stops(alloc, breaks, starts)?;
     Pages::new(alloc, body.shapes(), &stops, rows_on(paper), steps)
@@ -154,7 +154,8 @@ fn made_sheets<S: Steps>(
 ) -> Result<Vec<Sheet>, AllocError>
     requires whole { IsWhole (state_of (text_of lines.now) records.now) }
     requires layout { layout.now ≡ keyed lines.now.lines (layout_in (state_of (text_of lines.now) records.now)) }
-    ensures { IfOk result (λ made. made.items ≡ body_sheets (state_of (text_of lines.now) records.now)) }
+    ensures sheets { IfOk result (λ made. made.items ≡ body_sheets (state_of (text_of lines.now) records.now)) }
+    ensures reads { S.reads steps.new ≡ S.reads steps.old }
 {
     let body = &layout.body;
     let firsts = record_starts(alloc, lines, body.keys(), &records.pages)?;
@@ -162,10 +163,9 @@ fn made_sheets<S: Steps>(
     sheets_of_pages(alloc, body, &records.pages, &firsts, pages.starts())
 }
 
-/// The stanzas of a state, its elements laid out, and the labels of its headings where scenes are locked.
+/// The elements of a state laid out, and the labels of its headings where scenes are locked.
 #[derive(Drop)]
 pub(crate) struct Laid {
-    pub stanzas: Stanzas,
     pub layout: Layout,
     pub labels: Option<Vec<Label>>,
 }
@@ -176,26 +176,22 @@ impl Model for Laid {
 
     ghost Value = { LaidOf };
 
-    ghost view = { λ l. record { stanzas = l.stanzas.stanzas; layout = l.layout; labels = option_map (λ those. those.items) l.labels } };
+    ghost view = { λ l. record { layout = l.layout; labels = option_map (λ those. those.items) l.labels } };
 }
 
-/// The text of a state laid out. Each stanza is read once. `AllocError` comes for want of memory alone.
-pub(crate) fn lay<S: Steps>(
+/// The text of a state laid out, by its stanzas. `AllocError` comes for want of memory alone.
+pub(crate) fn lay(
     alloc: Global,
     lines: &Lines,
+    stanzas: &Stanzas,
     records: &Records,
-    steps: &mut S,
 ) -> Result<Laid, AllocError>
-    requires { IsWhole (state_of (text_of lines.now) records.now) }
+    requires whole { IsWhole (state_of (text_of lines.now) records.now) }
+    requires stanzas { stanzas.now.stanzas ≡ text_stanzas (text_of lines.now) }
     ensures { IfOk result (IsLaidOf (state_of (text_of lines.now) records.now)) }
 {
-    let stanzas = Stanzas::new(alloc, lines, steps)?;
-    let (layout, labels) = laid_text(alloc, lines, &stanzas, records)?;
-    Ok(Laid {
-        stanzas,
-        layout,
-        labels,
-    })
+    let (layout, labels) = laid_text(alloc, lines, stanzas, records)?;
+    Ok(Laid { layout, labels })
 }
 
 /// What is made of a state whose text is laid out. Each page of the body is filled once. `AllocError` comes for want of
@@ -209,18 +205,14 @@ pub(crate) fn make_of<S: Steps>(
 ) -> Result<Made, AllocError>
     requires whole { IsWhole (state_of (text_of lines.now) records.now) }
     requires laid { IsLaidOf (state_of (text_of lines.now) records.now) laid }
-    ensures { IfOk result (IsMadeOf (state_of (text_of lines.now) records.now)) }
+    ensures made { IfOk result (IsMadeOf (state_of (text_of lines.now) records.now)) }
+    ensures reads { S.reads steps.new ≡ S.reads steps.old }
 {
-    let Laid {
-        stanzas,
-        layout,
-        labels,
-    } = laid;
+    let Laid { layout, labels } = laid;
     let title_pages = title_pages(alloc, &layout.titles, records.paper)?;
     let sheets = made_sheets(alloc, lines, records, &layout, steps)?;
     let Layout { titles, body, .. } = layout;
     Ok(Made {
-        stanzas,
         titles,
         body,
         labels,
@@ -229,17 +221,20 @@ pub(crate) fn make_of<S: Steps>(
     })
 }
 
-/// What is made of a state. Each stanza is read once, and each page of the body filled once. `AllocError` comes for want
-/// of memory alone.
+/// What is made of a state and its stanzas. Each page of the body is filled once. `AllocError` comes for want of memory
+/// alone.
 pub fn make<S: Steps>(
     alloc: Global,
     lines: &Lines,
+    stanzas: &Stanzas,
     records: &Records,
     steps: &mut S,
 ) -> Result<Made, AllocError>
-    requires { IsWhole (state_of (text_of lines.now) records.now) }
-    ensures { IfOk result (IsMadeOf (state_of (text_of lines.now) records.now)) }
+    requires stanzas { stanzas.now.stanzas ≡ text_stanzas (text_of lines.now) }
+    requires whole { IsWhole (state_of (text_of lines.now) records.now) }
+    ensures made { IfOk result (IsMadeOf (state_of (text_of lines.now) records.now)) }
+    ensures reads { S.reads steps.new ≡ S.reads steps.old }
 {
-    let laid = lay(alloc, lines, records, steps)?;
+    let laid = lay(alloc, lines, stanzas, records)?;
     make_of(alloc, lines, records, laid, steps)
 }

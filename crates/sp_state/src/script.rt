@@ -13,7 +13,10 @@ ghost use Rattle.spec_state.specs.Keeping.{IsWhole, records_of, state_of};
 ghost use Rattle.sp_text.specs.Gap.{text_of};
 ghost use Rattle.spec_layout.specs.Shown.{shape_of};
 ghost use Rattle.spec_state.specs.StateSheets.{body_sheets, rows_in, sheets_of_state};
+ghost use Rattle.sp_reread.specs.Cache.{RisesWithin, counted_on};
+ghost use Rattle.sp_exchange.specs.Reads.{IsRefused};
 ghost use Rattle.sp_state.specs.Openings.{IsOpening};
+ghost use Rattle.sp_state.specs.Reads.{EditReads, EditReadsAtMost};
 ghost use Rattle.sp_state.specs.Entries.{CanRedo, CanUndo, IsSameEntry, LeadsBack, LeadsForth, done_range, redone_state, undone_range, undone_state};
 
 use crate::editing::{edit_made, made_on, made_with_speakers, redo_made, undo_made};
@@ -32,26 +35,29 @@ use spec_pages::{Paper, Shape};
 use std::alloc::{AllocError, Global};
 use std::marker::Model;
 
-/// A script: its lines, its records, and what is made of them: its stanzas, the rows of its elements, its pages and its sheets
-/// (docs/RULES.md, "The desk" and "Sheets"). Contracts see the state alone.
+/// A script: its lines, their stanzas, its records, and what is made of them: the rows of its elements, its pages and its
+/// sheets (docs/RULES.md, "The desk" and "Sheets"). Contracts see the state alone.
 #[derive(Drop)]
 pub struct Script {
     lines: Lines,
+    stanzas: Stanzas,
     records: Records,
     made: Made,
 }
 
 impl Model for Script {
+    ghost use Rattle.std.specs.Prelude.{◌≡◌};
     ghost use Rattle.sp_text.specs.Gap.{text_of};
     ghost use Rattle.spec_state.specs.State.{State};
     ghost use Rattle.spec_state.specs.Keeping.{IsWhole, state_of};
+    ghost use Rattle.sp_exchange.specs.Restoring.{text_stanzas};
     ghost use Rattle.sp_state.specs.Made.{IsMadeOf};
 
     ghost Value = { State };
 
     ghost view = { λ s. state_of (text_of s.lines) s.records };
 
-    ghost invariant = { λ s. IsWhole (state_of (text_of s.lines) s.records) × IsMadeOf (state_of (text_of s.lines) s.records) s.made };
+    ghost invariant = { λ s. IsWhole (state_of (text_of s.lines) s.records) × IsMadeOf (state_of (text_of s.lines) s.records) s.made × (s.stanzas.stanzas ≡ text_stanzas (text_of s.lines)) };
 }
 
 impl Script {
@@ -60,7 +66,9 @@ impl Script {
     pub fn new<S: Steps>(alloc: Global, lines: Lines, steps: &mut S) -> Result<Script, AllocError>
         requires read { lines.lines ≡ read_lines (line_texts lines.lines) }
         requires next { lines.next ≡ length lines.lines }
-        ensures { IfOk result (λ script. script ≡ opened_state (line_texts lines.lines)) }
+        ensures state { IfOk result (λ script. script ≡ opened_state (line_texts lines.lines)) }
+        ensures reads { OnOk result (S.reads steps.new ≡ counted_on (length (stanzas_of (line_texts lines.lines))) (S.reads steps.old)) }
+        ensures at_most { RisesWithin (length (stanzas_of (line_texts lines.lines))) (S.reads steps.old) (S.reads steps.new) }
     {
         let _count = lines.len();
         Script::open(alloc, lines, Records::none(), steps)
@@ -75,11 +83,15 @@ impl Script {
         steps: &mut S,
     ) -> Result<Script, AllocError>
         requires { IsWhole (state_of (text_of lines) records) }
-        ensures { IfOk result (λ script. script ≡ state_of (text_of lines) records) }
+        ensures state { IfOk result (λ script. script ≡ state_of (text_of lines) records) }
+        ensures reads { OnOk result (S.reads steps.new ≡ counted_on (length (stanzas_of (line_texts lines.lines))) (S.reads steps.old)) }
+        ensures at_most { RisesWithin (length (stanzas_of (line_texts lines.lines))) (S.reads steps.old) (S.reads steps.new) }
     {
-        let made = make(alloc, &lines, &records, steps)?;
+        let stanzas = Stanzas::new(alloc, &lines, steps)?;
+        let made = make(alloc, &lines, &stanzas, &records, steps)?;
         Ok(Script {
             lines,
+            stanzas,
             records,
             made,
         })
@@ -103,7 +115,7 @@ impl Script {
     pub fn stanzas(&self) -> &Stanzas
         ensures { result.now.stanzas ≡ stanzas_of (line_texts self.now.lines) }
     {
-        &self.made.stanzas
+        &self.stanzas
     }
 
     /// Lends what page ends see of each row of its body (docs/RULES.md, "Pages").
@@ -140,9 +152,10 @@ impl Script {
         made_sheet(&self.lines, &self.made, i - count)
     }
 
-    /// Makes an edit, and answers the entry that undoes it. All is made anew. Where pages are locked their records are
-    /// carried, and those whose rows differ get the round (docs/RULES.md, "Edits and records"). On a fault nothing is
-    /// changed; NoMemory may come in place of any answer, and the others come as docs/RULES.md says in "Edits".
+    /// Makes an edit, and answers the entry that undoes it. Each stanza of its window is read once (docs/RULES.md,
+    /// "Windows"), and all else is made anew. Where pages are locked their records are carried, and those whose rows differ
+    /// get the round (docs/RULES.md, "Edits and records"). On a fault nothing is changed; NoMemory may come in place of any
+    /// answer, and the others come as docs/RULES.md says in "Edits".
     pub fn edit<S: Steps>(
         &mut self,
         alloc: Global,
@@ -155,10 +168,14 @@ impl Script {
         ensures back { IfOk result (LeadsBack self.old self.new) }
         ensures range { IfOk result (λ it. done_range it ≡ range_of (replacement_of self.old.lines (edit_of edit))) }
         ensures same { OnErr result (self.new ≡ self.old) }
+        ensures reads { OnOk result (EditReads self.old (replacement_of self.old.lines (edit_of edit)) (S.reads steps.old) (S.reads steps.new)) }
+        ensures at_most { EditReadsAtMost self.old (replacement_of self.old.lines (edit_of edit)) (S.reads steps.old) (S.reads steps.new) }
+        ensures unread { IsRefused (refusal_of (state_text self.old) (edit_of edit)) → S.reads steps.new ≡ S.reads steps.old }
     {
         let (entry, made) = edit_made(
             alloc,
             &mut self.lines,
+            &mut self.stanzas,
             &mut self.records,
             &self.made,
             edit,
@@ -168,8 +185,8 @@ impl Script {
         Ok(entry)
     }
 
-    /// Undoes an edit by its entry, and answers the entry that does it again. All is made anew. On an error there was no
-    /// memory, nothing is changed, and the entry is handed back (docs/RULES.md, "The desk").
+    /// Undoes an edit by its entry, and answers the entry that does it again. No stanza is read; all else is made anew. On an
+    /// error there was no memory, nothing is changed, and the entry is handed back (docs/RULES.md, "The desk").
     pub fn undo<S: Steps>(
         &mut self,
         alloc: Global,
@@ -184,14 +201,22 @@ impl Script {
         ensures range { IfOk result (λ it. undone_range it ≡ done_range entry) }
         ensures same { OnErr result (self.new ≡ self.old) }
         ensures handed_back { IfErr result (λ error. IsSameEntry error.back entry) }
+        ensures reads { S.reads steps.new ≡ S.reads steps.old }
     {
-        let (other, made) = undo_made(alloc, &mut self.lines, &mut self.records, entry, steps)?;
+        let (other, made) = undo_made(
+            alloc,
+            &mut self.lines,
+            &mut self.stanzas,
+            &mut self.records,
+            entry,
+            steps,
+        )?;
         self.made = made;
         Ok(other)
     }
 
-    /// Does an edit again by the entry that undoing it left, and answers the entry that undoes it. All is made anew. On
-    /// an error there was no memory, nothing is changed, and the entry is handed back (docs/RULES.md, "The desk").
+    /// Does an edit again by the entry that undoing it left, and answers the entry that undoes it. No stanza is read;
+    /// all else is made anew. On an error there was no memory, nothing is changed, and the entry is handed back (docs/RULES.md, "The desk").
     pub fn redo<S: Steps>(
         &mut self,
         alloc: Global,
@@ -206,13 +231,21 @@ impl Script {
         ensures range { IfOk result (λ it. done_range it ≡ undone_range entry) }
         ensures same { OnErr result (self.new ≡ self.old) }
         ensures handed_back { IfErr result (λ error. IsSameEntry error.back entry) }
+        ensures reads { S.reads steps.new ≡ S.reads steps.old }
     {
-        let (other, made) = redo_made(alloc, &mut self.lines, &mut self.records, entry, steps)?;
+        let (other, made) = redo_made(
+            alloc,
+            &mut self.lines,
+            &mut self.stanzas,
+            &mut self.records,
+            entry,
+            steps,
+        )?;
         self.made = made;
         Ok(other)
     }
 
-    /// Sets whether a cue says that its speaker goes on. All is made anew. On an error there was no memory, and nothing
+    /// Sets whether a cue says that its speaker goes on. No stanza is read; all else is made anew. On an error there was no memory, and nothing
     /// is changed (docs/RULES.md, "The desk").
     pub fn set_speakers<S: Steps>(
         &mut self,
@@ -222,13 +255,21 @@ impl Script {
     ) -> Result<(), AllocError>
         ensures state { OnOk result (self.new ≡ record self.old { speakers = on }) }
         ensures same { OnErr result (self.new ≡ self.old) }
+        ensures reads { S.reads steps.new ≡ S.reads steps.old }
     {
-        let made = made_with_speakers(alloc, &self.lines, &mut self.records, on, steps)?;
+        let made = made_with_speakers(
+            alloc,
+            &self.lines,
+            &self.stanzas,
+            &mut self.records,
+            on,
+            steps,
+        )?;
         self.made = made;
         Ok(())
     }
 
-    /// Sets the paper. All is made anew. On an error there was no memory, and nothing is changed (docs/RULES.md, "The
+    /// Sets the paper. No stanza is read; all else is made anew. On an error there was no memory, and nothing is changed (docs/RULES.md, "The
     /// desk").
     pub fn set_paper<S: Steps>(
         &mut self,
@@ -238,8 +279,16 @@ impl Script {
     ) -> Result<(), AllocError>
         ensures state { OnOk result (self.new ≡ record self.old { paper = paper }) }
         ensures same { OnErr result (self.new ≡ self.old) }
+        ensures reads { S.reads steps.new ≡ S.reads steps.old }
     {
-        let made = made_on(alloc, &self.lines, &mut self.records, paper, steps)?;
+        let made = made_on(
+            alloc,
+            &self.lines,
+            &self.stanzas,
+            &mut self.records,
+            paper,
+            steps,
+        )?;
         self.made = made;
         Ok(())
     }
@@ -250,7 +299,13 @@ impl Script {
     pub fn lock_scenes(&mut self, alloc: Global) -> Result<(), OpeningFault>
         ensures { IsOpening (scenes_refusal self.old) (scenes_locked self.old) self.old self.new result }
     {
-        lock_scenes_made(alloc, &self.lines, &mut self.records, &mut self.made)
+        lock_scenes_made(
+            alloc,
+            &self.lines,
+            &self.stanzas,
+            &mut self.records,
+            &mut self.made,
+        )
     }
 
     /// Locks pages: each page gets a record, and each heading that has none (docs/RULES.md, "Page records"). No stanza is
@@ -259,7 +314,13 @@ impl Script {
     pub fn lock_pages(&mut self, alloc: Global) -> Result<(), OpeningFault>
         ensures { IsOpening (pages_refusal self.old) (pages_locked self.old) self.old self.new result }
     {
-        lock_pages_made(alloc, &self.lines, &mut self.records, &self.made)
+        lock_pages_made(
+            alloc,
+            &self.lines,
+            &self.stanzas,
+            &mut self.records,
+            &self.made,
+        )
     }
 
     /// Begins the next round: where scenes or pages are locked, each heading and each page that has no record gets one
@@ -269,6 +330,12 @@ impl Script {
     pub fn next_round(&mut self, alloc: Global) -> Result<(), OpeningFault>
         ensures { IsOpening (round_refusal self.old) (round_begun self.old) self.old self.new result }
     {
-        next_round_made(alloc, &self.lines, &mut self.records, &self.made)
+        next_round_made(
+            alloc,
+            &self.lines,
+            &self.stanzas,
+            &mut self.records,
+            &self.made,
+        )
     }
 }

@@ -18,5 +18,5 @@ returns-in_err-script-clause-ends g c =
 pub returns-clause-ends : goal.returns-clause-ends
 returns-clause-ends g c =
     let had = subst (HadState (origin_of c.args.origin) (g.I.Source.state c.args.input.now) (g.I.Source.state c.open_state.new.input) (g.F.Shelf.state c.args.shelf.now) (g.F.Shelf.state c.open_state.new.shelf))
-    (sym c.in_ok-script.ensures) c.in_ok-opened.ensures.had in
+    (sym c.in_ok-script.ensures.state) c.in_ok-opened.ensures.had in
     show-ends c.args.view (origin_of c.args.origin) _ _ c.in_ok-script.script c.write_view.result had c.write_view.ensures

@@ -1,4 +1,4 @@
-use Rattle.std.proofs.Common.{◌≡◌, List, ap, sym, subst, ◌∙◌}
+use Rattle.std.proofs.Common.{◌≡◌, ap, sym, subst, ◌∙◌}
 use Rattle.std.specs.Prelude.{is_some, option_map}
 use Rattle.spec_labels.specs.Scenes.{AreHeadings, locked_labels, locked_records}
 use Rattle.spec_records.specs.Kept.{RecordsOf}
@@ -23,7 +23,6 @@ returns-clause-whole c =
       pages = option_map (λ those. those.items) c.records.inside.pages;
     } in
     let it : MadeOf = record {
-      stanzas = c.made.inside.stanzas.stanzas;
       titles = c.made.inside.titles.elements;
       body = c.made.inside.body.elements;
       keys = c.made.inside.body.keys;
@@ -48,7 +47,6 @@ returns-clause-made c =
       pages = option_map (λ those. those.items) c.records.inside.pages;
     } in
     let it : MadeOf = record {
-      stanzas = c.made.inside.stanzas.stanzas;
       titles = c.made.inside.titles.elements;
       body = c.made.inside.body.elements;
       keys = c.made.inside.body.keys;

@@ -1,4 +1,4 @@
-use Rattle.std.proofs.Common.{◌≡◌, ◌<◌, ap, sym, subst, ◌∙◌, arith}
+use Rattle.std.proofs.Common.{◌<◌, arith}
 use Rattle.std.specs.Prelude.{option_map}
 use Rattle.spec_records.specs.Kept.{RecordsOf}
 use Rattle.spec_state.specs.Keeping.{state_of}

@@ -25,8 +25,8 @@ new-requires-clause-stops g c =
       within = subst (λ n. All (λ (stop : ℕ). stop ≤ n) c.deref.result.now) (sym (ap length c.shapes.ensures ∙ length-map (placed_in rows) (λ (row : Row). row.shape))) low;
     }
 
-pub returns : goal.returns
-returns g c =
+pub returns-clause-starts : goal.returns-clause-starts
+returns-clause-starts g c =
     let shapes = shapes_in c.args.body.now.elements in
     let limit = rows_on c.args.paper in
     let stops = c.in_ok-stops.ensures in

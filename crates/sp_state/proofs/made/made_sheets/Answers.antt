@@ -52,15 +52,15 @@ sheets_of_pages-requires g c =
     let keys : c.keys.result.now ≡ keys_in state = c.keys.ensures.keys ∙ ap (λ (l : LayoutOf). l.body.keys) laid ∙ sym (state-row_keys state) in
     let records = option_map (λ those. those.items) c.records.inside.pages in
     let firsts : c.in_ok-firsts.firsts.items ≡ key_starts state.lines (keys_in state) records = c.in_ok-firsts.ensures ∙ ap (λ (ks : List RowKey). key_starts state.lines ks records) keys in
-    let pages : c.starts.result.now ≡ page_starts (rows_on state.paper) (shapes_in body) (c.layout.inside.breaks.items ++ c.in_ok-firsts.firsts.items) = c.starts.ensures ∙ c.in_ok-pages.ensures
+    let pages : c.starts.result.now ≡ page_starts (rows_on state.paper) (shapes_in body) (c.layout.inside.breaks.items ++ c.in_ok-firsts.firsts.items) = c.starts.ensures ∙ c.in_ok-pages.ensures.starts
     ∙ ap (λ paper. page_starts (rows_on paper) (shapes_in body) (c.deref.result.now ++ c.deref-2.result.now)) (ap (λ (r : RecordsOf). r.paper) c.records.view_is)
     ∙ ap (λ bs. page_starts (rows_on state.paper) (shapes_in body) (bs ++ c.deref-2.result.now)) c.deref.ensures.value
     ∙ ap (λ fs. page_starts (rows_on state.paper) (shapes_in body) (c.layout.inside.breaks.items ++ fs)) c.deref-2.ensures.value in
     asked-of (λ those. those.items) state c.records.inside.pages body c.layout.inside.breaks.items c.deref-3.result.now c.starts.result.now c.requires.whole (sym (ap (λ (r : RecordsOf). r.pages) c.records.view_is)) elements
     (ap (λ (l : LayoutOf). l.breaks) laid) (c.deref-3.ensures.value ∙ firsts) (pages ∙ ap (λ fs. page_starts (rows_on state.paper) (shapes_in body) (c.layout.inside.breaks.items ++ fs)) (sym c.deref-3.ensures.value))
 
-pub returns : goal.returns
-returns g c =
+pub returns-clause-sheets : goal.returns-clause-sheets
+returns-clause-sheets g c =
     let state : State = state_of (text_of c.args.lines.now) c.args.records.now in
     let body = c.layout.inside.body.elements in
     let laid = c.layout.view_is ∙ c.requires.layout in
@@ -68,7 +68,7 @@ returns g c =
     let keys : c.keys.result.now ≡ keys_in state = c.keys.ensures.keys ∙ ap (λ (l : LayoutOf). l.body.keys) laid ∙ sym (state-row_keys state) in
     let records = option_map (λ those. those.items) c.records.inside.pages in
     let firsts : c.in_ok-firsts.firsts.items ≡ key_starts state.lines (keys_in state) records = c.in_ok-firsts.ensures ∙ ap (λ (ks : List RowKey). key_starts state.lines ks records) keys in
-    let pages : c.starts.result.now ≡ page_starts (rows_on state.paper) (shapes_in body) (c.layout.inside.breaks.items ++ c.in_ok-firsts.firsts.items) = c.starts.ensures ∙ c.in_ok-pages.ensures
+    let pages : c.starts.result.now ≡ page_starts (rows_on state.paper) (shapes_in body) (c.layout.inside.breaks.items ++ c.in_ok-firsts.firsts.items) = c.starts.ensures ∙ c.in_ok-pages.ensures.starts
     ∙ ap (λ paper. page_starts (rows_on paper) (shapes_in body) (c.deref.result.now ++ c.deref-2.result.now)) (ap (λ (r : RecordsOf). r.paper) c.records.view_is)
     ∙ ap (λ bs. page_starts (rows_on state.paper) (shapes_in body) (bs ++ c.deref-2.result.now)) c.deref.ensures.value
     ∙ ap (λ fs. page_starts (rows_on state.paper) (shapes_in body) (c.layout.inside.breaks.items ++ fs)) c.deref-2.ensures.value in

@@ -1,5 +1,4 @@
-use Rattle.std.proofs.Common.{◌≡◌, map, ap, sym, ◌∙◌}
-use Rattle.spec_pages.specs.Rows.{ElementOf}
+use Rattle.std.proofs.Common.{map, ap, sym, ◌∙◌}
 use Rattle.spec_layout.specs.Shown.{shape_of}
 use Rattle.spec_state.specs.Keeping.{state_of}
 use Rattle.spec_state.specs.State.{State}
