@@ -121,6 +121,14 @@ def as_nobody():
     return {"user": NOBODY, "group": NOBODY, "extra_groups": []} if os.geteuid() == 0 else {}
 
 
+def feed(stream, data):
+    try:
+        stream.write(data)
+        stream.flush()
+    except BrokenPipeError:
+        pass
+
+
 # How runs end
 
 
@@ -239,27 +247,30 @@ def full_output(place):
 
 def closed_pipes(place):
     """A client that goes away ends its session, and what it saved stays."""
-    for handler, status in ((signal.SIG_IGN, 6), (signal.SIG_DFL, -signal.SIGPIPE)):
+    for handler in (signal.SIG_IGN, signal.SIG_DFL):
         place.put("f", b"!a\n")
         (place.folder / "f.desk").unlink(missing_ok=True)
-
-        def before(handler=handler):
-            signal.signal(signal.SIGPIPE, handler)
-
-        held = place.session(before=before)
+        held = place.session(before=lambda: signal.signal(signal.SIGPIPE, handler))
         yield from differs("an edit", held.ask(insert(1, "!b")), {"lines": 2, "ok": True, "sheets": 1})
         yield from differs("a save", held.ask(SAVE), {"digest": digest(b"!a\n!b\n"), "ok": True})
         held.process.stdout.close()
-        try:
-            held.send(lines_of(insert(1, "!c"), SAVE, insert(1, "!d"), SAVE))
-        except BrokenPipeError:
-            pass
-        held.process.stdout = open(os.devnull)
-        ended = held.end()
-        yield from differs("a client that goes away", ended[0] in (6, status), True)
-        yield from differs("what it saved", place.text("f"), b"!a\n!b\n")
-        yield from differs("the files", place.names(), ["f", "f.desk"])
+        feed(held.process.stdin, lines_of(insert(1, "!c"), SAVE, insert(1, "!d"), SAVE))
+        yield from differs("a client that goes away", held.end(), (6, LINES[6]))
+        yield from differs("what it saved", (place.text("f"), place.names()), (b"!a\n!b\n", ["f", "f.desk"]))
         yield from opens("what it saved", place, ["1"])
+
+
+def closed_streams(place):
+    """A stream that is closed from the start is told, and no file takes its place."""
+    place.put("f", b"!a\n")
+    saved = lines_of(insert(0, "!b"), SAVE)
+    for number, status in ((0, 5), (1, 6)):
+        ran = place.run("desk", "f", text=saved, before=lambda: os.close(number))
+        yield from differs(f"a session without stream {number}", ran, (status, b"", LINES[status]))
+        yield from differs("its script", (place.text("f"), place.names()), (b"!a\n", ["f"]))
+    ran = place.run("desk", "f", text=saved, before=lambda: os.close(2))
+    yield from differs("a session without stream 2", (ran[0], ran[1].count(b"ok"), place.text("f")), (0, 2, b"!b\n!a\n"))
+    yield from opens("its script", place, ["1"])
 
 
 def broken_input(place):
@@ -539,14 +550,6 @@ def ended_saves(place, how, seconds):
     yield from differs("what is left beside", all(".saving" in name for name in left) and len(left) < 2, True)
 
 
-def feed(stream, data):
-    try:
-        stream.write(data)
-        stream.flush()
-    except BrokenPipeError:
-        pass
-
-
 def two_sessions(place):
     """Of two sessions over one script the last save wins, whole."""
     place.put("f", b"!a\n")
@@ -588,8 +591,8 @@ def two_sessions(place):
 
 
 CHECKS = [
-    statuses, record_statuses, command_statuses, names_of_the_program, little_memory, full_output, closed_pipes, broken_input, pieces,
-    wild_clients, folders_and_links, files_beside, permissions, short_stores, small_file_systems, read_only_file_systems, devices,
+    statuses, record_statuses, command_statuses, names_of_the_program, little_memory, full_output, closed_pipes, closed_streams,
+    broken_input, pieces, wild_clients, folders_and_links, files_beside, permissions, short_stores, small_file_systems, read_only_file_systems, devices,
     ended_sessions, two_sessions,
 ]
 

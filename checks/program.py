@@ -42,7 +42,7 @@ class Session:
         return self.reply()
 
     def end(self):
-        """The status and what was told, once the input has ended."""
+        """The status and what was told, once the input has ended; what was written behind the last reply is left."""
         try:
             self.process.stdin.close()
         except BrokenPipeError:
