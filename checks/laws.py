@@ -23,6 +23,9 @@ from program import LABELS, PROGRAM, REDO, SAVE, SECONDS, UNDO, Session, lines_o
 from report import tell
 
 EDITS = ("replace", "splice")
+# What so many sessions have to meet.
+MET = (*EDITS, "undo", "redo", "lock_scenes", "lock_pages", "next_round", "speakers", "paper", "refused PagesLocked", "refused Range")
+MANY = 100
 WORDS = "the lamp burns *low* and **nobody** in _the house_ has noticed, été 字幕 e\u0301 \\* that it is morning".split()
 NAMES = ("ANNA", "BERT", "@McBan", "ANNA (V.O.)", "BERT (CONT'D)", "23", "ANNA ^", "BERT ^")
 NUMBERS = ("", "", "", " #1#", " #5#", " #2A#", " #1-A#", " #0#")
@@ -258,6 +261,8 @@ def main():
     first, count = map(int, sys.argv[1:]) if len(sys.argv) > 1 else (0, 100)
     counts = collections.Counter()
     found = list(faults(first, count, counts))
+    if count >= MANY:
+        found += [f"no session met {name}" for name in MET if not counts[name]]
     met = ", ".join(f"{name} {number}" for name, number in sorted(counts.items()))
     return tell("laws", f"{count} sessions from seed {first}, {sum(counts.values())} commands ({met})", found)
 
