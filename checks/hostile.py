@@ -1,0 +1,619 @@
+"""Runs the built program where the outside fails it: full disks, closed pipes, signals, folders and links under the name of a script,
+files that may not be read or written, a million commands, clients that send anything, two sessions over one script. Each run has to end
+with its status and line, and no script, lock or reply may be lost.
+
+What needs more than a user may do here, such as a small file system, is skipped, and said to be.
+"""
+
+import hashlib
+import json
+import os
+import pathlib
+import random
+import resource
+import shutil
+import signal
+import stat
+import subprocess
+import sys
+import tempfile
+import threading
+import time
+
+from program import LABELS, PROGRAM, SAVE, SECONDS, UNDO, Session, lines_of
+from report import tell
+
+NOBODY = 65534
+REFUSED = {"no": "Shelf"}
+LINES = {
+    0: "",
+    2: "fountain: usage: print [FILE], outline FILE, desk FILE, sample N",
+    5: "fountain: reading failed\n",
+    6: "fountain: writing failed\n",
+    7: "fountain: a file failed\n",
+    9: "fountain: no memory\n",
+    11: "fountain: too many commands\n",
+}
+HELLO = " " * 73 + "1.\n\n" + " " * 15 + "Hello.\n\f"
+
+
+def digest(text):
+    return hashlib.sha256(text).hexdigest()
+
+
+def insert(first, *lines):
+    return {"do": "replace", "first": first, "count": 0, "lines": list(lines)}
+
+
+class Place:
+    """A folder of a test's own, with a copy of the program that any user may run."""
+
+    def __init__(self, folder):
+        self.folder = pathlib.Path(tempfile.mkdtemp(dir=folder))
+        self.folder.chmod(0o777)
+        self.program = pathlib.Path(folder) / "fountain"
+
+    def put(self, name, text=b"!Hello.\n"):
+        path = self.folder / name
+        path.write_bytes(text)
+        return path
+
+    def text(self, name):
+        path = self.folder / name
+        return path.read_bytes() if path.exists() else None
+
+    def names(self):
+        return sorted(path.name for path in self.folder.iterdir())
+
+    def run(self, *words, text=b"", before=None, **more):
+        """The status, what was written, and what was told, of the program with these words; `before` is done in its process first."""
+        how = {"cwd": self.folder, "timeout": SECONDS, "preexec_fn": before, "stdout": subprocess.PIPE, "stderr": subprocess.PIPE, **more}
+        if "stdin" not in how:
+            how["input"] = text
+        ran = subprocess.run(["fountain", *words], executable=self.program, **how)
+        return ran.returncode, ran.stdout, (ran.stderr or b"").decode()
+
+    def replies(self, *commands, words=("desk", "f"), **more):
+        """The status of a session and its replies, as values."""
+        status, out, said = self.run(*words, text=lines_of(*commands), **more)
+        return status, [json.loads(line) for line in out.splitlines()], said
+
+    def session(self, before=None):
+        return Session(self.folder, program=self.program, preexec_fn=before)
+
+
+def differs(what, found, expected):
+    if found != expected:
+        yield f"{what}: {str(found)[:200]} in place of {str(expected)[:200]}"
+
+
+def ends(what, ran, status, out=b""):
+    """A run ended with this status and the line that tells it, and wrote this."""
+    yield from differs(f"{what} ends", ran[0], status)
+    yield from differs(f"{what} writes", ran[1], out)
+    line = LINES[status]
+    if not (ran[2].startswith(line) if status == 2 else ran[2] == line):
+        yield f"{what} tells {ran[2]!r}"
+
+
+def opens(what, place, labels, script="f"):
+    """What stands under a name opens, and its sheets have these labels."""
+    status, replies, said = place.replies(LABELS, words=("desk", script))
+    yield from differs(f"{what}, opened again", (status, replies, said), (0, [{"labels": labels, "ok": True}], ""))
+
+
+def limit(what, most):
+    return lambda: resource.setrlimit(what, (most, most))
+
+
+def small_files(most, ignored=True):
+    """Before the program: no file may have more bytes, and what writes more fails, or is ended."""
+
+    def before():
+        signal.signal(signal.SIGXFSZ, signal.SIG_IGN if ignored else signal.SIG_DFL)
+        resource.setrlimit(resource.RLIMIT_FSIZE, (most, most))
+
+    return before
+
+
+def as_nobody():
+    """How a run is one of a user whom permissions bind; none where this is one."""
+    return {"user": NOBODY, "group": NOBODY, "extra_groups": []} if os.geteuid() == 0 else {}
+
+
+def feed(stream, data):
+    try:
+        stream.write(data)
+        stream.flush()
+    except BrokenPipeError:
+        pass
+
+
+# How runs end
+
+
+def statuses(place):
+    """Each status has its number and its line."""
+    f = place.put("f", b"!Hello.")
+    hello = HELLO.encode()
+    yield from ends("print FILE", place.run("print", "f"), 0, hello)
+    yield from ends("print", place.run("print", text=b"!Hello."), 0, hello)
+    for words in ((), ("print", "f", "f"), ("desk",), ("--help",)):
+        yield from ends(f"{words}", place.run(*words, text=b"!Hello."), 2)
+    yield from ends("outline", place.run("outline", "f"), 0)
+    told = [
+        ("missing", None, 3, "fountain: no file f\n"),
+        ("bytes that are no UTF-8", b"!a\xff", 4, "fountain: not UTF-8 at byte 2\n"),
+        ("a long line", b"!\n" + b"a" * 4097, 4, "fountain: line 1 is too long\n"),
+        ("a byte past the limit", (b"a" * 4095 + b"\n") * 4096 + b"\n", 4, "fountain: the text is too long\n"),
+    ]
+    for what, script, status, line in told:
+        f.unlink(missing_ok=True)
+        if script is not None:
+            f.write_bytes(script)
+        for form in ("print", "outline", "desk"):
+            yield from differs(f"{form} of {what}", place.run(form, "f"), (status, b"", line))
+        if script is not None:
+            yield from differs(f"{what} by print", place.run("print", text=script), (status, b"", line))
+    f.write_bytes((b"a" * 4095 + b"\n") * 4096)
+    yield from differs("a file at the limit", place.run("outline", "f"), (0, b"", ""))
+
+
+def record_statuses(place):
+    place.put("f", b"!a\n")
+    for records, line in (
+        (b"", "fountain: bad records, rule 1\n"),
+        (b"{}", "fountain: bad records, rule 2\n"),
+        (b"\xff", "fountain: bad records, rule 1\n"),
+    ):
+        place.put("f.desk", records)
+        for form in ("print", "outline", "desk"):
+            yield from differs(f"{form} beside {records}", place.run(form, "f", text=lines_of(SAVE)), (8, b"", line))
+    place.put("f", b"")
+    (place.folder / "f.desk").unlink()
+    place.run("desk", "f", text=lines_of(SAVE))
+    kept = place.text("f.desk")
+    place.put("f", b"hello\n")
+    line = f"fountain: records are of another text, kept {digest(b'')}, found {digest(b'hello' + bytes([10]))}\n"
+    yield from differs("records of another text", place.run("desk", "f", text=lines_of(SAVE)), (8, b"", line))
+    yield from differs("they leave the files", (place.text("f"), place.text("f.desk")), (b"hello\n", kept))
+
+
+def command_statuses(place):
+    place.put("f", b"!a\n")
+    long = b" " * 1_048_577
+    replies = b'{"no":"BadJson"}\n'
+    yield from differs("a long command", place.run("desk", "f", text=b"\n" + long + b"\n\n"), (10, replies, "fountain: command line 1 is too long\n"))
+    yield from differs("a command at the limit", place.run("desk", "f", text=b"\n" + long[1:]), (0, replies * 2, ""))
+    million = b"\n" * 1_000_000
+    yield from ends("a million commands", place.run("desk", "f", text=million), 0, replies * 1_000_000)
+    yield from ends("one more", place.run("desk", "f", text=million + b"\n"), 11, replies * 1_000_000)
+    edits = lines_of({"do": "splice", "line": 0, "from": 1, "to": 1, "text": "b"}, UNDO) * 500_000
+    edited = b'{"lines":1,"ok":true,"sheets":1}\n' * 1_000_000
+    yield from ends("a million edits and undos", place.run("desk", "f", text=edits), 0, edited)
+
+
+def names_of_the_program(place):
+    """The program's own name is no word."""
+    how = {"cwd": place.folder, "input": b"!Hello.", "capture_output": True, "executable": place.program}
+    for words, status in ((["print"], 2), (["print", "print"], 0), (["desk", "desk"], 2), (["", "print"], 0)):
+        ran = subprocess.run(words, **how)
+        yield from differs(f"called with {words}", ran.returncode, status)
+
+
+def little_memory(place):
+    """A machine without memory costs the run alone."""
+    script = b"".join(b"!line %d\n\n" % at for at in range(60_000))
+    place.put("f", script)
+    for most in (24, 32, 48):
+        before = limit(resource.RLIMIT_AS, most << 20)
+        yield from ends(f"print with {most} MiB", place.run("print", "f", before=before), 9)
+    place.put("f", b"!a\n")
+    saved = lines_of(insert(1, "!b"), {"do": "lock_scenes"}, {"do": "lock_pages"}, SAVE)
+    text = json.dumps(insert(0, *["!line"] * 100_000)).encode() + b"\n"
+    whole = place.run("desk", "f", text=saved + text * 2)[1]
+    place.put("f", b"!a\n")
+    (place.folder / "f.desk").unlink()
+    ran = place.run("desk", "f", text=saved + text * 2, before=limit(resource.RLIMIT_AS, 48 << 20))
+    yield from differs("a session with little memory ends", (ran[0], ran[2]), (9, LINES[9]))
+    if not whole.startswith(ran[1]) or not ran[1].endswith(b"\n") or ran[1].count(b"\n") < 4:
+        yield f"a session with little memory writes {ran[1][:200]}"
+    yield from differs("what it saved", place.text("f"), b"!a\n!b\n")
+    yield from opens("what it saved", place, ["1"])
+
+
+# Streams
+
+
+def full_output(place):
+    place.put("f", b"!a\n" * 500)
+    whole = place.run("print", "f")[1]
+    with open("/dev/full", "wb") as full:
+        for words, text in ((("print", "f"), b""), (("print",), b"!a\n"), (("outline", "g"), b""), (("desk", "f"), lines_of(LABELS)), (("sample", "3"), b"")):
+            place.put("g", b".A\n")
+            ran = place.run(*words, text=text, stdout=full)
+            yield from differs(f"{words[0]} to a full disk", (ran[0], ran[2]), (6, LINES[6]))
+        place.put("f", b"!a\n")
+        ran = place.run("desk", "f", text=lines_of(insert(0, "!b"), SAVE), stdout=full)
+        yield from differs("a session to a full disk", (ran[0], place.text("f"), place.names()), (6, b"!a\n", ["f", "g"]))
+        ran = place.run("print", "missing", stderr=full)
+        yield from differs("a full disk for the line", (ran[0], ran[1]), (3, b""))
+    place.put("f", b"!a\n" * 500)
+    with open(place.folder / "out", "w+b") as out:
+        ran = place.run("print", "f", stdout=out, before=small_files(5000))
+        out.seek(0)
+        yield from differs("print into a small file", (ran[0], ran[2], out.read()), (6, LINES[6], whole[:5000]))
+
+
+def closed_pipes(place):
+    """A client that goes away ends its session, and what it saved stays."""
+    for handler in (signal.SIG_IGN, signal.SIG_DFL):
+        place.put("f", b"!a\n")
+        (place.folder / "f.desk").unlink(missing_ok=True)
+        held = place.session(before=lambda: signal.signal(signal.SIGPIPE, handler))
+        yield from differs("an edit", held.ask(insert(1, "!b")), {"lines": 2, "ok": True, "sheets": 1})
+        yield from differs("a save", held.ask(SAVE), {"digest": digest(b"!a\n!b\n"), "ok": True})
+        held.process.stdout.close()
+        feed(held.process.stdin, lines_of(insert(1, "!c"), SAVE, insert(1, "!d"), SAVE))
+        yield from differs("a client that goes away", held.end(), (6, LINES[6]))
+        yield from differs("what it saved", (place.text("f"), place.names()), (b"!a\n!b\n", ["f", "f.desk"]))
+        yield from opens("what it saved", place, ["1"])
+
+
+def closed_streams(place):
+    """A stream that is closed from the start is told, and no file takes its place."""
+    place.put("f", b"!a\n")
+    saved = lines_of(insert(0, "!b"), SAVE)
+    for number, status in ((0, 5), (1, 6)):
+        ran = place.run("desk", "f", text=saved, before=lambda: os.close(number))
+        yield from differs(f"a session without stream {number}", ran, (status, b"", LINES[status]))
+        yield from differs("its script", (place.text("f"), place.names()), (b"!a\n", ["f"]))
+    ran = place.run("desk", "f", text=saved, before=lambda: os.close(2))
+    yield from differs("a session without stream 2", (ran[0], ran[1].count(b"ok"), place.text("f")), (0, 2, b"!b\n!a\n"))
+    yield from opens("its script", place, ["1"])
+
+
+def broken_input(place):
+    """An input that can't be read, or that stands still, ends a session behind the replies to its whole lines."""
+    place.put("f", b"!a\n")
+    folder = os.open(place.folder, os.O_RDONLY)
+    for words in (("print",), ("desk", "f")):
+        yield from ends(f"{words[0]} from a folder", place.run(*words, stdin=folder), 5)
+    os.close(folder)
+    there, here = os.pipe()
+    os.set_blocking(there, False)
+    os.write(here, lines_of(LABELS) + b'{"do":"la')
+    ran = place.run("desk", "f", stdin=there)
+    yield from ends("a session that won't wait", ran, 5, b'{"labels":["1"],"ok":true}\n')
+    os.close(there)
+    os.close(here)
+    yield from differs("the script", (place.text("f"), place.names()), (b"!a\n", ["f"]))
+
+
+def pieces(place):
+    """A line that comes byte by byte is answered once it is whole, and before more is sent."""
+    place.put("f", b"!a\n")
+    held = place.session()
+    for command, reply in ((LABELS, {"labels": ["1"], "ok": True}), (UNDO, {"no": "NothingToUndo"})):
+        for byte in json.dumps(command).encode():
+            held.send(bytes([byte]))
+        if held.answers_soon(0.05):
+            yield "half a line is answered"
+        held.send(b"\n")
+        yield from differs("a line in pieces", held.reply(), reply)
+    held.process.send_signal(signal.SIGSTOP)
+    held.send(lines_of(LABELS))
+    held.process.send_signal(signal.SIGCONT)
+    yield from differs("after a stop", held.reply(), {"labels": ["1"], "ok": True})
+    yield from differs("its end", held.end(), (0, ""))
+
+
+def wild_clients(place):
+    """Whatever a client sends, each line has its reply, and the script stays."""
+    rng = random.Random(15)
+    text = b"!a\n===\n!b\n"
+    place.put("f", text)
+    words = [b'{"do":', b'"replace"', b"{", b"}", b"[", b"]", b'"', b",", b"18446744073709551616", b"-1", b"1e400", b"\\u0000", b"\xff\xfe", b"\0", b"null", b'"first":', b"\r"]
+    wild = [b"".join(rng.choice(words) for _ in range(rng.randint(0, 12))) for _ in range(2000)] + [b"[" * 100_000, b'{"do":"splice","line":0,"from":0,"to":0,"text":"' + b"a" * 1_000_000]
+    ran = place.run("desk", "f", text=b"\n".join(wild) + b"\n" + lines_of(LABELS))
+    replies = ran[1].splitlines()
+    yield from differs("a wild client", (ran[0], len(replies), replies[-1:]), (0, len(wild) + 1, [b'{"labels":["1","2"],"ok":true}']))
+    for line, reply in zip(wild, replies):
+        if not reply.startswith(b'{"') or b'"no":' not in reply:
+            yield f"{line[:60]} is answered {reply[:60]}"
+    yield from differs("its script", (place.text("f"), place.names()), (text, ["f"]))
+
+
+# Files
+
+
+def folders_and_links(place):
+    place.put("f", b"!a\n")
+    (place.folder / "folder").mkdir()
+    for form in ("print", "outline", "desk"):
+        yield from ends(f"{form} of a folder", place.run(form, "folder"), 7)
+        yield from ends(f"{form} below a file", place.run(form, "f/f"), 7)
+        yield from ends(f"{form} of a name that is too long", place.run(form, "f" * 300), 7)
+    (place.folder / "f.desk").mkdir()
+    yield from ends("a folder for the records", place.run("desk", "f", text=lines_of(SAVE)), 7)
+    (place.folder / "f.desk").rmdir()
+    (place.folder / "loop").symlink_to("loop")
+    yield from ends("a link to itself", place.run("print", "loop"), 7)
+    (place.folder / "nowhere").symlink_to("gone")
+    yield from differs("a link to nothing", place.run("print", "nowhere"), (3, b"", "fountain: no file nowhere\n"))
+    other = place.folder / "folder" / "real"
+    other.write_bytes(b"!a\n")
+    other.chmod(0o640)
+    link = place.folder / "link"
+    link.symlink_to("folder/real")
+    status, replies, _ = place.replies(insert(1, "!b"), SAVE, words=("desk", "link"))
+    yield from differs("a session over a link", (status, replies[1:]), (0, [{"digest": digest(b"!a\n!b\n"), "ok": True}]))
+    yield from differs("the link", (link.is_symlink(), os.readlink(link)), (True, "folder/real"))
+    yield from differs("what it leads to", (other.read_bytes(), stat.S_IMODE(other.stat().st_mode)), (b"!a\n!b\n", 0o640))
+    yield from opens("the link", place, ["1"], script="link")
+    yield from differs("the files", place.names(), ["f", "folder", "link", "link.desk", "loop", "nowhere"])
+
+
+def files_beside(place):
+    """A store takes a name beside the file that nothing has, and follows no link there."""
+    victim = place.put("victim", b"kept")
+    place.put("f", b"!a\n")
+    (place.folder / "f.saving0").symlink_to("victim")
+    for number in range(1, 99):
+        place.put(f"f.saving{number}", b"kept")
+    status, replies, _ = place.replies(insert(1, "!b"), SAVE)
+    yield from differs("a save beside 99 files", (status, "digest" in replies[1], place.text("f")), (0, True, b"!a\n!b\n"))
+    yield from differs("what stood there", (victim.read_bytes(), place.text("f.saving1")), (b"kept", b"kept"))
+    place.put("f.saving99", b"kept")
+    status, replies, _ = place.replies(insert(1, "!c"), SAVE, UNDO, SAVE)
+    yield from differs("a save beside 100 files", (status, replies[1], replies[3]), (0, REFUSED, REFUSED))
+    yield from differs("the script", place.text("f"), b"!a\n!b\n")
+    yield from opens("the script", place, ["1"])
+
+
+def permissions(place):
+    """A file that may not be read is told as failed, and not as missing; one that may not be written is left as it is."""
+    how = as_nobody()
+
+    def opened(name, mode, text=b"!a\n"):
+        path = place.put(name, text)
+        if how:
+            os.chown(path, NOBODY, NOBODY)
+        path.chmod(mode)
+        return path
+
+    opened("f", 0o000)
+    for form in ("print", "outline", "desk"):
+        yield from ends(f"{form} of a file that may not be read", place.run(form, "f", **how), 7)
+    (place.folder / "f").unlink()
+    opened("f", 0o644)
+    opened("f.desk", 0o000)
+    yield from ends("records that may not be read", place.run("desk", "f", text=lines_of(SAVE), **how), 7)
+    (place.folder / "f.desk").unlink()
+    (place.folder / "f").unlink()
+    opened("f", 0o444)
+    status, replies, _ = place.replies(insert(1, "!b"), SAVE, LABELS, **how)
+    yield from differs("a script that may not be written", (status, replies[1:]), (0, [REFUSED, {"labels": ["1"], "ok": True}]))
+    yield from differs("it", (place.text("f"), place.names()), (b"!a\n", ["f"]))
+    (place.folder / "f").unlink()
+    opened("f", 0o600)
+    place.folder.chmod(0o555)
+    if how:
+        os.chown(place.folder, NOBODY, NOBODY)
+    status, replies, _ = place.replies(insert(1, "!b"), SAVE, **how)
+    yield from differs("a folder that may not be written", (status, replies[1]), (0, REFUSED))
+    place.folder.chmod(0o755)
+    yield from differs("its script", (place.text("f"), place.names()), (b"!a\n", ["f"]))
+    status, replies, _ = place.replies(insert(1, "!b"), SAVE, **how)
+    yield from differs("a folder that may be written again", (status, "digest" in replies[1], place.text("f")), (0, True, b"!a\n!b\n"))
+    yield from differs("the permissions", stat.S_IMODE((place.folder / "f").stat().st_mode), 0o600)
+    place.folder.chmod(0o000)
+    yield from ends("a folder that may not be entered", place.run("print", str(place.folder / "f"), cwd="/", **how), 7)
+    place.folder.chmod(0o777)
+
+
+def short_stores(place):
+    """A store that can't be written whole leaves the file, and the session goes on; one that ends the program leaves it too."""
+    many = ["!" + "b" * 99] * 100
+    text = b"!a\n"
+    place.put("f", text)
+    status, replies, _ = place.replies(insert(1, *many), SAVE, UNDO, SAVE, LABELS, before=small_files(5000))
+    yield from differs("a store of too many bytes", (status, replies[1:]), (0, [REFUSED, {"lines": 1, "ok": True, "sheets": 1}, {"digest": digest(text), "ok": True}, {"labels": ["1"], "ok": True}]))
+    yield from differs("the files", (place.text("f"), place.names()), (text, ["f", "f.desk"]))
+    yield from opens("the script", place, ["1"])
+    kept = place.text("f.desk")
+    few = ["!"] * 900
+    status, replies, _ = place.replies(insert(0, *few), SAVE, UNDO, SAVE, before=small_files(4000))
+    yield from differs("records of too many bytes", (status, replies[1], "digest" in replies[3]), (0, REFUSED, True))
+    yield from differs("the files", (place.text("f"), place.names(), len(place.text("f.desk"))), (text, ["f", "f.desk"], len(kept)))
+    ran = place.run("desk", "f", text=lines_of(insert(1, *many), SAVE), before=small_files(5000, ignored=False))
+    yield from differs("a store that is ended", (ran[0], place.text("f")), (-signal.SIGXFSZ, text))
+    yield from opens("the script", place, ["1"])
+
+
+SMALL_DISK = """
+mount -t tmpfs -o size=64k none disk && cp f disk/f && cd disk && "$1" desk f <../commands >../replies || exit
+cp f ../f.after && cp f.desk ../f.desk.after && ls >../names
+"""
+READ_ONLY = """
+mount -t tmpfs none disk && cp f disk/f && mount -o remount,ro none disk && cd disk && "$1" print f >../printed || exit
+"$1" desk f <../commands >../replies && cp f ../f.after && ls >../names
+"""
+
+
+def mounted(place, script):
+    """Runs a shell script where mounts are its own; none where they may not be made."""
+    (place.folder / "disk").mkdir(exist_ok=True)
+    words = ["unshare", "--map-root-user", "--mount", "sh", "-c", script, "sh", str(place.program)]
+    try:
+        ran = subprocess.run(words, cwd=place.folder, capture_output=True, timeout=SECONDS)
+    except FileNotFoundError:
+        return None
+    return None if b"mount" in ran.stderr or b"unshare" in ran.stderr else ran.returncode
+
+
+def small_file_systems(place):
+    """A full disk refuses a save and leaves what stood there, and a later save succeeds."""
+    text = b"!" + b"a" * 99 + b"\n"
+    place.put("f", text * 200)
+    large = insert(0, *["!" + "b" * 99] * 300)
+    small = insert(0, *["!"] * 9000)
+    place.put("commands", lines_of(large, SAVE, UNDO, SAVE, {"do": "replace", "first": 1, "count": 199, "lines": []}, small, SAVE, UNDO, SAVE))
+    status = mounted(place, SMALL_DISK)
+    if status is None:
+        print("hostile: full file systems are skipped, since none may be mounted here")
+        return
+    replies = [json.loads(line) for line in (place.text("replies") or b"").splitlines()]
+    saves = [replies[at] for at in (1, 3, 6, 8)] if len(replies) == 9 else replies
+    yield from differs("saves on a small disk", (status, saves), (0, [REFUSED, {"digest": digest(text * 200), "ok": True}, REFUSED, {"digest": digest(text), "ok": True}]))
+    yield from differs("the small disk", (place.text("f.after"), place.text("names")), (text, b"f\nf.desk\n"))
+    shutil.copy(place.folder / "f.after", place.folder / "f")
+    shutil.copy(place.folder / "f.desk.after", place.folder / "f.desk")
+    yield from opens("what it has", place, ["1"])
+
+
+def read_only_file_systems(place):
+    place.put("f", b"!Hello.\n")
+    place.put("commands", lines_of(insert(0, "!b"), SAVE, UNDO, SAVE))
+    status = mounted(place, READ_ONLY)
+    if status is None:
+        print("hostile: file systems that are read alone are skipped, since none may be mounted here")
+        return
+    replies = [json.loads(line) for line in (place.text("replies") or b"").splitlines()]
+    yield from differs("saves on a disk that is read alone", (status, replies[1::2]), (0, [REFUSED, REFUSED]))
+    yield from differs("the disk", (place.text("printed"), place.text("f.after"), place.text("names")), (HELLO.encode(), b"!Hello.\n", b"f\n"))
+
+
+def devices(place):
+    """A save takes the place of no device."""
+    path = place.folder / "null"
+    try:
+        os.mknod(path, 0o666 | stat.S_IFCHR, os.makedev(1, 3))
+        path.open("rb").close()
+    except OSError:
+        print("hostile: devices are skipped, since none may be made here")
+        return
+    status, replies, _ = place.replies(insert(0, "!a"), SAVE, words=("desk", "null"))
+    yield from differs("a save over a device", (status, replies[1], place.names()), (0, REFUSED, ["null"]))
+    yield from differs("the device", stat.S_ISCHR(path.stat().st_mode), True)
+
+
+# Ends that nobody chose, and two at once
+
+
+def ended_sessions(place):
+    """A session that is ended leaves what its last save stored; one that is ended in a save leaves whole files."""
+    text = b"!a\n"
+    place.put("f", text)
+    held = place.session()
+    held.ask(insert(1, "!b"))
+    held.ask({"do": "lock_scenes"})
+    held.ask({"do": "lock_pages"})
+    held.ask(SAVE)
+    held.ask(insert(1, "===", "!c"))
+    held.process.terminate()
+    yield from differs("a session that is ended", held.end()[0], -signal.SIGTERM)
+    yield from differs("what it saved", (place.text("f"), place.names()), (b"!a\n!b\n", ["f", "f.desk"]))
+    yield from opens("what it saved", place, ["1"])
+    rng = random.Random(8)
+    for _ in range(30):
+        yield from ended_saves(place, rng.choice((signal.SIGTERM, signal.SIGKILL)), rng.random() * 0.03)
+
+
+def ended_saves(place, how, seconds):
+    """Each save stores another number of lines; wherever the program is ended, the text is that of one of them, and so are the records."""
+    for name in place.names():
+        (place.folder / name).unlink()
+    place.put("f", b"")
+    held = place.session()
+    commands = lines_of(*(command for at in range(300) for command in (insert(at, "!line"), SAVE)))
+    writer = threading.Thread(target=feed, args=(held.process.stdin, commands))
+    reader = threading.Thread(target=held.process.stdout.read)
+    writer.start()
+    reader.start()
+    time.sleep(seconds)
+    held.process.send_signal(how)
+    held.process.wait(SECONDS)
+    reader.join()
+    writer.join()
+    held.end()
+    text = place.text("f")
+    count = text.count(b"\n")
+    yield from differs("a text ended in a save", text, b"!line\n" * count)
+    records = place.text("f.desk")
+    kept = json.loads(records or "null")
+    if records and (not records.endswith(b"\n") or kept["digest"] != digest(b"!line\n" * len(kept["ids"])) or len(kept["ids"]) not in (count, count - 1)):
+        yield f"records ended in a save: {records[:200]}"
+    status = place.run("print", "f")[0]
+    yield from differs("what it opens as", status, 0 if not kept or len(kept["ids"]) == count else 8)
+    left = [name for name in place.names() if name not in ("f", "f.desk")]
+    yield from differs("what is left beside", all(".saving" in name for name in left) and len(left) < 2, True)
+
+
+def two_sessions(place):
+    """Of two sessions over one script the last save wins, whole."""
+    place.put("f", b"!a\n")
+    one, other = place.session(), place.session()
+    one.ask(insert(1, "!one"))
+    other.ask(insert(1, "!other"))
+    for held, text in ((one, b"!a\n!one\n"), (other, b"!a\n!other\n"), (one, b"!a\n!one\n")):
+        yield from differs("a save of two", held.ask(SAVE), {"digest": digest(text), "ok": True})
+        yield from differs("its script", (place.text("f"), place.names()), (text, ["f", "f.desk"]))
+        yield from opens("its script", place, ["1"])
+    yield from differs("both end", (one.end(), other.end()), ((0, ""), (0, "")))
+    texts = {}
+    for name in ("one", "other"):
+        texts[name] = f"!{name}\n".encode() * (2000 if name == "one" else 3000)
+    place.put("f", b"")
+    (place.folder / "f.desk").unlink()
+    ended = {}
+
+    def save_often(name):
+        lines = texts[name].decode().splitlines()
+        ended[name] = place.run("desk", "f", text=lines_of(insert(0, *lines), *[SAVE] * 100))
+
+    # Each has opened the empty script before the other saves.
+    threads = [threading.Thread(target=save_often, args=(name,)) for name in texts]
+    for thread in threads:
+        thread.start()
+    for thread in threads:
+        thread.join()
+    for name, (status, out, said) in ended.items():
+        if status == 0 and b'"no"' in out:
+            yield f"a save at the same time as another is refused: {out[:200]}"
+        # One that came too late has opened what the other saved, or the text of one save with the records of another.
+        yield from differs(f"{name} ends", status in (0, 8), True)
+    text, kept = place.text("f"), json.loads(place.text("f.desk"))
+    yield from differs("the text of two that save at once", text in (*texts.values(), texts["one"] + texts["other"], texts["other"] + texts["one"]), True)
+    status = place.run("print", "f")[0]
+    yield from differs("it opens", status, 0 if kept["digest"] == digest(text) else 8)
+    yield from differs("what is left beside", place.names(), ["f", "f.desk"])
+
+
+CHECKS = [
+    statuses, record_statuses, command_statuses, names_of_the_program, little_memory, full_output, closed_pipes, closed_streams,
+    broken_input, pieces, wild_clients, folders_and_links, files_beside, permissions, short_stores, small_file_systems, read_only_file_systems, devices,
+    ended_sessions, two_sessions,
+]
+
+
+def faults_of(check):
+    with tempfile.TemporaryDirectory() as folder:
+        os.chmod(folder, 0o755)
+        shutil.copy(PROGRAM, f"{folder}/fountain")
+        os.chmod(f"{folder}/fountain", 0o755)
+        try:
+            for fault in check(Place(folder)):
+                yield f"{check.__name__}: {fault}"
+        except (subprocess.TimeoutExpired, OSError, TypeError, KeyError, IndexError) as broken:
+            yield f"{check.__name__} breaks off: {broken!r}"
+
+
+def main():
+    if not PROGRAM.exists():
+        return tell("hostile", "none was run", ["the program isn't built"])
+    return tell("hostile", f"{len(CHECKS)} kinds of failure", [fault for check in CHECKS for fault in faults_of(check)])
+
+
+if __name__ == "__main__":
+    sys.exit(main())

@@ -1,0 +1,54 @@
+"""The built program, and sessions of it that are asked one command after the other."""
+
+import json
+import pathlib
+import select
+import subprocess
+
+TOP = pathlib.Path(__file__).resolve().parent.parent
+PROGRAM = TOP / "crates/fountain_cli/out/fountain_cli"
+SECONDS = 60
+SAVE = {"do": "save"}
+LABELS = {"do": "labels"}
+UNDO = {"do": "undo"}
+REDO = {"do": "redo"}
+
+
+def lines_of(*commands):
+    """Commands as lines: values as JSON, and bytes as they are."""
+    return b"".join((command if isinstance(command, bytes) else json.dumps(command).encode()) + b"\n" for command in commands)
+
+
+class Session:
+    """A session of `desk` over a script of a folder."""
+
+    def __init__(self, folder, script="f", program=PROGRAM, **how):
+        pipes = {"stdin": subprocess.PIPE, "stdout": subprocess.PIPE, "stderr": subprocess.PIPE}
+        self.process = subprocess.Popen(["fountain", "desk", script], executable=program, cwd=folder, **pipes, **how)
+
+    def send(self, data):
+        self.process.stdin.write(data)
+        self.process.stdin.flush()
+
+    def answers_soon(self, seconds=SECONDS):
+        return bool(select.select([self.process.stdout], [], [], seconds)[0])
+
+    def reply(self):
+        """The next reply; none where it doesn't come, or the session has ended."""
+        return json.loads(self.process.stdout.readline() or "null") if self.answers_soon() else None
+
+    def ask(self, command):
+        self.send(lines_of(command))
+        return self.reply()
+
+    def end(self):
+        """The status and what was told, once the input has ended; what was written behind the last reply is left."""
+        try:
+            self.process.stdin.close()
+        except BrokenPipeError:
+            pass
+        status = self.process.wait(SECONDS)
+        said = self.process.stderr.read().decode()
+        self.process.stdout.close()
+        self.process.stderr.close()
+        return status, said
