@@ -191,7 +191,7 @@ def run(folder, *words, text=b""):
 
 
 def undo_and_redo_all(watched, opening):
-    """Undoing all gives the opening, and redoing all the state before."""
+    """Undoing all gives the opening, redoing all the state before, and what was redone can be undone again."""
     last, edits = watched.state, len(watched.done)
     for _ in range(edits):
         watched.ask(UNDO)
@@ -201,6 +201,9 @@ def undo_and_redo_all(watched, opening):
     for _ in range(edits):
         watched.ask(REDO)
     same("all edits redone", watched.state, last)
+    if edits:
+        watched.ask(UNDO)
+        watched.ask(REDO)
 
 
 def go_on(rng, watched, folder):
