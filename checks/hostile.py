@@ -78,8 +78,8 @@ class Place:
         status, out, said = self.run(*words, text=lines_of(*commands), **more)
         return status, [json.loads(line) for line in out.splitlines()], said
 
-    def session(self, before=None):
-        return Session(self.folder, program=self.program, preexec_fn=before)
+    def session(self, **how):
+        return Session(self.folder, program=self.program, **how)
 
 
 def differs(what, found, expected):
@@ -203,18 +203,18 @@ def names_of_the_program(place):
 
 def little_memory(place):
     """A machine without memory costs the run alone."""
-    script = b"".join(b"!line %d\n\n" % at for at in range(60_000))
+    script = b"".join(b"!line %d\n\n" % at for at in range(99_000))
     place.put("f", script)
-    for most in (8, 16, 32):
+    for most in (16, 32):
         before = limit(resource.RLIMIT_AS, most << 20)
         yield from ends(f"print with {most} MiB", place.run("print", "f", before=before), 9)
     place.put("f", b"!a\n")
     saved = lines_of(insert(1, "!b"), {"do": "lock_scenes"}, {"do": "lock_pages"}, SAVE)
-    text = json.dumps(insert(0, *["!line"] * 100_000)).encode() + b"\n"
+    text = json.dumps(insert(0, *["!line"] * 99_000)).encode() + b"\n"
     whole = place.run("desk", "f", text=saved + text * 2)[1]
     place.put("f", b"!a\n")
     (place.folder / "f.desk").unlink()
-    ran = place.run("desk", "f", text=saved + text * 2, before=limit(resource.RLIMIT_AS, 48 << 20))
+    ran = place.run("desk", "f", text=saved + text * 2, before=limit(resource.RLIMIT_AS, 24 << 20))
     yield from differs("a session with little memory ends", (ran[0], ran[2]), (9, LINES[9]))
     if not whole.startswith(ran[1]) or not ran[1].endswith(b"\n") or ran[1].count(b"\n") < 4:
         yield f"a session with little memory writes {ran[1][:200]}"
@@ -250,7 +250,7 @@ def closed_pipes(place):
     for handler in (signal.SIG_IGN, signal.SIG_DFL):
         place.put("f", b"!a\n")
         (place.folder / "f.desk").unlink(missing_ok=True)
-        held = place.session(before=lambda: signal.signal(signal.SIGPIPE, handler))
+        held = place.session(preexec_fn=lambda: signal.signal(signal.SIGPIPE, handler))
         yield from differs("an edit", held.ask(insert(1, "!b")), {"lines": 2, "ok": True, "sheets": 1})
         yield from differs("a save", held.ask(SAVE), {"digest": digest(b"!a\n!b\n"), "ok": True})
         held.process.stdout.close()
@@ -407,9 +407,25 @@ def permissions(place):
     status, replies, _ = place.replies(insert(1, "!b"), SAVE, **how)
     yield from differs("a folder that may be written again", (status, "digest" in replies[1], place.text("f")), (0, True, b"!a\n!b\n"))
     yield from differs("the permissions", stat.S_IMODE((place.folder / "f").stat().st_mode), 0o600)
+    yield from records_that_may_not_be_written(place, how)
     place.folder.chmod(0o000)
     yield from ends("a folder that may not be entered", place.run("print", str(place.folder / "f"), cwd="/", **how), 7)
     place.folder.chmod(0o777)
+
+
+def records_that_may_not_be_written(place, how):
+    """The text is stored and the records aren't; the session goes on, and saves both once it may."""
+    records = place.folder / "f.desk"
+    kept = records.read_bytes()
+    records.chmod(0o444)
+    held = place.session(**how)
+    held.ask(insert(2, "!c"))
+    yield from differs("a save beside records that may not be written", held.ask(SAVE), REFUSED)
+    yield from differs("the files", (place.text("f"), records.read_bytes(), place.names()), (b"!a\n!b\n!c\n", kept, ["f", "f.desk"]))
+    records.chmod(0o644)
+    yield from differs("a save once they may", held.ask(SAVE), {"digest": digest(b"!a\n!b\n!c\n"), "ok": True})
+    yield from differs("its end", held.end(), (0, ""))
+    yield from opens("its script", place, ["1"])
 
 
 def short_stores(place):
