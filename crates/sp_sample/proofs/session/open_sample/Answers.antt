@@ -13,4 +13,4 @@ new-requires-clause-next g c = (opening c.args.rooms c.in_ok-script.script.items
 pub returns-in-Ok : goal.returns-in-Ok
 returns-in-Ok g c =
     subst (λ (texts : List (List ℕ)). IfOk c.new.result (λ desk. desk ≡ opened_memory (opened_state texts)))
-    (opening c.args.rooms c.in_ok-script.script.items c.as_slice.result.now c.in-Ok.lines c.as_slice.ensures.value (c.in_ok-script.ensures.reads c.requires) c.in-Ok.ensures).are c.new.ensures
+    (opening c.args.rooms c.in_ok-script.script.items c.as_slice.result.now c.in-Ok.lines c.as_slice.ensures.value (c.in_ok-script.ensures.reads c.requires) c.in-Ok.ensures).are c.new.ensures.memory
