@@ -23,4 +23,4 @@ returns-in_err-open-clause-refused g c = λ sink.
 pub returns-clause-opened : goal.returns-clause-opened
 returns-clause-opened g c =
     let had = c.in_ok-opened.ensures.had in
-    record { state = _; has = has-state c.args.name.now _ _ _ _ _ had; same = had.had.1; is = c.in_ok-open.ensures.memory }
+    record { state = _; has = has-state c.args.name.now _ _ _ _ _ had; same = had.had.1; is = c.in_ok-open.ensures.memory; whole = c.sheets.ensures.whole; linked = c.sheets.ensures.linked }
