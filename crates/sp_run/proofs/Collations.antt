@@ -36,10 +36,16 @@ record IsLong (o : Option Files) (name : List ℕ) : Type 0 where
   has : IfSome o (λ files. files name ≡ Some bytes)
   high : sheets_limit < length bytes
 
+-- There is a list longer than any number.
+record LongList (n : ℕ) : Type 0 where
+  bytes : List ℕ
+  high : n < length bytes
+
+long-list : (n : ℕ) → LongList n
+long-list n = let size = length-replicate {A = ℕ} (n + 1) 0 in record { bytes = replicate (n + 1) 0; high = omega (arith, size) }
+
 is_long : (o : Option Files) (name : List ℕ) → IfSome o (λ files. IsSomeAnd (files name) (λ bytes. sheets_limit < length bytes)) → IsLong o name
-is_long None name long =
-    let size = length-replicate 268435457 0 in
-    record { bytes = replicate 268435457 0; has = tt; high = omega (arith, size) }
+is_long None name long = let it = long-list sheets_limit in record { bytes = it.bytes; has = tt; high = it.high }
 is_long (Some files) name long = by (files name) refl long
   where
     by : (o : Option (List ℕ)) → files name ≡ o → IsSomeAnd o (λ bytes. sheets_limit < length bytes) → IsLong (Some files) name
@@ -129,22 +135,24 @@ module _ (old new : List ℕ) where
   second-refused shelf between after bytes statuses.InputFull first it = absurd it
   second-refused shelf between after bytes (statuses.BadSheets file sheet) first it = absurd it
 
-  -- Both were fetched.
-  pub both-come : (shelf between after : ShelfState) (one other : List ℕ) (fate : Collating) → FetchedSheets shelf between old one → FetchedSheets between after new other → collating one other ≡ fate
-      → Comes old new shelf after (fate_by fate)
-  both-come shelf between after one other fate first second is = record {
+  -- Both were fetched, and these views of them were collated.
+  pub both-come : (shelf between after : ShelfState) (one other seen beside : List ℕ) (fate : Collating) → FetchedSheets shelf between old one → FetchedSheets between after new other
+      → seen ≡ one → beside ≡ other → collating seen beside ≡ fate → Comes old new shelf after (fate_by fate)
+  both-come shelf between after one other seen beside fate first second sees views is = record {
     first = Some one;
     second = Some other;
     has_first = (first.finds).found;
     has_second = subst (λ (o : Option Files). IfSome o (λ files. files new ≡ Some other)) (first.finds).same (second.finds).found;
-    is = within one passes_limit (second_fate new one (Some other)) first.low ∙ within other passes_limit (fate_by (collating one other)) second.low ∙ ap fate_by is;
+    is = within one passes_limit (second_fate new one (Some other)) first.low ∙ within other passes_limit (fate_by (collating one other)) second.low
+        ∙ ap fate_by ((λ i. collating (sym sees i) (sym views i)) ∙ is);
     same = both-same shelf between after (first-same shelf between one first) (record { files = (second.finds).same; faults = (second.finds).kept });
   }
 
-  pub collation-refused : (shelf between after : ShelfState) (one other : List ℕ) (fault : CollateFault) → FetchedSheets shelf between old one → FetchedSheets between after new other
-      → IsNotCollated (collating one other) fault → NotCollated old new shelf after (status_of_sheets fault)
-  collation-refused shelf between after one other (sheets_faults.BadSheets file sheet) first second is = both-come shelf between after one other (bad_sheets file sheet) first second is
-  collation-refused shelf between after one other sheets_faults.NoMemory first second is =
+  pub collation-refused : (shelf between after : ShelfState) (one other seen beside : List ℕ) (fault : CollateFault) → FetchedSheets shelf between old one → FetchedSheets between after new other
+      → seen ≡ one → beside ≡ other → IsNotCollated (collating seen beside) fault → NotCollated old new shelf after (status_of_sheets fault)
+  collation-refused shelf between after one other seen beside (sheets_faults.BadSheets file sheet) first second sees views is =
+      both-come shelf between after one other seen beside (bad_sheets file sheet) first second sees views is
+  collation-refused shelf between after one other seen beside sheets_faults.NoMemory first second sees views is =
       both-same shelf between after (first-same shelf between one first) (record { files = (second.finds).same; faults = (second.finds).kept })
 
   -- Nothing was written of what wasn't collated.

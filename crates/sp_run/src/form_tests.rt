@@ -82,3 +82,33 @@ fn other_numbers_are_usage(rt: HostRuntime) -> Result<(), Fail> {
     }
     Ok(())
 }
+
+#[test]
+fn files_of_sheets_are_collated(rt: HostRuntime) -> Result<(), Fail> {
+    let alloc = rt.alloc();
+    let sheets = "\n\nT\n\u{c} 1.\n\na\n\u{c} 2-3.\n\nOMITTED\n\u{c}";
+    let packet = "\n\nS\n\u{c} Blue 2.\n\nb\n\u{c}";
+    let both = "\n\nS\n\u{c} 1.\n\na\n\u{c} Blue 2.\n\nb\n\u{c}";
+    // What stands under `o` and `n`, the status of each, and what was written.
+    let cases = [
+        (Some(sheets), Some(packet), 0, both),
+        (Some(sheets), Some(sheets), 0, sheets),
+        (Some("x"), Some("x"), 13, ""),
+        (Some(sheets), Some(" 1.\n"), 13, ""),
+        (Some(sheets), None, 3, ""),
+        (None, Some("x"), 3, ""),
+    ];
+    for (old, new, code, expected) in cases {
+        let mut shelf = MemoryShelf::new(alloc, Vec::new(alloc));
+        if let Some(old) = old {
+            assert!(rt; shelf.store("o", old.as_bytes()).is_ok());
+        }
+        if let Some(new) = new {
+            assert!(rt; shelf.store("n", new.as_bytes()).is_ok());
+        }
+        let (status, bytes) = ended(alloc, &["collate", "o", "n"], &mut shelf)?;
+        assert_eq!(rt; status.code(), code, "{expected}");
+        assert_eq!(rt; bytes.as_slice(), expected.as_bytes());
+    }
+    Ok(())
+}
