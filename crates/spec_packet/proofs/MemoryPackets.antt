@@ -5,13 +5,14 @@ use Rattle.std.proofs.lemmas.List.Elements.{All-head}
 use Rattle.spec_labels.specs.PageRecords.{PageRecordOf}
 use Rattle.spec_state.specs.State.{State}
 use Rattle.spec_state.specs.Keeping.{IsWhole}
-use Rattle.spec_state.specs.Openings.{pages_locked, round_begun}
 use Rattle.spec_state.proofs.StateLaws.{state-AreKeptPages}
 use Rattle.spec_collation.specs.BytesCollated.{collated_bytes, collating}
-use Rattle.spec_machine.specs.Machine.{EntryOf, Memory, CanLockPages, CanBegin}
+use Rattle.spec_machine.specs.Machine.{EntryOf, Memory}
 use Rattle.spec_machine.specs.KeptMemories.{IsEntry, IsWholeMemory}
 use Rattle.spec_locked_pages.specs.Chains.{AreLinked, IsOpened, first_state}
+use Rattle.spec_locked_pages.proofs.OpeningLaws.{lock-opened, round-opened}
 use Rattle.spec_locked_pages.proofs.StateStarts.{SomeRecords}
+use Rattle.spec_packet.specs.PacketPromises.{ArePacketLaws}
 use Rattle.spec_packet.specs.StatePackets.{laid_of, title_bytes, packet_bytes, BringsUp}
 use Rattle.spec_packet.proofs.EditRecords.{Chained, entries-chained}
 use Rattle.spec_packet.proofs.PrintedLaws.{packet-bytes}
@@ -44,3 +45,10 @@ pub packet-brings : (memory : Memory) → IsWholeMemory memory → AreLinked mem
 packet-brings memory whole linked locked pages_open =
     chain-brings (first_state memory.done memory.state) memory.state (first-whole memory.done memory.state whole.state whole.done) whole.state locked pages_open
     (entries-chained memory.done memory.state locked linked.done)
+
+pub packet-laws : (memory : Memory) → IsWholeMemory memory → AreLinked memory → ArePacketLaws memory
+packet-laws memory whole linked = record {
+  lock = λ can. lock-opened memory.state whole.state can;
+  round = λ can. round-opened memory.state whole.state can;
+  packet = packet-brings memory whole linked;
+}

@@ -3,3 +3,4 @@ pub mod PrintedTexts
 pub mod RecordRows
 pub mod SheetFacts
 pub mod StatePackets
+pub mod PacketPromises
