@@ -1,12 +1,12 @@
 -- Headings and their labels, rows and records.
-use Rattle.std.proofs.Common.{◌≡◌, ℕ, suc, ◌+◌, ◌==◌, ◌&&◌, ◌||◌, Bool, true, false, cond, not, Option, Some, None, List, [], ◌∷◌, ◌++◌, length, map, filter, refl, sym, ap, ◌∙◌, arith, append-nil}
+use Rattle.std.proofs.Common.{◌≡◌, ℕ, suc, ◌+◌, Bool, true, false, cond, Option, Some, None, List, [], ◌∷◌, ◌++◌, length, map, filter, refl, ap, ◌∙◌, arith}
 use Rattle.std.specs.Prelude.{All, AllPairs, unwrap_or, IfSome}
 use Rattle.std.proofs.lemmas.List.{length-map}
 use Rattle.std.proofs.lemmas.List.Elements.{All-nil, All-cons, All-head, All-tail}
 use Rattle.std.proofs.lemmas.List.Kept.{AllPairs-filter, AllPairs-cons}
 use Rattle.spec_text.proofs.ListLaws.{pairs-head, pairs-tail}
-use Rattle.spec_labels.specs.Labels.{LabelOf, plain_label, Below, Rising}
-use Rattle.spec_labels.specs.Scenes.{HeadingOf, SceneRecordOf, AreSceneRecords, numbers_after, unlocked_labels, labels_since, record_place, record_places, locked_labels, scene_labels}
+use Rattle.spec_labels.specs.Labels.{LabelOf, plain_label, Below}
+use Rattle.spec_labels.specs.Scenes.{HeadingOf, SceneRecordOf, AreSceneRecords, numbers_after, labels_since, record_place, record_places, scene_labels}
 use Rattle.spec_pages.specs.declared.Shape.{Shape}
 use Rattle.spec_machine.specs.Outlines.{begins_heading, heading_rows, is_gone, gone_labels}
 

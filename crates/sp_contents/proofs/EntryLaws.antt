@@ -1,5 +1,5 @@
 -- The entries at a heading, and those behind all blocks.
-use Rattle.std.proofs.Common.{◌≡◌, ℕ, ◌+◌, ◌<◌, ◌≤◌, ◌==◌, Bool, true, false, cond, List, [], ◌∷◌, ◌++◌, length, map, filter, drop, refl, sym, ap, ◌∙◌, subst, arith, append-nil, append_assoc}
+use Rattle.std.proofs.Common.{◌≡◌, ℕ, ◌+◌, ◌<◌, ◌≤◌, true, cond, List, [], ◌∷◌, ◌++◌, length, map, filter, drop, refl, sym, ap, ◌∙◌, subst, arith, append-nil, append_assoc}
 use Rattle.std.specs.Prelude.{AllPairs, slice_range}
 use Rattle.std.proofs.lemmas.List.{drop_all, map-append}
 use Rattle.spec_script.specs.declared.Kind.{Kind}
@@ -8,7 +8,7 @@ use Rattle.spec_script.specs.Stanzas.{PlacedBlock}
 use Rattle.spec_labels.specs.Labels.{LabelOf, Below}
 use Rattle.spec_outline.specs.Outline.{EntryOf}
 use Rattle.spec_state.specs.Headings.{is_heading_kind, is_heading_block}
-use Rattle.spec_machine.specs.Outlines.{Scenes, first_above, omitted_at, scene_entry, kind_entries, block_entries, entries_from, entries_of}
+use Rattle.spec_machine.specs.Outlines.{Scenes, omitted_at, scene_entry, kind_entries, entries_from, entries_of}
 use Rattle.sp_outline.specs.declared.entry.Entry.{Entry}
 use Rattle.sp_outline.specs.Entries.{entry_of}
 use Rattle.sp_contents.specs.Walks.{AddsBlock, IsAbove, IsWalked, label_at, omitted_of}

@@ -1,5 +1,5 @@
 -- One more heading, record, block or row.
-use Rattle.std.proofs.Common.{◌≡◌, ℕ, zero, suc, ◌+◌, ◌<◌, ◌==◌, ◌||◌, Bool, true, false, cond, not, Option, Some, None, List, [], ◌∷◌, ◌++◌, length, map, filter, take, drop, get_or, nat_lt, nat_cmp, Less, Equal, Greater, refl, sym, ap, ◌∙◌, subst, ⊎_elim, ne_eqb, ltb-true, arith, add-one, drop-cons}
+use Rattle.std.proofs.Common.{◌≡◌, ℕ, ◌+◌, ◌<◌, ◌==◌, ◌||◌, Bool, true, false, cond, Option, Some, List, [], ◌∷◌, ◌++◌, length, map, filter, take, drop, get_or, nat_lt, nat_cmp, Less, Equal, Greater, refl, sym, ap, ◌∙◌, ⊎_elim, ne_eqb, ltb-true, arith, add-one, drop-cons}
 use Rattle.std.specs.Prelude.{is_some}
 use Rattle.std.specs.List.{list_any}
 use Rattle.std.specs.Ordering.{is_eq}
@@ -11,7 +11,6 @@ use Rattle.spec_script.specs.Stanzas.{PlacedBlock}
 use Rattle.spec_labels.specs.Labels.{LabelOf}
 use Rattle.spec_labels.specs.Scenes.{HeadingOf, SceneRecordOf}
 use Rattle.spec_layout.specs.Speakers.{cue_text, name_in}
-use Rattle.spec_outline.specs.Outline.{EntryOf}
 use Rattle.spec_state.specs.Headings.{is_heading_block}
 use Rattle.spec_machine.specs.Outlines.{Scenes, begins_heading, heading_rows, is_gone, is_speech_block, speaker_names, block_entries, entries_from, headings_behind}
 use Rattle.sp_contents.specs.Gone.{has_line, gone_among}

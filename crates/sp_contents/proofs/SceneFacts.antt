@@ -1,5 +1,5 @@
 -- What the headings and the records of a state are.
-use Rattle.std.proofs.Common.{◌≡◌, List, Option, Some, None, length, map, filter, refl, sym, ap, ◌∙◌, subst}
+use Rattle.std.proofs.Common.{◌≡◌, List, Option, Some, None, length, filter, refl, sym, ◌∙◌, subst}
 use Rattle.std.specs.Prelude.{All, AllPairs, IfSome, option_map}
 use Rattle.std.proofs.lemmas.List.{length-map}
 use Rattle.spec_text.specs.Lines.{TextState, IsText, line_texts}
@@ -13,7 +13,7 @@ use Rattle.spec_state.specs.State.{State}
 use Rattle.spec_state.specs.Headings.{headings_of, heading_of, is_heading_block}
 use Rattle.spec_state.specs.Keeping.{IsWhole}
 use Rattle.spec_state.proofs.StateLaws.{state-AreSceneRecords}
-use Rattle.spec_machine.specs.Outlines.{scenes_of, gone_labels}
+use Rattle.spec_machine.specs.Outlines.{scenes_of}
 use Rattle.sp_contents.proofs.Counts.{label-count, gone-rising}
 
 -- The records of a state, as values of the program show them.

@@ -1,12 +1,12 @@
 -- Past which of the scenes that are gone a walk goes.
-use Rattle.std.proofs.Common.{◌≡◌, ◌⊎◌, inl, inr, not, ◌-◌, ℕ, zero, suc, ◌+◌, ◌<◌, ◌≤◌, ◌==◌, Bool, true, false, cond, List, [], ◌∷◌, ◌++◌, length, map, filter, take, drop, get_or, refl, sym, ap, ◌∙◌, subst, eq-eqb, ne_eqb, eqb-true, take_all, length-drop, arith}
-use Rattle.std.specs.Prelude.{All, AllPairs, slice_range}
+use Rattle.std.proofs.Common.{◌≡◌, ◌⊎◌, inl, inr, not, ◌-◌, ℕ, zero, suc, ◌+◌, ◌<◌, ◌≤◌, ◌==◌, Bool, true, false, cond, List, [], ◌∷◌, length, filter, take, drop, get_or, refl, sym, ap, ◌∙◌, subst, eq-eqb, ne_eqb, take_all, length-drop, arith}
+use Rattle.std.specs.Prelude.{AllPairs, slice_range}
 use Rattle.std.specs.List.{position_or_len, prefix_len}
 use Rattle.std.specs.Ordering.{is_lt}
 use Rattle.std.specs.declared.cmp.Ordering.{Ordering}
 use Rattle.std.specs.declared.cmp.Ordering.TheVariants.{Less, Equal, Greater}
 use Rattle.std.proofs.lemmas.Bool.{cases_lt}
-use Rattle.std.proofs.lemmas.List.Sums.{position_or_len_is, prefix_len-le-length}
+use Rattle.std.proofs.lemmas.List.Sums.{prefix_len-le-length}
 use Rattle.spec_labels.specs.Labels.{LabelOf, plain_label, label_cmp, Below}
 use Rattle.spec_labels.proofs.LabelOrder.{Below-transitive}
 use Rattle.spec_machine.specs.Outlines.{first_above}

@@ -1,5 +1,5 @@
 -- A walk over the blocks of a text, past the scenes that are gone.
-use Rattle.std.specs.Prelude.{◌≡◌, ℕ, ◌<◌, ◌≤◌, true, false, IsTrue, List, ◌++◌, length, map, slice_range, slice_index_or}
+use Rattle.std.specs.Prelude.{◌≡◌, ℕ, ◌<◌, ◌≤◌, true, false, List, ◌++◌, length, map, slice_index_or}
 use Rattle.std.specs.Ordering.{is_lt}
 use Rattle.spec_script.specs.Stanzas.{PlacedBlock}
 use Rattle.spec_labels.specs.Labels.{LabelOf, plain_label, label_cmp, label_text}

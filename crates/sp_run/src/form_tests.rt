@@ -24,19 +24,35 @@ fn ended(
     Ok((status, output.taken().to_vec(alloc)?))
 }
 
+const LAMP: &str =
+    "Title: The Lamp\nAuthor: A. Writer\n\nFADE IN:\n\nINT. KITCHEN - DAY #1#\n\nANNA (30) lights a lamp. [[check prop]]\n\n\
+    ANNA\n(softly)\nIt is *late*.\n\nBERT\nGo.\n\nANNA ^\nStay.\n\n~La la la\n\n> CUT TO:\n\n= Anna leaves.\n\nEXT. STREET - NIGHT\n";
+
 #[test]
-fn a_script_is_outlined(rt: HostRuntime) -> Result<(), Fail> {
+fn scripts_are_shown(rt: HostRuntime) -> Result<(), Fail> {
     let alloc = rt.alloc();
-    let script =
-        "Title: The Lamp\nAuthor: A. Writer\n\nFADE IN:\n\nINT. KITCHEN - DAY #1#\n\nANNA (30) lights a lamp. [[check prop]]\n\n\
-        ANNA\n(softly)\nIt is *late*.\n\nBERT\nGo.\n\nANNA ^\nStay.\n\n~La la la\n\n> CUT TO:\n\n= Anna leaves.\n\nEXT. STREET - NIGHT\n";
-    let outline =
-        "1\t1\tINT. KITCHEN - DAY\n= Anna leaves.\n2\t1\tEXT. STREET - NIGHT\n\nANNA\t2\nBERT\t1\n";
-    let mut shelf = MemoryShelf::new(alloc, Vec::new(alloc));
-    assert!(rt; shelf.store("f", script.as_bytes()).is_ok());
-    let (status, bytes) = ended(alloc, &["outline", "f"], &mut shelf)?;
-    assert_eq!(rt; status, Status::Done);
-    assert_eq!(rt; bytes.as_slice(), outline.as_bytes());
+    // A form, a script, and what is written of it.
+    let cases = [
+        (
+            "outline",
+            LAMP,
+            "1\t1\tINT. KITCHEN - DAY\n= Anna leaves.\n2\t1\tEXT. STREET - NIGHT\n\nANNA\t2\nBERT\t1\n",
+        ),
+        (
+            "html",
+            "!*a* < b",
+            "<!DOCTYPE html><html><head><meta charset=\"utf-8\"></head><body><pre><b>                                                                         1.</b>\n\n\
+            \x20              <i>a</i> &lt; b\n</pre></body></html>",
+        ),
+        ("cast", LAMP, "ANNA\n\t1\t2\t1\nBERT\n\t1\t1\t1\n"),
+    ];
+    for (form, script, shown) in cases {
+        let mut shelf = MemoryShelf::new(alloc, Vec::new(alloc));
+        assert!(rt; shelf.store("f", script.as_bytes()).is_ok());
+        let (status, bytes) = ended(alloc, &[form, "f"], &mut shelf)?;
+        assert_eq!(rt; status, Status::Done, "{form}");
+        assert_eq!(rt; bytes.as_slice(), shown.as_bytes(), "{form}");
+    }
     Ok(())
 }
 

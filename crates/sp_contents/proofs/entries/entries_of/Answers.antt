@@ -1,4 +1,4 @@
-use Rattle.std.proofs.Common.{◌≡◌, ◌++◌, map, drop, ap, ◌∙◌, arith}
+use Rattle.std.proofs.Common.{◌++◌, map, drop, ap, ◌∙◌, arith}
 use Rattle.spec_text.specs.Lines.{line_texts}
 use Rattle.sp_outline.specs.Entries.{entry_of}
 use Rattle.sp_contents.specs.Walks.{omitted_of}

@@ -1,4 +1,4 @@
-use Rattle.std.proofs.Common.{◌≡◌, List, length, filter, ap, sym, subst, ◌∙◌}
+use Rattle.std.proofs.Common.{List, length, filter, ap, sym, subst, ◌∙◌}
 use Rattle.std.specs.Prelude.{AllPairs}
 use Rattle.spec_text.specs.Lines.{LineState, TextState, line_texts}
 use Rattle.spec_script.specs.Stanzas.{PlacedBlock, blocks_from, blocks_of}

@@ -1,4 +1,4 @@
-use Rattle.std.proofs.Common.{◌≡◌, List, ap, sym, ◌∙◌}
+use Rattle.std.proofs.Common.{List, ap, sym, ◌∙◌}
 use Rattle.spec_text.specs.Lines.{LineState, TextState, line_texts}
 use Rattle.spec_script.specs.Stanzas.{blocks_of}
 use Rattle.sp_text.specs.Gap.{text_of}

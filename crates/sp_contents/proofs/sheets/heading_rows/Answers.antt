@@ -1,4 +1,4 @@
-use Rattle.std.proofs.Common.{◌≡◌, true, false, ap, sym, ◌∙◌, append-nil}
+use Rattle.std.proofs.Common.{true, false, ap, sym, ◌∙◌, append-nil}
 use Rattle.sp_contents.proofs.Pushes.{rows-step}
 use Rattle.sp_contents.proofs.sheets.heading_rows.Goals as goal
 use Rattle.sp_contents.proofs.sheets.heading_rows.Goals.{then-begins_heading+in_ok-push, else-begins_heading}
