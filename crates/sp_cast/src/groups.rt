@@ -89,10 +89,7 @@ pub(crate) fn by_name(alloc: Global, all: &[Said]) -> Result<Vec<Group<'_>>, All
 }
 
 /// Those of each scene among the speeches of a group.
-pub(crate) fn by_scene<'a>(
-    alloc: Global,
-    group: &Group<'a>,
-) -> Result<Vec<Group<'a>>, AllocError>
+pub(crate) fn by_scene<'a>(alloc: Global, group: &Group<'a>) -> Result<Vec<Group<'a>>, AllocError>
     ensures { IfOk result (λ groups. groups.items ≡ grouped scene_eq scene_of group.now) }
 {
     let mut scenes = IndexSet::new(alloc);
