@@ -154,12 +154,12 @@ def peak_memory(path):
 
 def main():
     parser = argparse.ArgumentParser()
-    parser.add_argument("--kind", choices=sorted([*KINDS, *LINES, "session", "locks"]), action="append")
+    parser.add_argument("--kind", choices=sorted([*KINDS, *LINES, "session", "locks", "cast"]), action="append")
     parser.add_argument("--runs", type=int, default=5)
     parser.add_argument("--most", type=int, default=16)
     options = parser.parse_args()
     subprocess.run([TOP / "run", "print"], stdin=subprocess.DEVNULL, check=True)
-    kinds = options.kind or [*KINDS, *LINES, "session", "locks"]
+    kinds = options.kind or [*KINDS, *LINES, "session", "locks", "cast"]
     with tempfile.TemporaryDirectory() as folder:
         folder = pathlib.Path(folder)
         if sizes := [kind for kind in kinds if kind in KINDS]:
@@ -170,6 +170,8 @@ def main():
             time_sessions(folder, options)
         if "locks" in kinds:
             time_locks(folder, options)
+        if "cast" in kinds:
+            time_cast(folder, options)
 
 
 def growth(before, seconds):
@@ -222,6 +224,25 @@ def time_sessions(folder, options):
             times.append(least(DESK, path, 1 if lines == 200_000 else options.runs))
         opened, spliced, undone = times
         print(f"{'session':10} {lines:7} {opened:9.4f} {(spliced - opened) / EDITS:9.5f} {(undone - spliced) / EDITS:9.5f}", flush=True)
+
+
+def time_cast(folder, options):
+    """Times the sides of speeches by many names, and of one name in many scenes, by the number of lines."""
+    scripts = {
+        "names": lambda speeches: "".join(f"@NAME {i % (speeches // 10)}\n\n" for i in range(speeches)),
+        "scenes": lambda speeches: "".join(f".A\n\n@ANNA\n\n" for _ in range(speeches // 2)),
+    }
+    print(f"{'kind':10} {'lines':>7} {'cast s':>9} {'growth':>7} {'/ print':>8}")
+    for kind, text in scripts.items():
+        before = None
+        for speeches in (12_500, 25_000, 50_000, 100_000):
+            path = folder / f"cast{kind}{speeches}"
+            path.write_text(text(speeches))
+            seconds = least('"$PROGRAM" cast "$FILE" > /dev/null', path, options.runs)
+            other = least(PRINT, path, options.runs)
+            print(f"{kind:10} {2 * speeches:7} {seconds:9.4f} {growth(before, seconds)} {seconds / other:8.2f}", flush=True)
+            before = seconds
+            path.unlink()
 
 
 def time_locks(folder, options):

@@ -4,3 +4,4 @@ mod Counts
 mod Pushes
 mod EntryLaws
 mod SceneFacts
+mod SaidSteps

@@ -9,7 +9,7 @@ use sp_layout::{PlacedBlock, speaker_name};
 use sp_text::Lines;
 use std::alloc::{AllocError, Global};
 
-fn is_speech(placed: &PlacedBlock<'_>) -> bool
+pub(crate) fn is_speech(placed: &PlacedBlock<'_>) -> bool
     ensures { result ≡ is_speech_block placed.now }
 {
     let block = placed.block;

@@ -64,7 +64,7 @@ fn sheet_at(sheets: &[Sheet], place: usize) -> Option<&Sheet>
 }
 
 /// The sheet with a row, by halves.
-fn sheet_of(sheets: &[Sheet], row: usize) -> Option<&Sheet>
+pub(crate) fn sheet_of(sheets: &[Sheet], row: usize) -> Option<&Sheet>
     requires { AreInTurn sheets.now }
     ensures { option_copied result ≡ find (has_row row) sheets.now }
 {

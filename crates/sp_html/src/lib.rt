@@ -7,4 +7,3 @@ mod marks;
 mod sheet;
 
 pub use sheet::write_html;
-

@@ -142,7 +142,7 @@ ShowEnds view origin old new (statuses.BadSheets file sheet) = ⊥
 
 -- Each save that failed raised the shelf's count of faults, where the count can tell.
 abbrev pub CountsUnsaved : ShelfState → ShelfState → List (List ℕ) → List (Answered (AtShelf NamedDesk)) → Type 0
-CountsUnsaved old new lines steps = new.faults < 2 ^ 64 - 1 → old.faults + unsaved_count lines steps ≤ new.faults
+CountsUnsaved old new asked steps = new.faults < 2 ^ 64 - 1 → old.faults + unsaved_count asked steps ≤ new.faults
 
 -- The shelf has a script under the name; it was opened as a desk with what stands beside it, and so its session ended, which
 -- left the shelf as it is now. All memories that the desk had keep what is promised.

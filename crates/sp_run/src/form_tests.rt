@@ -29,13 +29,26 @@ fn ended(
 }
 
 #[test]
-fn a_script_is_outlined(rt: HostRuntime) -> Result<(), Fail> {
+fn scripts_are_shown(rt: HostRuntime) -> Result<(), Fail> {
     let alloc = rt.alloc();
-    let mut shelf = MemoryShelf::new(alloc, Vec::new(alloc));
-    assert!(rt; shelf.store("f", LAMP.as_bytes()).is_ok());
-    let (status, bytes) = ended(alloc, &["outline", "f"], &mut shelf)?;
-    assert_eq!(rt; status, Status::Done);
-    assert_eq!(rt; bytes.as_slice(), LAMP_OUTLINE.as_bytes());
+    // A form, a script, and what is written of it.
+    let cases = [
+        ("outline", LAMP, LAMP_OUTLINE),
+        (
+            "html",
+            "!*a* < b",
+            "<!DOCTYPE html><html><head><meta charset=\"utf-8\"></head><body><pre><b>                                                                         1.</b>\n\n\
+            \x20              <i>a</i> &lt; b\n</pre></body></html>",
+        ),
+        ("cast", LAMP, "ANNA\n\t1\t2\t1\nBERT\n\t1\t1\t1\n"),
+    ];
+    for (form, script, shown) in cases {
+        let mut shelf = MemoryShelf::new(alloc, Vec::new(alloc));
+        assert!(rt; shelf.store("f", script.as_bytes()).is_ok());
+        let (status, bytes) = ended(alloc, &[form, "f"], &mut shelf)?;
+        assert_eq!(rt; status, Status::Done, "{form}");
+        assert_eq!(rt; bytes.as_slice(), shown.as_bytes(), "{form}");
+    }
     Ok(())
 }
 

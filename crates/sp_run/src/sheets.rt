@@ -19,8 +19,8 @@ use sp_state::Script;
 use std::alloc::{AllocError, Global};
 
 /// What stands before the sheets of a page for a browser, and behind them.
-const BEFORE_SHEETS: &str =
-    "<!DOCTYPE html><html><head><meta charset=\"utf-8\"></head><body>";
+const BEFORE_SHEETS: &str = "<!DOCTYPE html><html><head><meta charset=\"utf-8\"></head><body>";
+
 const BEHIND_SHEETS: &str = "</body></html>";
 
 /// How a sheet is written.

@@ -1,7 +1,9 @@
-//! Writing a script: its sheets, its outline or its page for a browser to the sink (docs/RULES.md, "The program").
+//! Writing a script: its sheets, its outline, its page for a browser or the sides of its cast to the sink (docs/RULES.md, "The program").
 ghost use Rattle.std.specs.Prelude.{◌≡◌, ◌+◌};
 ghost use Rattle.spec_text.specs.Limits.{raw_limit};
 ghost use Rattle.spec_machine.specs.Outlines.{outline_of};
+ghost use Rattle.spec_cast.specs.Said.{said_of};
+ghost use Rattle.spec_cast.specs.Sides.{sides_of};
 ghost use Rattle.sp_run.specs.Forms.{origin_of, view_bytes};
 ghost use Rattle.sp_run.specs.Opening.{LeavesSource, LeavesShelf};
 ghost use Rattle.sp_run.specs.Ending.{EndsAs, ReadsUpTo, outside};
@@ -11,7 +13,8 @@ use crate::form::{Origin, View};
 use crate::opening::open_state;
 use crate::sheets::{write_pages, write_sheets};
 use crate::status::Status;
-use sp_contents::outline_text;
+use sp_cast::sides;
+use sp_contents::{outline_text, said};
 use sp_kit::{Shelf, Sink, Source, Steps, write_whole};
 use sp_state::Script;
 use std::alloc::Global;
@@ -50,6 +53,7 @@ fn write_view<O: Sink>(
         View::Sheets => write_sheets(alloc, script, output),
         View::Outline => write_outline(alloc, script, output),
         View::Html => write_pages(alloc, script, output),
+        View::Cast => write_cast(alloc, script, output),
     }
 }
 
@@ -58,6 +62,16 @@ fn write_outline<O: Sink>(alloc: Global, script: &Script, output: &mut O) -> Res
     ensures { IsWritten (O.state output.old) (O.state output.new) (outline_of script.now) result }
 {
     let text = outline_text(alloc, script)?;
+    write_whole(output, text.as_bytes())?;
+    Ok(())
+}
+
+/// Writes the sides of a script's cast, which are made whole first.
+fn write_cast<O: Sink>(alloc: Global, script: &Script, output: &mut O) -> Result<(), Status>
+    ensures { IsWritten (O.state output.old) (O.state output.new) (sides_of (said_of script.now)) result }
+{
+    let said = said(alloc, script)?;
+    let text = sides(alloc, &said)?;
     write_whole(output, text.as_bytes())?;
     Ok(())
 }

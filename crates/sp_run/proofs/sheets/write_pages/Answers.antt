@@ -1,3 +1,4 @@
+use Rattle.std.specs.Prelude.{Err}
 use Rattle.std.specs.List.{flat_map}
 use Rattle.spec_html.specs.HtmlSheets.{before_sheets, behind_sheets, pages_html, sheet_html}
 use Rattle.spec_html.proofs.PagesLaws.{pages-styles}
@@ -24,7 +25,7 @@ returns-in_err-write_all-clause-written g c =
     let mid = g.O.Sink.state c.write_text.new.output in
     let new = g.O.Sink.state c.write_all.new.output in
     as_error old new (pages_html sheets) c.in_err-write_all.field-0.0 c.from_residual-in_err-write_all.result c.from_residual-in_err-write_all.ensures.1
-    (written-both old mid new before_sheets (flat_map sheet_html sheets ++ behind_sheets) _ c.in_ok-write_text.ensures
+    (written-both old mid new before_sheets (flat_map sheet_html sheets ++ behind_sheets) (Err c.in_err-write_all.field-0.0) c.in_ok-write_text.ensures
     (written-first mid new (flat_map sheet_html sheets) behind_sheets c.in_err-write_all.field-0.0 c.in_err-write_all.ensures))
 
 pub returns-in_err-write_all-clause-shows : goal.returns-in_err-write_all-clause-shows

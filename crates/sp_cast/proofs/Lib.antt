@@ -1,0 +1,3 @@
+mod AddLaws
+mod KeyLaws
+mod SheetTexts

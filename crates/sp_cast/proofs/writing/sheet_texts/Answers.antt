@@ -1,0 +1,36 @@
+use Rattle.std.proofs.Common.{rules, ◌≡◌, ◌<◌, ◌∷◌, ◌++◌, [], true, false, length, map, get_or, append-nil, ap, sym, ◌∙◌, arith}
+use Rattle.std.specs.Prelude.{string_bytes}
+use Rattle.std.proofs.lemmas.List.{map-append}
+use Rattle.spec_labels.specs.Labels.{label_text}
+use Rattle.sp_cast.specs.Keys.{label_of}
+use Rattle.sp_cast.proofs.SheetTexts.{labels-step, texts-step}
+use Rattle.sp_cast.proofs.writing.sheet_texts.Goals.{then-branch+in_ok-scene_label_text+in_ok-push, else-branch}
+use Rattle.sp_cast.proofs.writing.sheet_texts.Goals as goal
+
+pub loop-spoken-preserved : goal.loop-spoken-preserved
+loop-spoken-preserved c =
+    let all = c.args.group.now in
+    let i = c.loop-spoken.spoken-index in
+    let item = c.spoken-item.result in
+    let same : c.deref-spoken-items.result.now ≡ all = search rules in
+    let sheet : label_of c.label_key.result ≡ item.sheet = search rules in
+    let shown : c.said.inside.sheet ≡ item.sheet = search rules in
+    let size = ap length same in
+    let inside : i < length all = let low = c.loop-spoken-test.true in omega (arith, low, size) in
+    let here = c.spoken-item.is ∙ ap (λ those. get_or those i item) same in
+    let old = map string_bytes c.loop-spoken.texts.items in
+    let so_far = c.loop-spoken.invariant in
+    record {
+      labels = labels-step all i item c.loop-spoken.sheets.keys _ c.label_key.result inside here sheet c.in_ok-insert.ensures.keys so_far.labels;
+      texts = elim c.if-branch.branch [
+        | then-branch+in_ok-scene_label_text+in_ok-push w ↦
+            texts-step all i item c.loop-spoken.sheets.keys c.label_key.result old (map string_bytes c.if-branch.texts.items) true inside here sheet
+            (sym w.if-branch.true ∙ c.in_ok-insert.ensures.added) so_far.labels so_far.texts
+            (ap (λ v. map string_bytes v.items) w.texts-is ∙ ap (map string_bytes) w.in_ok-push.ensures.items ∙ map-append string_bytes c.loop-spoken.texts.items (w.in_ok-scene_label_text.field-0 ∷ [])
+            ∙ ap (λ text. old ++ text ∷ []) (w.in_ok-scene_label_text.ensures ∙ ap label_text shown))
+        | else-branch w ↦
+            texts-step all i item c.loop-spoken.sheets.keys c.label_key.result old (map string_bytes c.if-branch.texts.items) false inside here sheet
+            (sym w.if-branch.false ∙ c.in_ok-insert.ensures.added) so_far.labels so_far.texts
+            (ap (λ v. map string_bytes v.items) w.texts-is ∙ sym (append-nil old))
+      ];
+    }
