@@ -5,9 +5,6 @@ against the run that has its memory:
 - what it wrote is a prefix of what the whole run writes, and in a session whole replies;
 - FILE and FILE.desk are each as before the run, or as a save of it leaves them; a save may be refused, and a later one succeeds.
 
-In the tests of `sp_run`, where `rt test` left their program, each allocation of `what_is_refused_leaves_the_desk` is refused too: the desk
-has to be as it was before the command, and to answer it when it is asked again.
-
     python3 bench/allocations.py [--every N]      only each Nth allocation
 
 It needs a C compiler, `cc`, and a program that takes its memory from the C library of the system.
@@ -24,8 +21,6 @@ import tempfile
 
 TOP = pathlib.Path(__file__).resolve().parent.parent
 PROGRAM = TOP / "crates/fountain_cli/out/fountain_cli"
-TESTS = TOP / "crates/sp_run/out/sp_run_tests"
-TEST = "what_is_refused_leaves_the_desk"
 SECONDS = 60
 NEVER = 2**64 - 1
 # Calls are counted, and those from `first` to `last` refused, from 1 on, in a file that whoever starts the program shares.
@@ -194,24 +189,6 @@ def refuse_each(refuser, folder, run, every):
     return lost + (calls == 0)
 
 
-def refuse_in_test(refuser, folder, every):
-    """Refuses the allocations of the test in turn: only what it asserts may not fail."""
-    names = subprocess.run([TESTS, "--list"], capture_output=True, text=True).stdout.split()
-    name = next((name for name in names if name.endswith(TEST)), TEST)
-    whole, calls, _ = refuser.run([TESTS, name], folder, b"")
-    lost, refused = 0, 0
-    for first in range(1, calls + 1, every):
-        for last in (first, NEVER):
-            ran, _, count = refuser.run([TESTS, name], folder, b"", first, last)
-            refused += count
-            said = ran.stdout + ran.stderr
-            if b"changed what it refused" in said or b"has other lines" in said or ran.returncode < 0 and b"memory" not in said.lower():
-                lost += 1
-                print(f"{TEST}, allocations {first} to {'the last' if last == NEVER else last} refused: {said[-300:]}")
-    print(f"{TEST}: {calls} allocations, {refused} refusals, {lost} losses", flush=True)
-    return lost + (whole.returncode != 0)
-
-
 def main():
     parser = argparse.ArgumentParser()
     parser.add_argument("--every", type=int, default=1)
@@ -221,10 +198,6 @@ def main():
         (folder / "room").mkdir()
         refuser = Refuser(folder)
         lost = sum(refuse_each(refuser, folder / "room", run, every) for run in RUNS)
-        if TESTS.exists():
-            lost += refuse_in_test(refuser, folder / "room", every)
-        else:
-            print(f"{TEST} is skipped, since `rt test` has left no program of it")
     return 1 if lost else 0
 
 

@@ -1,12 +1,8 @@
-use crate::tests::{LAMP, MOST, words_of};
+use crate::tests::{MOST, words_of};
 use crate::{Status, run};
 use sp_kit::{Counter, MemoryShelf, MemorySink, MemorySource, Shelf};
 use std::alloc::{AllocError, Global};
 use std::test::Fail;
-
-/// The outline of the script of every form.
-pub const LAMP_OUTLINE: &str =
-    "1\t1\tINT. KITCHEN - DAY\n= Anna leaves.\n2\t1\tEXT. STREET - NIGHT\n\nANNA\t2\nBERT\t1\n";
 
 /// The status of these words over a source that fails and a shelf, and what was written.
 fn ended(
@@ -31,6 +27,7 @@ fn ended(
 #[test]
 fn scripts_are_shown(rt: HostRuntime) -> Result<(), Fail> {
     let alloc = rt.alloc();
+<<<<<<< ours
     // A form, a script, and what is written of it.
     let cases = [
         ("outline", LAMP, LAMP_OUTLINE),
@@ -49,6 +46,18 @@ fn scripts_are_shown(rt: HostRuntime) -> Result<(), Fail> {
         assert_eq!(rt; status, Status::Done, "{form}");
         assert_eq!(rt; bytes.as_slice(), shown.as_bytes(), "{form}");
     }
+=======
+    let script =
+        "Title: The Lamp\nAuthor: A. Writer\n\nFADE IN:\n\nINT. KITCHEN - DAY #1#\n\nANNA (30) lights a lamp. [[check prop]]\n\n\
+        ANNA\n(softly)\nIt is *late*.\n\nBERT\nGo.\n\nANNA ^\nStay.\n\n~La la la\n\n> CUT TO:\n\n= Anna leaves.\n\nEXT. STREET - NIGHT\n";
+    let outline =
+        "1\t1\tINT. KITCHEN - DAY\n= Anna leaves.\n2\t1\tEXT. STREET - NIGHT\n\nANNA\t2\nBERT\t1\n";
+    let mut shelf = MemoryShelf::new(alloc, Vec::new(alloc));
+    assert!(rt; shelf.store("f", script.as_bytes()).is_ok());
+    let (status, bytes) = ended(alloc, &["outline", "f"], &mut shelf)?;
+    assert_eq!(rt; status, Status::Done);
+    assert_eq!(rt; bytes.as_slice(), outline.as_bytes());
+>>>>>>> theirs
     Ok(())
 }
 
