@@ -24,13 +24,20 @@ fn ended(
     Ok((status, output.taken().to_vec(alloc)?))
 }
 
+const LAMP: &str =
+    "Title: The Lamp\nAuthor: A. Writer\n\nFADE IN:\n\nINT. KITCHEN - DAY #1#\n\nANNA (30) lights a lamp. [[check prop]]\n\n\
+    ANNA\n(softly)\nIt is *late*.\n\nBERT\nGo.\n\nANNA ^\nStay.\n\n~La la la\n\n> CUT TO:\n\n= Anna leaves.\n\nEXT. STREET - NIGHT\n";
+
 #[test]
 fn scripts_are_shown(rt: HostRuntime) -> Result<(), Fail> {
     let alloc = rt.alloc();
-<<<<<<< ours
     // A form, a script, and what is written of it.
     let cases = [
-        ("outline", LAMP, LAMP_OUTLINE),
+        (
+            "outline",
+            LAMP,
+            "1\t1\tINT. KITCHEN - DAY\n= Anna leaves.\n2\t1\tEXT. STREET - NIGHT\n\nANNA\t2\nBERT\t1\n",
+        ),
         (
             "html",
             "!*a* < b",
@@ -46,18 +53,6 @@ fn scripts_are_shown(rt: HostRuntime) -> Result<(), Fail> {
         assert_eq!(rt; status, Status::Done, "{form}");
         assert_eq!(rt; bytes.as_slice(), shown.as_bytes(), "{form}");
     }
-=======
-    let script =
-        "Title: The Lamp\nAuthor: A. Writer\n\nFADE IN:\n\nINT. KITCHEN - DAY #1#\n\nANNA (30) lights a lamp. [[check prop]]\n\n\
-        ANNA\n(softly)\nIt is *late*.\n\nBERT\nGo.\n\nANNA ^\nStay.\n\n~La la la\n\n> CUT TO:\n\n= Anna leaves.\n\nEXT. STREET - NIGHT\n";
-    let outline =
-        "1\t1\tINT. KITCHEN - DAY\n= Anna leaves.\n2\t1\tEXT. STREET - NIGHT\n\nANNA\t2\nBERT\t1\n";
-    let mut shelf = MemoryShelf::new(alloc, Vec::new(alloc));
-    assert!(rt; shelf.store("f", script.as_bytes()).is_ok());
-    let (status, bytes) = ended(alloc, &["outline", "f"], &mut shelf)?;
-    assert_eq!(rt; status, Status::Done);
-    assert_eq!(rt; bytes.as_slice(), outline.as_bytes());
->>>>>>> theirs
     Ok(())
 }
 
@@ -100,36 +95,6 @@ fn other_numbers_are_usage(rt: HostRuntime) -> Result<(), Fail> {
         let (status, bytes) = ended(alloc, &["sample", word], &mut shelf)?;
         assert_eq!(rt; status, Status::Usage, "{word}");
         assert_eq!(rt; bytes.len(), 0, "{word}");
-    }
-    Ok(())
-}
-
-#[test]
-fn files_of_sheets_are_collated(rt: HostRuntime) -> Result<(), Fail> {
-    let alloc = rt.alloc();
-    let sheets = "\n\nT\n\u{c} 1.\n\na\n\u{c} 2-3.\n\nOMITTED\n\u{c}";
-    let packet = "\n\nS\n\u{c} Blue 2.\n\nb\n\u{c}";
-    let both = "\n\nS\n\u{c} 1.\n\na\n\u{c} Blue 2.\n\nb\n\u{c}";
-    // What stands under `o` and `n`, the status of each, and what was written.
-    let cases = [
-        (Some(sheets), Some(packet), 0, both),
-        (Some(sheets), Some(sheets), 0, sheets),
-        (Some("x"), Some("x"), 13, ""),
-        (Some(sheets), Some(" 1.\n"), 13, ""),
-        (Some(sheets), None, 3, ""),
-        (None, Some("x"), 3, ""),
-    ];
-    for (old, new, code, expected) in cases {
-        let mut shelf = MemoryShelf::new(alloc, Vec::new(alloc));
-        if let Some(old) = old {
-            assert!(rt; shelf.store("o", old.as_bytes()).is_ok());
-        }
-        if let Some(new) = new {
-            assert!(rt; shelf.store("n", new.as_bytes()).is_ok());
-        }
-        let (status, bytes) = ended(alloc, &["collate", "o", "n"], &mut shelf)?;
-        assert_eq!(rt; status.code(), code, "{expected}");
-        assert_eq!(rt; bytes.as_slice(), expected.as_bytes());
     }
     Ok(())
 }
