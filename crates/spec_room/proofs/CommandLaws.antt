@@ -1,7 +1,6 @@
 -- What becomes of a room by a seat's command, where its desk took it, where its desk refused it and where the room did.
 use Rattle.std.proofs.Common.{◌≡◌, ℕ, Bool, false, cond, Ok, Err, List, sym, ap, subst, ◌∙◌, refl}
 use Rattle.spec_text.specs.Edits.{EditOf, replace, splice}
-use Rattle.spec_text.specs.Ranges.{RangeOf}
 use Rattle.spec_wire.specs.Commands.{CommandOf, RoomLineOf, edit, undo, redo, lock_scenes, lock_pages, next_round, sheet, labels, blocks, outline, save, speakers, paper, packet}
 use Rattle.spec_wire.specs.Replies.{RefusalOf, ReplyOf, refused, is_refused}
 use Rattle.spec_machine.specs.Machine.{Memory, memory_after, Accepts}

@@ -5,7 +5,7 @@ use Rattle.std.specs.Str.{bytes_eq}
 use Rattle.std.proofs.lemmas.Bool.{cases_Bool, ltb-false}
 use Rattle.spec_text.specs.Ranges.{RangeOf}
 use Rattle.spec_wire.specs.Replies as replies
-use Rattle.spec_wire.specs.Replies.{RefusalOf, ahead, stale, not_yours}
+use Rattle.spec_wire.specs.Replies.{ahead, stale, not_yours}
 use Rattle.spec_machine.specs.Machine.{Memory}
 use Rattle.spec_room.specs.Changes.{Text, place_of, lines_then}
 use Rattle.spec_room.specs.Kinds.{Kind, edits, undoes, redoes, forgets, looks}

@@ -1,9 +1,8 @@
 -- What the step of a room by a seat's command means for its lines, its version and what its seats saw.
-use Rattle.std.proofs.Common.{◌≡◌, ℕ, ◌+◌, ◌<◌, ◌≤◌, ◌^◌, Bool, true, false, cond, Result, Ok, Err, List, length, sym, ap, subst, ◌∙◌, refl, arith}
+use Rattle.std.proofs.Common.{◌≡◌, ◌+◌, ◌<◌, ◌≤◌, ◌^◌, Bool, true, false, cond, Result, Ok, Err, List, length, sym, ap, subst, ◌∙◌, refl, arith}
 use Rattle.spec_wire.specs.Commands.{RoomLineOf}
 use Rattle.spec_wire.specs.Replies.{RefusalOf, ReplyOf, refused, is_refused}
 use Rattle.spec_machine.specs.Machine.{Memory}
-use Rattle.spec_machine.specs.Answers as answers
 use Rattle.spec_machine.specs.Answers.{step_of}
 use Rattle.spec_room.specs.Changes.{Text}
 use Rattle.spec_room.specs.Kinds.{Kind, edits, undoes, redoes, forgets, looks, kind_of, command_at}
@@ -13,7 +12,7 @@ use Rattle.spec_room.specs.Holding.{Holds}
 use Rattle.spec_room.proofs.MachineSteps.{Step}
 use Rattle.spec_room.proofs.RoomLaws.{holds_after}
 use Rattle.spec_room.proofs.SeatLaws.{keeps_seen, stands_after}
-use Rattle.spec_room.proofs.CommandLaws.{step_to, unrefused-step}
+use Rattle.spec_room.proofs.CommandLaws.{unrefused-step}
 
 -- The desk took the command, and the room remembers what it changed.
 pub record IsTaken (old : RoomState) (it : RoomLineOf) (new : RoomState) : Type 0 where

@@ -1,5 +1,5 @@
 -- How a room tells the commands of a desk apart (docs/RULES.md, "The room").
-use Rattle.std.specs.Prelude.{ℕ, List, length}
+use Rattle.std.specs.Prelude.{ℕ, length}
 use Rattle.spec_text.specs.Edits.{EditOf, replace, splice}
 use Rattle.spec_text.specs.Ranges.{RangeOf}
 use Rattle.spec_wire.specs.Commands.{CommandOf, edit, undo, redo, lock_scenes, lock_pages, next_round, sheet, labels, blocks, outline, save, speakers, paper, packet}
