@@ -1,10 +1,10 @@
 -- What comes of the files under two names.
-use Rattle.std.proofs.Common.{◌≡◌, ℕ, ◌+◌, ◌-◌, ◌^◌, ◌<◌, ◌≤◌, Bool, true, false, cond, List, length, Option, Some, None, refl, sym, ap, ◌∙◌, subst, replicate, arith}
+use Rattle.std.proofs.Common.{◌≡◌, ℕ, ◌+◌, ◌-◌, ◌^◌, ◌<◌, ◌≤◌, cond, List, length, Option, Some, None, refl, sym, ap, ◌∙◌, subst, replicate, arith}
 use Rattle.std.specs.Prelude.{IfSome, IsSomeAnd, nat_lt, string_bytes}
 use Rattle.std.proofs.KnownBytes.{Keeps-refl}
 use Rattle.std.proofs.lemmas.Bool.{lt-ltb, le-ltb}
 use Rattle.std.proofs.lemmas.List.{length-replicate}
-use Rattle.spec_collation.specs.BytesCollated.{Collating, collated_bytes, bad_sheets, collating}
+use Rattle.spec_collation.specs.BytesCollated.{Collating, bad_sheets, collating}
 use Rattle.sp_collation.specs.Collating.{IsNotCollated}
 use Rattle.sp_collation.specs.declared.fault.CollateFault.{CollateFault}
 use Rattle.sp_collation.specs.declared.fault.CollateFault.TheVariants as sheets_faults
@@ -15,8 +15,7 @@ use Rattle.sp_text.specs.declared.fault.TextFault.TheVariants as faults
 use Rattle.sp_run.specs.declared.status.Status.{Status}
 use Rattle.sp_run.specs.declared.status.Status.TheVariants as statuses
 use Rattle.sp_run.specs.Statuses.{status_of_sheets}
-use Rattle.sp_run.specs.Fetching.{FetchFinds}
-use Rattle.sp_run.specs.Opening.{Holds, SameShelf}
+use Rattle.sp_run.specs.Opening.{SameShelf}
 use Rattle.sp_run.specs.Collating.{sheets_limit, Fate, lacks, passes_limit, spoils, gives, fate_by, second_fate, fate_of, Comes, FetchedSheets, NoSheets, NotCollated, TookNothing, CollateEnds, AnswersFate}
 use Rattle.sp_run.proofs.Answering.{not-risen}
 

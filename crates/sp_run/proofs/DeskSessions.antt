@@ -1,10 +1,13 @@
 -- A session of a desk.
-use Rattle.std.proofs.Common.{◌≡◌, ℕ, zero, suc, ◌+◌, ◌-◌, ◌^◌, ◌<◌, ◌≤◌, Some, List, [], ◌∷◌, inl, inr, refl, sym, ap, ap₂, ◌∙◌, subst, arith}
-use Rattle.std.specs.Prelude.{Bool, true, false, ◌&&◌, if◌then◌else◌, slice_get}
+use Rattle.std.proofs.Common.{◌≡◌, ℕ, zero, suc, ◌+◌, ◌-◌, ◌^◌, ◌<◌, ◌≤◌, Some, None, List, [], ◌∷◌, inl, inr, refl, sym, ap, ap₂, ◌∙◌, subst, arith}
+use Rattle.std.specs.Prelude.{Bool, true, false, ◌&&◌, if◌then◌else◌, slice_get, slice_index_or}
 use Rattle.std.specs.Str.{bytes_eq}
 use Rattle.std.specs.declared.result.Result.{Result}
 use Rattle.std.specs.declared.result.Result.TheVariants.{Ok, Err}
 use Rattle.std.specs.Io.KnownBytes.{Appends}
+use Rattle.std.proofs.lemmas.Slice.Eq.{bytes_eq-Decides}
+use Rattle.json.proofs.OnLiterals.{json_on_literals}
+use Rattle.serde_json.proofs.OnLiterals.{serde_json_on_literals}
 use Rattle.spec_session.specs.CommandLines.{command_lines}
 use Rattle.spec_session.specs.Runs.{Answered, AtShelf, Runs, left_by, output_of, steps_seen}
 use Rattle.spec_session.specs.Sessions.{Course, EndsAs, SessionEnds, Streams, streams}
@@ -14,7 +17,8 @@ use Rattle.spec_session.proofs.KeepLaws.{ends-keep, ends_as-keep}
 use Rattle.spec_session.proofs.RunLaws.{output_of-seen}
 use Rattle.spec_wire.specs.Lines.{command_of_line}
 use Rattle.spec_wire.specs.Commands.{CommandOf, FaultOf}
-use Rattle.spec_wire.specs.Replies.{ReplyOf, refused, saved, shelf, reply_line}
+use Rattle.spec_wire.specs.Replies as replies
+use Rattle.spec_wire.specs.Replies.{ReplyOf, refused, saved, reply_line}
 use Rattle.spec_records.specs.RecordFile.{digest_of}
 use Rattle.spec_machine.specs.Machine.{Memory, opened_memory}
 use Rattle.spec_machine.specs.Answers.{Step, step_of}
@@ -67,27 +71,45 @@ ends-later old new before after course end ends =
     (λ one line other stops low. let later = stops-later one (asks_save (command_of_line line)) other stops.leaves in omega (arith, low, later))
     old new before after course end ends (omega arith)
 
--- A save that was done isn't answered as one that wasn't.
-saved-told : (digest : List ℕ) → bytes_eq (reply_line (saved digest)) (reply_line (refused shelf)) ≡ false
-saved-told digest = refl
+-- A save that was done isn't answered as one that wasn't: their lines differ in a letter.
+done-letter : (digest : List ℕ) → slice_index_or (reply_line (saved digest)) 2 0 ≡ 100
+unfolding serde_json_on_literals json_on_literals
+done-letter digest = refl
+
+undone-letter : slice_index_or (reply_line (refused replies.shelf)) 2 0 ≡ 110
+unfolding serde_json_on_literals json_on_literals
+undone-letter = refl
+
+saved-told : (digest : List ℕ) → bytes_eq (reply_line (saved digest)) (reply_line (refused replies.shelf)) ≡ false
+saved-told digest = by (bytes_eq done undone) refl
+  where
+    done : List ℕ
+    done = reply_line (saved digest)
+    undone : List ℕ
+    undone = reply_line (refused replies.shelf)
+    by : (b : Bool) → bytes_eq done undone ≡ b → bytes_eq done undone ≡ false
+    by true is =
+        let same : done ≡ undone = (bytes_eq-Decides done undone).0 is in
+        let letter : 100 ≡ 110 = sym (done-letter digest) ∙ ap (λ (line : List ℕ). slice_index_or line 2 0) same ∙ undone-letter in absurd (omega (arith, letter))
+    by false is = is
 
 -- A save that was answered so raised the count.
 told-rises : (before after : AtShelf NamedDesk) (asked : Result CommandOf FaultOf) (reply : ReplyOf) → RepliesTo before asked after reply → after.shelf.faults < 2 ^ 64 - 1
-    → before.shelf.faults + (if asks_save asked && bytes_eq (reply_line reply) (reply_line (refused shelf)) then 1 else 0) ≤ after.shelf.faults
+    → before.shelf.faults + (if asks_save asked && bytes_eq (reply_line reply) (reply_line (refused replies.shelf)) then 1 else 0) ≤ after.shelf.faults
 told-rises before after asked reply (inl done) below = by-asked asked (ap (λ (it : Step). it.reply) done.step) (replies-later before after asked reply (inl done))
   where
     by-asks : (asks : Bool) (command : CommandOf) → is_save command ≡ asks → reply ≡ (line_step_by before.it.memory (Ok command)).reply → before.shelf.faults ≤ after.shelf.faults
-        → before.shelf.faults + (if asks && bytes_eq (reply_line reply) (reply_line (refused shelf)) then 1 else 0) ≤ after.shelf.faults
+        → before.shelf.faults + (if asks && bytes_eq (reply_line reply) (reply_line (refused replies.shelf)) then 1 else 0) ≤ after.shelf.faults
     by-asks true command asks is later =
         let told : reply ≡ saved (digest_of before.it.memory.state.lines) = is ∙ ap (λ (b : Bool). (if b then saved_step before.it.memory else step_of before.it.memory command).reply) asks in
-        let other : bytes_eq (reply_line reply) (reply_line (refused shelf)) ≡ false = ap (λ (r : ReplyOf). bytes_eq (reply_line r) (reply_line (refused shelf))) told ∙ saved-told (digest_of before.it.memory.state.lines) in
+        let other : bytes_eq (reply_line reply) (reply_line (refused replies.shelf)) ≡ false = ap (λ (r : ReplyOf). bytes_eq (reply_line r) (reply_line (refused replies.shelf))) told ∙ saved-told (digest_of before.it.memory.state.lines) in
         subst (λ (b : Bool). before.shelf.faults + (if b then 1 else 0) ≤ after.shelf.faults) (sym other) (omega (arith, later))
     by-asks false command asks is later = omega (arith, later)
     by-asked : (it : Result CommandOf FaultOf) → reply ≡ (line_step_by before.it.memory it).reply → before.shelf.faults ≤ after.shelf.faults
-        → before.shelf.faults + (if asks_save it && bytes_eq (reply_line reply) (reply_line (refused shelf)) then 1 else 0) ≤ after.shelf.faults
+        → before.shelf.faults + (if asks_save it && bytes_eq (reply_line reply) (reply_line (refused replies.shelf)) then 1 else 0) ≤ after.shelf.faults
     by-asked (Ok command) is later = by-asks (is_save command) command refl is later
     by-asked (Err fault) is later = omega (arith, later)
-told-rises before after asked reply (inr failed) below = most (asks_save asked && bytes_eq (reply_line reply) (reply_line (refused shelf)))
+told-rises before after asked reply (inr failed) below = most (asks_save asked && bytes_eq (reply_line reply) (reply_line (refused replies.shelf)))
   where
     rose : before.shelf.faults + 1 ≤ after.shelf.faults
     rose = let up = failed.failed.rose in omega (arith, up, below)
@@ -105,7 +127,7 @@ runs-counted before (line ∷ lines) (step ∷ steps) runs below =
     let low : step.after.shelf.faults < 2 ^ 64 - 1 = omega (arith, later, below) in
     let rest = runs-counted step.after lines steps runs.1 below in
     let first : before.shelf.faults + (if is_unsaved line step then 1 else 0) ≤ step.after.shelf.faults =
-    subst (λ (bytes : List ℕ). before.shelf.faults + (if asks_save (command_of_line line) && bytes_eq bytes (reply_line (refused shelf)) then 1 else 0) ≤ step.after.shelf.faults) (sym runs.0.is)
+    subst (λ (bytes : List ℕ). before.shelf.faults + (if asks_save (command_of_line line) && bytes_eq bytes (reply_line (refused replies.shelf)) then 1 else 0) ≤ step.after.shelf.faults) (sym runs.0.is)
     (told-rises before step.after (command_of_line line) runs.0.reply runs.0.replies low) in
     omega (arith, rest, first)
 
@@ -117,11 +139,14 @@ seen it = it.it.memory
 some-is : (one other : Memory) → Some one ≡ Some other → one ≡ other
 some-is one other same = let is : one ≡ other = cc in is
 
+none-some : (memory : Memory) → None ≡ Some memory → ⊥
+none-some memory same = let bad : ⊥ = cc in bad
+
 -- From a memory on, each later one follows it.
 runs-follow : (earlier : Memory) (before : AtShelf NamedDesk) (lines : List (List ℕ)) (steps : List (Answered (AtShelf NamedDesk))) → Runs AnswersLine before lines steps → Follows earlier (seen before)
     → (j : ℕ) (now : Memory) → slice_get (memories_of (seen before) steps) j ≡ Some now → Follows earlier now
 runs-follow earlier before lines steps runs follows zero now is = subst (Follows earlier) (some-is (seen before) now is) follows
-runs-follow earlier before [] [] runs follows (suc j) now is = absurd is
+runs-follow earlier before [] [] runs follows (suc j) now is = absurd (none-some now is)
 runs-follow earlier before [] (step ∷ steps) runs follows (suc j) now is = absurd runs
 runs-follow earlier before (line ∷ lines) [] runs follows (suc j) now is = absurd runs
 runs-follow earlier before (line ∷ lines) (step ∷ steps) runs follows (suc j) now is =
@@ -137,7 +162,7 @@ runs-promised before lines steps runs whole linked = record { kept = λ i j. by 
         subst (λ (it : Memory). KeepsPromises it now) (some-is (seen from) earlier first)
         (follows-promised (seen from) now (runs-follow (seen from) from those course goes (follows-itself (seen from) is_whole are_linked) j now second))
     by from those course goes is_whole are_linked (suc i) zero earlier now up first second = absurd (omega (arith, up))
-    by from [] [] goes is_whole are_linked (suc i) (suc j) earlier now up first second = absurd first
+    by from [] [] goes is_whole are_linked (suc i) (suc j) earlier now up first second = absurd (none-some earlier first)
     by from [] (step ∷ steps) goes is_whole are_linked (suc i) (suc j) earlier now up first second = absurd goes
     by from (line ∷ lines) [] goes is_whole are_linked (suc i) (suc j) earlier now up first second = absurd goes
     by from (line ∷ lines) (step ∷ steps) goes is_whole are_linked (suc i) (suc j) earlier now up first second =
