@@ -85,8 +85,10 @@ saved-told digest = by (bytes_eq done undone) refl
   where
     done : List ℕ
     done = reply_line (saved digest)
+
     undone : List ℕ
     undone = reply_line (refused replies.shelf)
+
     by : (b : Bool) → bytes_eq done undone ≡ b → bytes_eq done undone ≡ false
     by true is =
         let same : done ≡ undone = (bytes_eq-Decides done undone).0 is in
@@ -105,6 +107,7 @@ told-rises before after asked reply (inl done) below = by-asked asked (ap (λ (i
         let other : bytes_eq (reply_line reply) (reply_line (refused replies.shelf)) ≡ false = ap (λ (r : ReplyOf). bytes_eq (reply_line r) (reply_line (refused replies.shelf))) told ∙ saved-told (digest_of before.it.memory.state.lines) in
         subst (λ (b : Bool). before.shelf.faults + (if b then 1 else 0) ≤ after.shelf.faults) (sym other) (omega (arith, later))
     by-asks false command asks is later = omega (arith, later)
+
     by-asked : (it : Result CommandOf FaultOf) → reply ≡ (line_step_by before.it.memory it).reply → before.shelf.faults ≤ after.shelf.faults
         → before.shelf.faults + (if asks_save it && bytes_eq (reply_line reply) (reply_line (refused replies.shelf)) then 1 else 0) ≤ after.shelf.faults
     by-asked (Ok command) is later = by-asks (is_save command) command refl is later
@@ -113,6 +116,7 @@ told-rises before after asked reply (inr failed) below = most (asks_save asked &
   where
     rose : before.shelf.faults + 1 ≤ after.shelf.faults
     rose = let up = failed.failed.rose in omega (arith, up, below)
+
     most : (b : Bool) → before.shelf.faults + (if b then 1 else 0) ≤ after.shelf.faults
     most true = omega (arith, rose)
     most false = omega (arith, rose)
