@@ -154,5 +154,7 @@ pub fn block_rows(
         let context = line_context(lines, first, shift, side, block.kind, line);
         add_rows(alloc, &mut rows, &context, line)?;
     }
+    // Most of what a script takes is its rows.
+    rows.shrink_to_fit();
     Ok(rows)
 }
