@@ -10,8 +10,9 @@ use crate::gone::gone_labels;
 use crate::sheets::{heading_rows, sheet_texts};
 use sp_labels::Label;
 use sp_layout::PlacedBlock;
+use sp_made::headings_among;
 use sp_scenes::{HeadingAt, SceneRecord, numbers};
-use sp_state::{Script, headings_among};
+use sp_state::Script;
 use std::alloc::{AllocError, Global};
 use std::marker::Model;
 

@@ -39,9 +39,9 @@ use Rattle.sp_layout.specs.Bodies.{BodyOf, row_count}
 use Rattle.sp_compare.specs.BareRows.{AreLaid, Both}
 use Rattle.sp_exchange.specs.Restoring.{CanRestoreText}
 use Rattle.sp_state.specs.Entries.{EntryState, FitRecords, LeadsBack, displaced, undone_records, with_text}
-use Rattle.sp_state.specs.Made.{key_starts}
+use Rattle.sp_made.specs.Made.{key_starts}
 use Rattle.sp_state.specs.Raised.{AreCarried, AreSegments, CanCarry, FitPages, put_back_in, raises, raises_in, records_carried, records_raised, state_before, with_pages}
-use Rattle.sp_state.proofs.MadeLaws.{count-rows}
+use Rattle.sp_made.proofs.MadeLaws.{count-rows}
 use Rattle.sp_state.proofs.RaisedLaws.{raises-distinct, raises-raised, raises-within}
 
 -- ---- a carried state is whole

@@ -1,9 +1,3 @@
-mod Sorting
-mod MarkedLaws
-mod HeadingMade
-mod PageRows
-pub mod SheetPlaces
-mod MadeLaws
 mod RaisedLaws
 mod CarriedLaws
 pub mod EntryLaws

@@ -28,13 +28,13 @@ use Rattle.spec_machine.proofs.RefusalLaws.{below-is, or-left, or-right, pages-f
 use Rattle.spec_machine.proofs.WholeStates.{lock_scenes-whole, lock_pages-whole, round-whole}
 use Rattle.spec_machine.proofs.LabelLaw.{state-sheets}
 use Rattle.sp_layout.specs.Bodies.{row_count, shapes_in}
-use Rattle.sp_state.specs.Made.{MadeOf, IsMadeOf, key_starts, marked_or_locked}
+use Rattle.sp_made.specs.Made.{MadeOf, IsMadeOf, key_starts, marked_or_locked}
 use Rattle.sp_state.specs.declared.fault.OpeningFault.{OpeningFault}
 use Rattle.sp_labels.specs.declared.fault.LockFault.{LockFault}
 use Rattle.sp_labels.specs.declared.fault.LockFault.TheVariants as locks
 use Rattle.sp_state.specs.Openings.{CanLockHeadings, IsFull, IsReason, lock_fault_of, headings_refusal, pages_made}
-use Rattle.sp_state.proofs.MadeLaws.{count-rows, sheets-by}
-use Rattle.sp_state.proofs.SheetPlaces.{made-places}
+use Rattle.sp_made.proofs.MadeLaws.{count-rows, sheets-by}
+use Rattle.sp_made.proofs.SheetPlaces.{made-places}
 
 -- The headings of a text keep what is asked of headings.
 pub lines-headings : (text : TextState) → IsText text → AreHeadings (headings_of text.lines)

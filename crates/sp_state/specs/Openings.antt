@@ -15,7 +15,7 @@ use Rattle.sp_scenes.specs.declared.fault.SceneFault.{SceneFault}
 use Rattle.sp_scenes.specs.declared.fault.SceneFault.TheVariants as scenes
 use Rattle.sp_state.specs.declared.fault.OpeningFault.{OpeningFault}
 use Rattle.sp_state.specs.declared.fault.OpeningFault.TheVariants.{ScenesLocked, SceneForm, SceneOrder, ScenesNotLocked, PagesLocked, NoPages, RoundsFull, RecordsFull, NoMemory}
-use Rattle.sp_state.specs.Made.{MadeOf}
+use Rattle.sp_made.specs.Made.{MadeOf}
 
 -- The fault of a lock of scenes, and of records that are extended, as a script tells it.
 abbrev pub scene_fault_of : SceneFault → OpeningFault

@@ -13,14 +13,14 @@ ghost use Rattle.sp_exchange.specs.Restoring.{text_stanzas};
 ghost use Rattle.sp_compare.specs.BareRows.{AreLaid};
 ghost use Rattle.sp_layout.specs.Bodies.{row_count};
 ghost use Rattle.sp_layout.specs.LaidOut.{keyed};
-ghost use Rattle.sp_state.specs.Made.{IsLaidOf, key_starts};
+ghost use Rattle.sp_made.specs.Made.{IsLaidOf, key_starts};
 ghost use Rattle.sp_state.specs.Raised.{AreCarried, AreSegments, FitPages, put_back_in, raises_in, records_carried, records_raised, state_before};
 
-use crate::made::{Laid, lay};
 use crate::raising::raises;
 use sp_compare::{BothTexts, OldLines};
 use sp_layout::{Body, Layout};
 use sp_locks::{carry, put_back, starts};
+use sp_made::{Laid, lay};
 use sp_records::Records;
 use sp_reread::Stanzas;
 use sp_text::{Displaced, Lines};

@@ -8,13 +8,13 @@ ghost use Rattle.sp_text.specs.Changing.{Refuses, edit_of};
 ghost use Rattle.sp_text.specs.Gap.{text_of};
 ghost use Rattle.sp_exchange.specs.Reads.{IsRefused};
 ghost use Rattle.sp_exchange.specs.Restoring.{text_stanzas};
-ghost use Rattle.sp_state.specs.Made.{IsMadeOf};
+ghost use Rattle.sp_made.specs.Made.{IsMadeOf};
 ghost use Rattle.sp_state.specs.Entries.{CanRedo, CanUndo, HasRoom, IsRedone, IsSameEntry, IsUndone, LeadsBack, LeadsForth, done_range, redone_state, undone_range, undone_state};
 ghost use Rattle.sp_state.specs.Reads.{EditReads, EditReadsAtMost};
 
 use crate::entry::{Entry, Unturned, edit_entry, redo_entry, undo_entry};
-use crate::made::{Made, make, make_of};
 use sp_kit::Steps;
+use sp_made::{Made, make, make_of};
 use sp_records::Records;
 use sp_reread::Stanzas;
 use sp_text::{Edit, EditFault, Lines};

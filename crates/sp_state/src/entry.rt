@@ -10,15 +10,15 @@ ghost use Rattle.sp_text.specs.Gap.{text_of};
 ghost use Rattle.sp_exchange.specs.Reads.{IsRefused};
 ghost use Rattle.sp_exchange.specs.Restoring.{CanRestoreText, HasRoomFor, text_before, text_stanzas};
 ghost use Rattle.sp_state.specs.Entries.{CanUndo, CanRedo, HasRoom, IsRedone, IsSameEntry, IsUndone, LeadsBack, LeadsForth, undone_state, redone_state, undone_range, done_range};
-ghost use Rattle.sp_state.specs.Made.{IsLaidOf};
+ghost use Rattle.sp_made.specs.Made.{IsLaidOf};
 ghost use Rattle.sp_state.specs.Reads.{EditReads, EditReadsAtMost};
 
 use crate::carrying::{Turned, carry_and_raise};
-use crate::made::{Laid, record_starts};
 use sp_exchange::{UnrestoredText, change_text, restore_text};
 use sp_kit::Steps;
 use sp_layout::Body;
 use sp_locks::put_back;
+use sp_made::{Laid, record_starts};
 use sp_records::Records;
 use sp_reread::{Stanzas, Swapped};
 use sp_text::{Displaced, Edit, EditFault, Lines};

@@ -6,16 +6,10 @@ mod carrying;
 mod editing;
 mod entry;
 mod fault;
-mod headings;
 mod locking;
-mod made;
-mod numbered;
 mod raising;
 mod script;
-mod stops;
-mod views;
 
 pub use entry::{Entry, Unturned, redo_entry, undo_entry};
 pub use fault::OpeningFault;
-pub use headings::headings_among;
 pub use script::Script;

@@ -13,15 +13,14 @@ ghost use Rattle.spec_machine.specs.Machine.{FewScenes};
 ghost use Rattle.spec_machine.specs.Refusals.{are_more, pages_refusal, round_refusal, scenes_refusal};
 ghost use Rattle.sp_locks.specs.Extension.{IsMade};
 ghost use Rattle.sp_text.specs.Gap.{text_of};
-ghost use Rattle.sp_state.specs.Made.{IsMadeOf};
+ghost use Rattle.sp_made.specs.Made.{IsMadeOf};
 ghost use Rattle.sp_state.specs.Openings.{ArePagesOpened, CanLockHeadings, IsFull, IsOpening, IsReason, headings_refusal};
 
 use crate::fault::OpeningFault;
-use crate::headings::headings_among;
-use crate::made::Made;
 use sp_labels::{Label, LockFault};
 use sp_layout::placed_blocks;
 use sp_locks::{PageRecord, extend};
+use sp_made::{Made, headings_among};
 use sp_records::Records;
 use sp_reread::Stanzas;
 use sp_scenes::{HeadingAt, SceneRecord, extend_scenes, lock_scenes, numbers};

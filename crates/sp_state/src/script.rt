@@ -23,10 +23,9 @@ use crate::editing::{edit_made, made_on, made_with_speakers, redo_made, undo_mad
 use crate::entry::{Entry, Unturned};
 use crate::fault::OpeningFault;
 use crate::locking::{lock_pages_made, lock_scenes_made, next_round_made};
-use crate::made::{Made, make};
-use crate::views::{body_shapes, made_sheet, made_title, sheet_count, title_count};
 use sp_kit::Steps;
 use sp_locks::Sheet;
+use sp_made::{Made, body_shapes, made_sheet, made_title, make, sheet_count, title_count};
 use sp_print::PageView;
 use sp_records::Records;
 use sp_reread::Stanzas;
@@ -51,7 +50,7 @@ impl Model for Script {
     ghost use Rattle.spec_state.specs.State.{State};
     ghost use Rattle.spec_state.specs.Keeping.{IsWhole, state_of};
     ghost use Rattle.sp_exchange.specs.Restoring.{text_stanzas};
-    ghost use Rattle.sp_state.specs.Made.{IsMadeOf};
+    ghost use Rattle.sp_made.specs.Made.{IsMadeOf};
 
     ghost Value = { State };
 

@@ -1,5 +1,5 @@
 use Rattle.std.proofs.Common.{sym, subst}
-use Rattle.sp_state.proofs.SheetPlaces.{body-lie}
+use Rattle.sp_made.proofs.SheetPlaces.{body-lie}
 use Rattle.sp_contents.specs.Sheets.{AreInTurn}
 use Rattle.sp_contents.proofs.SheetFinds.{body-turn}
 use Rattle.sp_contents.proofs.speeches.speech_sheets_of.Goals as goal

@@ -12,7 +12,7 @@ use Rattle.sp_exchange.specs.Reads.{ReadsAtMost, ReadsWindow}
 use Rattle.sp_state.specs.Entries.{EntryState}
 use Rattle.sp_state.proofs.CarriedLaws.{carried-here, edited-here, edited-whole, whole-before, whole-carry}
 use Rattle.sp_state.proofs.EditedScripts.{edited-range}
-use Rattle.sp_state.proofs.MadeLaws.{anchored}
+use Rattle.sp_made.proofs.MadeLaws.{anchored}
 use Rattle.sp_state.proofs.entry.edit_entry.Goals as goal
 
 pub record_starts-requires : goal.record_starts-requires

@@ -7,7 +7,7 @@ use Rattle.spec_state.specs.StateSheets.{rows_in}
 use Rattle.spec_machine.proofs.RefusalLaws.{pages-none}
 use Rattle.sp_layout.specs.Bodies.{row_count}
 use Rattle.sp_text.specs.Gap.{text_of}
-use Rattle.sp_state.specs.Made.{MadeOf}
+use Rattle.sp_made.specs.Made.{MadeOf}
 use Rattle.sp_state.proofs.OpeningMade.{full-answer, made-AreSheets, made-within, none-map, pages-answer, rows-answer, some-map}
 use Rattle.sp_state.proofs.locking.lock_pages_made.Goals as goal
 

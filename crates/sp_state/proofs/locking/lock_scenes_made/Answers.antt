@@ -4,7 +4,7 @@ use Rattle.spec_labels.specs.Scenes.{AreHeadings, locked_labels, locked_records}
 use Rattle.spec_records.specs.Kept.{RecordsOf}
 use Rattle.spec_state.specs.Headings.{headings_of}
 use Rattle.sp_text.specs.Gap.{text_of}
-use Rattle.sp_state.specs.Made.{MadeOf}
+use Rattle.sp_made.specs.Made.{MadeOf}
 use Rattle.sp_state.proofs.OpeningMade.{headings-can, lines-headings, scenes-answer, some-map}
 use Rattle.sp_state.proofs.locking.lock_scenes_made.Goals as goal
 

@@ -5,7 +5,7 @@ use Rattle.spec_state.specs.Keeping.{state_of}
 use Rattle.spec_state.specs.State.{State}
 use Rattle.spec_state.specs.StateSheets.{sheets_of_state}
 use Rattle.sp_text.specs.Gap.{text_of}
-use Rattle.sp_state.proofs.SheetPlaces.{made-places, made-count, made-title, made-found}
+use Rattle.sp_made.proofs.SheetPlaces.{made-places, made-count, made-title, made-found}
 use Rattle.sp_state.proofs.script.Script.sheet.Goals as goal
 
 if-none : (P Q : Type 0) (found : Option Sheet) → (P → Q) → IfNone found P → IfNone found Q

@@ -1,0 +1,6 @@
+mod Sorting
+mod MarkedLaws
+mod HeadingMade
+mod PageRows
+pub mod SheetPlaces
+pub mod MadeLaws

@@ -1,0 +1,163 @@
+-- What is made of a state is what the rules say of it.
+use Rattle.std.proofs.Common.{◌≡◌, ℕ, ◌<◌, ◌≤◌, List, [], ◌++◌, length, map, Option, Some, None, Result, Ok, Err, refl, sym, ap, ◌∙◌, subst, arith}
+use Rattle.std.specs.Prelude.{All, IfOk, IfSome, option_map}
+use Rattle.std.proofs.lemmas.List.{length-map}
+use Rattle.std.proofs.lemmas.List.Elements.{All-nil}
+use Rattle.spec_text.specs.Lines.{LineState, TextState, IsText, line_texts, read_lines}
+use Rattle.spec_script.specs.Stanzas.{blocks_of}
+use Rattle.spec_script.proofs.BlockPlaces.{FromPlace, blocks_of-lie}
+use Rattle.spec_pages.specs.declared.Shape.{Shape}
+use Rattle.spec_pages.specs.Pages.{page_starts, rows_on, text_heights}
+use Rattle.spec_pages.specs.Rows.{Row, ElementOf}
+use Rattle.spec_pages.proofs.StartLists.{starts-are}
+use Rattle.spec_labels.specs.declared.RowKey.{RowKey}
+use Rattle.spec_labels.specs.Scenes.{HeadingOf, SceneRecordOf, locked_labels}
+use Rattle.spec_labels.specs.PageRecords.{PageRecordOf, AreAnchored, record_starts, sheets_of_records}
+use Rattle.spec_layout.specs.Layout.{placed_in}
+use Rattle.spec_layout.specs.Shown.{shape_of}
+use Rattle.spec_layout.proofs.RowLaws.{IsText-texts}
+use Rattle.spec_layout.proofs.ShownLaws.{length-shown_rows, shown_rows-shapes, shown_rows-marks}
+use Rattle.spec_state.specs.State.{State, opened_state, text_of}
+use Rattle.spec_state.specs.Headings.{headings_of, heading_labels}
+use Rattle.spec_state.specs.StateSheets.{layout_in, rows_in, keys_in, pages_in, numbered_sheets, sheets_in, body_sheets}
+use Rattle.spec_state.specs.Keeping.{IsWhole, records_of, state_of}
+use Rattle.spec_state.proofs.OpenedLaws.{opening-whole}
+use Rattle.spec_state.proofs.StateLaws.{state-AreKeptPages, state-ArePageRecords, state-AreAnchored, state-AreStarts, state-ArePages, state-few, rising-few}
+use Rattle.sp_layout.specs.Bodies.{row_count, shapes_in, marks_in}
+use Rattle.sp_made.specs.Made.{AreFewPages, AskedOfPages, LockedSheets, key_starts, marked_or_locked}
+use Rattle.sp_made.proofs.MarkedLaws.{marked_sheets-numbered}
+
+-- What a value shows is something, and so is what is equal to that.
+pub shows-same : {V E X : Type 0} (shows : V → X) (result : Result V E) (one other : X) → one ≡ other → IfOk result (λ it. shows it ≡ one) → IfOk result (λ it. shows it ≡ other)
+shows-same shows (Ok it) one other same is = is ∙ same
+shows-same shows (Err error) one other same is = tt
+
+-- The blocks of a text lie in it, in order.
+pub blocks-lie : (text : TextState) → IsText text → FromPlace (line_texts text.lines) 0 (blocks_of (line_texts text.lines))
+blocks-lie text is = let are = IsText-texts text is in blocks_of-lie (line_texts text.lines) are.utf8 are.few
+
+-- The labels of headings, where scenes are locked.
+pub labels-are : {V : Type 0} (items : V → List SceneRecordOf) (scenes : Option V) (lines : List LineState) (headings : List HeadingOf) → headings ≡ headings_of lines
+    → option_map (λ records. locked_labels (items records) headings) scenes ≡ heading_labels lines (option_map items scenes)
+labels-are items None lines headings is = refl
+labels-are items (Some records) lines headings is = ap (λ those. Some (locked_labels (items records) those)) is
+
+-- How many rows a state has.
+pub count-rows : (state : State) → length (rows_in state) ≡ row_count (layout_in state).body
+count-rows state = length-shown_rows state.lines (heading_labels state.lines state.scenes) (layout_in state).body
+
+pub same-shapes : (state : State) → map shape_of (rows_in state) ≡ shapes_in (layout_in state).body
+same-shapes state = shown_rows-shapes state.lines (heading_labels state.lines state.scenes) (layout_in state).body
+
+-- What the starts of page records ask for.
+pub anchored : {V : Type 0} (items : V → List PageRecordOf) (state : State) (keys : List RowKey) (pages : Option V) → IsWhole state → keys ≡ keys_in state → state.pages ≡ option_map items pages
+    → IfSome pages (λ those. AreAnchored state.lines keys (items those))
+anchored items state keys None whole same is = tt
+anchored items state keys (Some those) whole same is = subst (λ ks. AreAnchored state.lines ks (items those)) (sym same) (state-AreAnchored state (items those) whole is)
+
+-- No page record starts behind the last row.
+starts-by : (state : State) (o : Option (List PageRecordOf)) → IsWhole state → state.pages ≡ o → All (λ (stop : ℕ). stop ≤ length (rows_in state)) (key_starts state.lines (keys_in state) o)
+starts-by state None whole is = All-nil (λ (stop : ℕ). stop ≤ length (rows_in state))
+starts-by state (Some records) whole is = (state-AreStarts state records whole is).within
+
+pub starts-within : (state : State) (o : Option (List PageRecordOf)) → IsWhole state → state.pages ≡ o → All (λ (stop : ℕ). stop ≤ row_count (layout_in state).body) (key_starts state.lines (keys_in state) o)
+starts-within state o whole is = subst (λ n. All (λ (stop : ℕ). stop ≤ n) (key_starts state.lines (keys_in state) o)) (count-rows state) (starts-by state o whole is)
+
+-- Page starts rise, are rows, and are few.
+pub pages-few : (state : State) (stops : List ℕ) → IsWhole state → AreFewPages (row_count (layout_in state).body) (page_starts (rows_on state.paper) (shapes_in (layout_in state).body) stops)
+pages-few state stops whole =
+    let body = (layout_in state).body in
+    let shapes = shapes_in body in
+    let pages = page_starts (rows_on state.paper) shapes stops in
+    let same : length shapes ≡ row_count body = length-map (placed_in body) (λ (row : Row). row.shape) in
+    let are = starts-are (rows_on state.paper) (text_heights shapes) (length shapes) stops in
+    let inside : All (λ (page : ℕ). page < row_count body) pages = λ k d h. (let i = are.inside k d h in omega (arith, i, same)) in
+    let few = rising-few 0 (row_count body) pages (omega arith) are.rise (λ k d h. omega arith) inside in
+    record { rising = are.rise; within = inside; few = omega (arith, few, state-few state whole, count-rows state) }
+
+-- What the sheets of page records ask for.
+pub locked : {V : Type 0} (items : V → List PageRecordOf) (state : State) (pages_of : Option V) (firsts : List ℕ) → IsWhole state → state.pages ≡ option_map items pages_of
+    → firsts ≡ key_starts state.lines (keys_in state) (option_map items pages_of)
+    → IfSome pages_of (λ those. LockedSheets (row_count (layout_in state).body) (items those) firsts (page_starts (rows_on state.paper) (shapes_in (layout_in state).body) ((layout_in state).breaks ++ firsts)))
+locked items state None firsts whole is first = tt
+locked items state (Some those) firsts whole is first =
+    let records = items those in
+    let rows = rows_in state in
+    let breaks = (layout_in state).breaks in
+    let limit = rows_on state.paper in
+    let begin = record_starts state.lines (keys_in state) records in
+    let pages = pages_in limit state.lines rows breaks (Some records) in
+    let keep : LockedSheets (length rows) records begin pages = record {
+      some = (state-AreKeptPages state records whole is).some;
+      are = state-ArePageRecords state records whole is;
+      begin = state-AreStarts state records whole is;
+      pages_are = state-ArePages state records whole;
+    } in
+    let counted : LockedSheets (row_count (layout_in state).body) records begin pages = subst (λ n. LockedSheets n records begin pages) (count-rows state) keep in
+    let shaped : LockedSheets (row_count (layout_in state).body) records begin (page_starts limit (shapes_in (layout_in state).body) (breaks ++ begin)) =
+    subst (λ shapes. LockedSheets (row_count (layout_in state).body) records begin (page_starts limit shapes (breaks ++ begin))) (same-shapes state) counted in
+    subst (λ fs. LockedSheets (row_count (layout_in state).body) records fs (page_starts limit (shapes_in (layout_in state).body) (breaks ++ fs))) (sym first) shaped
+
+-- The same of a body and of pages that were made.
+pub pages-of : (state : State) (body : List ElementOf) (stops pages : List ℕ) → IsWhole state → body ≡ (layout_in state).body → pages ≡ page_starts (rows_on state.paper) (shapes_in body) stops → AreFewPages (row_count body) pages
+pages-of state body stops pages whole elements is =
+    subst (AreFewPages (row_count body)) (sym is)
+    (subst (λ (it : List ElementOf). AreFewPages (row_count it) (page_starts (rows_on state.paper) (shapes_in it) stops)) (sym elements) (pages-few state stops whole))
+
+pub locked-of : {V : Type 0} (items : V → List PageRecordOf) (state : State) (pages_of : Option V) (body : List ElementOf) (breaks firsts pages : List ℕ) → IsWhole state → state.pages ≡ option_map items pages_of
+    → body ≡ (layout_in state).body → breaks ≡ (layout_in state).breaks → firsts ≡ key_starts state.lines (keys_in state) (option_map items pages_of) → pages ≡ page_starts (rows_on state.paper) (shapes_in body) (breaks ++ firsts)
+    → IfSome pages_of (λ those. LockedSheets (row_count body) (items those) firsts pages)
+locked-of items state pages_of body breaks firsts pages whole records elements stops first is =
+    let limit = rows_on state.paper in
+    subst (λ (ps : List ℕ). IfSome pages_of (λ those. LockedSheets (row_count body) (items those) firsts ps)) (sym is)
+    (subst (λ (bs : List ℕ). IfSome pages_of (λ those. LockedSheets (row_count body) (items those) firsts (page_starts limit (shapes_in body) (bs ++ firsts)))) (sym stops)
+    (subst (λ (it : List ElementOf). IfSome pages_of (λ those. LockedSheets (row_count it) (items those) firsts (page_starts limit (shapes_in it) ((layout_in state).breaks ++ firsts)))) (sym elements)
+    (locked items state pages_of firsts whole records first)))
+
+pub sheets-by : (state : State) (o : Option (List PageRecordOf)) → let firsts = key_starts state.lines (keys_in state) o in let body = (layout_in state).body in
+    marked_or_locked body o firsts (page_starts (rows_on state.paper) (shapes_in body) ((layout_in state).breaks ++ firsts)) ≡ sheets_in (rows_on state.paper) state.lines (rows_in state) (layout_in state).breaks o
+sheets-by state None =
+    let body = (layout_in state).body in
+    let stops = (layout_in state).breaks ++ [] in
+    marked_sheets-numbered (rows_in state) (marks_in body) (page_starts (rows_on state.paper) (shapes_in body) stops) (shown_rows-marks state.lines (heading_labels state.lines state.scenes) body)
+    ∙ ap (λ (shapes : List Shape). numbered_sheets (rows_in state) 1 (page_starts (rows_on state.paper) shapes stops)) (sym (same-shapes state))
+sheets-by state (Some records) =
+    let body = (layout_in state).body in
+    let begin = record_starts state.lines (keys_in state) records in
+    let stops = (layout_in state).breaks ++ begin in
+    ap (λ n. sheets_of_records n records begin (page_starts (rows_on state.paper) (shapes_in body) stops)) (sym (count-rows state))
+    ∙ ap (λ (shapes : List Shape). sheets_of_records (length (rows_in state)) records begin (page_starts (rows_on state.paper) shapes stops)) (sym (same-shapes state))
+
+-- The sheets that are made are those of the state.
+pub sheets-made : (state : State) (body : List ElementOf) (o : Option (List PageRecordOf)) (breaks firsts pages : List ℕ) → body ≡ (layout_in state).body → state.pages ≡ o → breaks ≡ (layout_in state).breaks
+    → firsts ≡ key_starts state.lines (keys_in state) o → pages ≡ page_starts (rows_on state.paper) (shapes_in body) (breaks ++ firsts) → marked_or_locked body o firsts pages ≡ body_sheets state
+sheets-made state body o breaks firsts pages elements records stops first page =
+    let limit = rows_on state.paper in
+    let those = (layout_in state).breaks in
+    let begin = key_starts state.lines (keys_in state) o in
+    ap (marked_or_locked body o firsts) (page ∙ ap (λ (bs : List ℕ). page_starts limit (shapes_in body) (bs ++ firsts)) stops)
+    ∙ ap (λ (fs : List ℕ). marked_or_locked body o fs (page_starts limit (shapes_in body) (those ++ fs))) first
+    ∙ ap (λ (it : List ElementOf). marked_or_locked it o begin (page_starts limit (shapes_in it) (those ++ begin))) elements
+    ∙ sheets-by state o
+    ∙ ap (sheets_in limit state.lines (rows_in state) those) (sym records)
+
+-- What the sheets of a body's pages ask for.
+pub asked-of : {V : Type 0} (items : V → List PageRecordOf) (state : State) (records : Option V) (body : List ElementOf) (breaks firsts pages : List ℕ) → IsWhole state → state.pages ≡ option_map items records
+    → body ≡ (layout_in state).body → breaks ≡ (layout_in state).breaks → firsts ≡ key_starts state.lines (keys_in state) (option_map items records) → pages ≡ page_starts (rows_on state.paper) (shapes_in body) (breaks ++ firsts)
+    → AskedOfPages items body records firsts pages
+asked-of items state records body breaks firsts pages whole same elements stops first is = record {
+  are = pages-of state body (breaks ++ firsts) pages whole elements is;
+  locked = locked-of items state records body breaks firsts pages whole same elements stops first is;
+}
+
+-- Lines that were just read, without records, are the opened state.
+pub opened-is : (text : TextState) → text.lines ≡ read_lines (line_texts text.lines) → text.next ≡ length text.lines → state_of text (records_of (opened_state [])) ≡ opened_state (line_texts text.lines)
+opened-is text read next =
+    let none = records_of (opened_state []) in
+    ap (λ (lines : List LineState). state_of (record { lines = lines; next = text.next }) none) read
+    ∙ ap (λ (id : ℕ). state_of (record { lines = read_lines (line_texts text.lines); next = id }) none) (next ∙ sym (length-map text.lines (λ (line : LineState). line.text)))
+
+pub opened-whole : (text : TextState) → IsText text → text.lines ≡ read_lines (line_texts text.lines) → text.next ≡ length text.lines → IsWhole (state_of text (records_of (opened_state [])))
+opened-whole text is read next =
+    let same = opened-is text read next in
+    subst IsWhole (sym same) (opening-whole (line_texts text.lines) (subst (λ (state : State). IsText (text_of state)) same is))

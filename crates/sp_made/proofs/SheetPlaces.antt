@@ -1,0 +1,156 @@
+-- The sheets of a state lie in its rows.
+use Rattle.std.proofs.Common.{◌≡◌, ℕ, ◌+◌, ◌-◌, ◌<◌, ◌≤◌, max, false, Option, Some, None, List, [], ◌∷◌, ◌++◌, length, map, get_or, slice_get, refl, sym, ap, subst, ◌∙◌, arith}
+use Rattle.std.specs.Prelude.{All, IfSome, fold, slice_range, slice_index_or, option_map}
+use Rattle.std.proofs.lemmas.List.{length-map}
+use Rattle.std.proofs.lemmas.List.Elements.{All-nil, All-cons, All-head, All-tail}
+use Rattle.spec_text.specs.Lines.{LineState, line_texts}
+use Rattle.spec_text.proofs.ListLaws.{pairs-head, pairs-tail}
+use Rattle.spec_pages.specs.Rows.{ElementOf}
+use Rattle.spec_pages.specs.Pages.{text_heights, rows_on}
+use Rattle.spec_pages.proofs.StartLists.{AreAbove, ArePagesOf, starts-are}
+use Rattle.spec_labels.specs.Labels.{LabelOf, plain_label}
+use Rattle.spec_labels.specs.PageRecords.{PageRecordOf, SheetOf, LiesWithin}
+use Rattle.spec_layout.specs.Cells.{RowShows}
+use Rattle.spec_layout.specs.Layout.{placed_in}
+use Rattle.spec_layout.specs.Shown.{Shown, shown_rows, shape_of}
+use Rattle.spec_layout.proofs.LayoutLaws.{layout_of-show}
+use Rattle.spec_layout.proofs.RowCounts.{layout_of-few}
+use Rattle.spec_layout.proofs.ShownLaws.{length-shown_rows, shown_rows-marks}
+use Rattle.spec_print.specs.Sheets.{Sheet}
+use Rattle.spec_state.specs.State.{State, text_of}
+use Rattle.spec_state.specs.Headings.{heading_labels}
+use Rattle.spec_state.specs.Keeping.{IsWhole}
+use Rattle.spec_state.specs.StateSheets.{greatest_mark, title_sheet, numbered_sheets, pages_in, sheets_in, layout_in, rows_in, titles_in, title_starts, body_sheets, shown_sheet, sheets_of_state}
+use Rattle.spec_state.proofs.SheetGets.{length-sheets, sheets-title, sheets-body}
+use Rattle.spec_state.proofs.StateLaws.{state-Cover}
+use Rattle.sp_layout.specs.Bodies.{row_count, marks_in}
+use Rattle.sp_made.specs.Made.{MadeOf, IsMadeOf}
+use Rattle.sp_made.specs.Places.{HasPlaces, title_at, sheet_shown}
+use Rattle.sp_made.proofs.MarkedLaws.{greatest-marks}
+
+-- ---- sheets that are numbered
+
+abbrev numbered_sheet : List Shown → ℕ → ℕ → ℕ → SheetOf
+numbered_sheet rows number page end = record {
+  first = plain_label number;
+  last = plain_label number;
+  start = page;
+  end = end;
+  round = greatest_mark (slice_range rows page end);
+  omitted = false;
+}
+
+abbrev IsRow : List Shown → ℕ → Type 0
+IsRow rows page = page < length rows
+
+numbered-lie : (rows : List Shown) (number : ℕ) (pages : List ℕ) → All (IsRow rows) pages → AreAbove pages → All (LiesWithin (length rows)) (numbered_sheets rows number pages)
+numbered-lie rows number [] inside rise = All-nil (LiesWithin (length rows))
+numbered-lie rows number (page ∷ later) inside rise =
+    All-cons (LiesWithin (length rows)) (numbered_sheet rows number page (slice_index_or later 0 (length rows))) (numbered_sheets rows (number + 1) later)
+    (by later (All-tail (IsRow rows) page later inside) (pairs-head (λ one other. one < other) page later rise))
+    (numbered-lie rows (number + 1) later (All-tail (IsRow rows) page later inside) (pairs-tail (λ one other. one < other) page later rise))
+  where
+    here : page < length rows
+    here = All-head (IsRow rows) page later inside
+
+    by : (pages : List ℕ) → All (IsRow rows) pages → All (λ other. page < other) pages → LiesWithin (length rows) (numbered_sheet rows number page (slice_index_or pages 0 (length rows)))
+    by [] each above = record { order = omega (arith, here); within = omega arith; some = λ shown. here }
+    by (next ∷ pages) each above =
+        let less : page < next = All-head (λ other. page < other) next pages above in
+        let end : next < length rows = All-head (IsRow rows) next pages each in
+        record { order = omega (arith, less); within = omega (arith, end); some = λ shown. less }
+
+-- Each sheet of the body lies in the rows, and only omitted ones have none.
+pub body-lie : (state : State) → IsWhole state → All (LiesWithin (length (rows_in state))) (body_sheets state)
+body-lie state whole = by state.pages refl
+  where
+    by : (records : Option (List PageRecordOf)) → state.pages ≡ records
+        → All (LiesWithin (length (rows_in state))) (sheets_in (rows_on state.paper) state.lines (rows_in state) (layout_in state).breaks records)
+    by (Some records) is = (state-Cover state records whole is).1
+    by None is =
+        let rows = rows_in state in
+        let shapes = map shape_of rows in
+        let size = length-map rows shape_of in
+        let are = starts-are (rows_on state.paper) (text_heights shapes) (length shapes) ((layout_in state).breaks ++ []) in
+        numbered-lie rows 1 (pages_in (rows_on state.paper) state.lines rows (layout_in state).breaks None) (λ k d h. (let i = are.inside k d h in omega (arith, i, size))) are.rise
+
+-- The first rows of title sheets rise, and are rows of the title page.
+pub titles-are : (state : State) → ArePagesOf (row_count (layout_in state).titles) (title_starts state)
+titles-are state =
+    let shapes = map shape_of (titles_in state) in
+    let size = length-map (titles_in state) shape_of in
+    let count = length-shown_rows state.lines None (layout_in state).titles in
+    let are = starts-are (rows_on state.paper) (text_heights shapes) (length shapes) [] in
+    record { rise = are.rise; inside = λ k d h. (let i = are.inside k d h in omega (arith, i, size, count)) }
+
+-- ---- what is made of a state
+
+pub made-places : (state : State) (it : MadeOf) → IsWhole state → IsMadeOf state it → HasPlaces state.lines it
+made-places state it whole made =
+    let show = layout_of-show state.speakers (text_of state) whole.text in
+    let most = layout_of-few state.speakers (text_of state) whole.text in
+    let count = length-shown_rows state.lines (heading_labels state.lines state.scenes) (layout_in state).body in
+    let few_titles : row_count (layout_in state).titles ≤ 16777216 = omega (arith, most) in
+    let few_rows : row_count (layout_in state).body ≤ 16777216 = omega (arith, most) in
+    let starts : ArePagesOf (row_count it.titles) it.title_starts =
+    subst (ArePagesOf (row_count it.titles)) (sym made.title_starts) (subst (λ (elements : List ElementOf). ArePagesOf (row_count elements) (title_starts state)) (sym made.titles) (titles-are state)) in
+    let lie : All (LiesWithin (row_count (layout_in state).body)) (body_sheets state) = subst (λ n. All (LiesWithin n) (body_sheets state)) count (body-lie state whole) in
+    record {
+      rising = starts.rise;
+      within = starts.inside;
+      few_titles = subst (λ (elements : List ElementOf). row_count elements ≤ 16777216) (sym made.titles) few_titles;
+      titles_show = subst (λ (elements : List ElementOf). All (RowShows (line_texts state.lines)) (placed_in elements)) (sym made.titles) show.0;
+      few_rows = subst (λ (elements : List ElementOf). row_count elements ≤ 16777216) (sym made.body) few_rows;
+      body_show = subst (λ (elements : List ElementOf). All (RowShows (line_texts state.lines)) (placed_in elements)) (sym made.body) show.1;
+      sheets_lie = subst (All (LiesWithin (row_count it.body))) (sym made.sheets) (subst (λ (elements : List ElementOf). All (LiesWithin (row_count elements)) (body_sheets state)) (sym made.body) lie);
+    }
+
+-- How many sheets it has.
+pub made-count : (state : State) (it : MadeOf) → IsMadeOf state it → length (sheets_of_state state) ≡ length it.title_starts + length it.sheets
+made-count state it made =
+    let all = length-sheets state in
+    let titles = ap length made.title_starts in
+    let sheets = ap length made.sheets in
+    omega (arith, all, titles, sheets)
+
+-- The title sheet at a place of these rows.
+abbrev rows_at : List Shown → List ℕ → ℕ → ℕ → Sheet
+rows_at rows starts i count = title_sheet (slice_range rows (get_or starts i 0) (slice_index_or starts (i + 1) count))
+
+pub made-title : (state : State) (it : MadeOf) (i : ℕ) → IsMadeOf state it → i < length it.title_starts
+    → slice_get (sheets_of_state state) i ≡ Some (title_at state.lines it i)
+made-title state it i made inside =
+    let own = layout_in state in
+    sheets-title state i (subst (λ (starts : List ℕ). i < length starts) made.title_starts inside)
+    ∙ ap (λ n. Some (rows_at (titles_in state) (title_starts state) i n)) (length-shown_rows state.lines None own.titles)
+    ∙ ap (λ (elements : List ElementOf). Some (rows_at (shown_rows state.lines None elements) (title_starts state) i (row_count elements))) (sym made.titles)
+    ∙ ap (λ (starts : List ℕ). Some (rows_at (shown_rows state.lines None it.titles) starts i (row_count it.titles))) (sym made.title_starts)
+
+-- The sheet at a place behind the title sheets.
+pub made-body : (state : State) (it : MadeOf) (i : ℕ) → IsMadeOf state it → length it.title_starts ≤ i
+    → slice_get (sheets_of_state state) i ≡ option_map (sheet_shown state.lines it) (slice_get it.sheets (i - length it.title_starts))
+made-body state it i made behind =
+    let own = layout_in state in
+    sheets-body state i (subst (λ (starts : List ℕ). length starts ≤ i) made.title_starts behind)
+    ∙ ap (λ (elements : List ElementOf). option_map (shown_sheet (shown_rows state.lines (heading_labels state.lines state.scenes) elements)) (slice_get (body_sheets state) (i - length (title_starts state)))) (sym made.body)
+    ∙ ap (λ (labels : Option (List LabelOf)). option_map (shown_sheet (shown_rows state.lines labels it.body)) (slice_get (body_sheets state) (i - length (title_starts state)))) (sym made.labels)
+    ∙ ap (λ (sheets : List SheetOf). option_map (shown_sheet (shown_rows state.lines it.labels it.body)) (slice_get sheets (i - length (title_starts state)))) (sym made.sheets)
+    ∙ ap (λ (starts : List ℕ). option_map (shown_sheet (shown_rows state.lines it.labels it.body)) (slice_get it.sheets (i - length starts))) (sym made.title_starts)
+
+-- The sheet that was found there, if any.
+pub made-found : (state now : State) (it : MadeOf) (i place : ℕ) (found : Option Sheet) → state ≡ now → IsMadeOf state it → length it.title_starts ≤ i → i - length it.title_starts ≡ place
+    → IfSome found (λ page. option_map (sheet_shown state.lines it) (slice_get it.sheets place) ≡ Some page) → IfSome found (λ page. slice_get (sheets_of_state now) i ≡ Some page)
+made-found state now it i place None same made behind at is = tt
+made-found state now it i place (Some page) same made behind at is =
+    ap (λ (those : State). slice_get (sheets_of_state those) i) (sym same)
+    ∙ made-body state it i made behind
+    ∙ ap (λ n. option_map (sheet_shown state.lines it) (slice_get it.sheets n)) at
+    ∙ is
+
+-- ---- marks
+
+-- The greatest mark of rows of elements.
+pub marks-greatest : (lines : List LineState) (labels : Option (List LabelOf)) (elements : List ElementOf) (start end : ℕ)
+    → fold max 0 (slice_range (marks_in elements) start end) ≡ greatest_mark (slice_range (shown_rows lines labels elements) start end)
+marks-greatest lines labels elements start end =
+    ap (λ (marks : List ℕ). fold max 0 (slice_range marks start end)) (sym (shown_rows-marks lines labels elements)) ∙ greatest-marks (shown_rows lines labels elements) start end

@@ -1,0 +1,4 @@
+pub mod Numbered
+pub mod Numbers
+pub mod Made
+pub mod Places

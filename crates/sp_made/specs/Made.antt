@@ -1,0 +1,70 @@
+-- What is made of a state.
+use Rattle.std.specs.Prelude.{◌≡◌, ℕ, ◌<◌, ◌≤◌, All, AllPairs, IfSome, List, [], length, Option, Some, None}
+use Rattle.spec_text.specs.Lines.{LineState}
+use Rattle.spec_pages.specs.Rows.{ElementOf}
+use Rattle.spec_labels.specs.declared.RowKey.{RowKey}
+use Rattle.spec_labels.specs.Labels.{LabelOf}
+use Rattle.spec_labels.specs.PageRecords.{PageRecordOf, SheetOf, ArePageRecords, ArePages, AreStarts, record_starts, sheets_of_records}
+use Rattle.spec_state.specs.State.{State}
+use Rattle.sp_layout.specs.Bodies.{row_count, marks_in}
+use Rattle.sp_layout.specs.LaidOut.{LayoutOf, keyed}
+use Rattle.sp_made.specs.Numbered.{marked_sheets}
+use Rattle.spec_state.specs.Headings.{heading_labels}
+use Rattle.spec_state.specs.StateSheets.{layout_in, keys_in, title_starts, body_sheets}
+
+-- Its elements laid out, the keys of its body's rows, the labels of its headings, the first rows of its title sheets, and its
+-- other sheets.
+pub record MadeOf : Type 0 where
+  pub titles : List ElementOf
+  pub body : List ElementOf
+  pub keys : List RowKey
+  pub labels : Option (List LabelOf)
+  pub title_starts : List ℕ
+  pub sheets : List SheetOf
+
+-- They are those of the state.
+pub record IsMadeOf (state : State) (it : MadeOf) : Type 0 where
+  pub titles : it.titles ≡ (layout_in state).titles
+  pub body : it.body ≡ (layout_in state).body
+  pub keys : it.keys ≡ keys_in state
+  pub labels : it.labels ≡ heading_labels state.lines state.scenes
+  pub title_starts : it.title_starts ≡ title_starts state
+  pub sheets : it.sheets ≡ body_sheets state
+
+-- Its text laid out, and the labels of its headings.
+pub record LaidOf : Type 0 where
+  pub layout : LayoutOf
+  pub labels : Option (List LabelOf)
+
+-- They are those of the state, and ask nothing of its page records.
+pub record IsLaidOf (state : State) (it : LaidOf) : Type 0 where
+  pub layout : it.layout ≡ keyed state.lines (layout_in state)
+  pub labels : it.labels ≡ heading_labels state.lines state.scenes
+
+-- The first rows of page records by the keys of all rows; none where pages aren't locked.
+abbrev pub key_starts : List LineState → List RowKey → Option (List PageRecordOf) → List ℕ
+key_starts lines keys None = []
+key_starts lines keys (Some records) = record_starts lines keys records
+
+-- What the sheets of page records ask for.
+pub record LockedSheets (rows : ℕ) (records : List PageRecordOf) (starts pages : List ℕ) : Type 0 where
+  pub some : 0 < length records
+  pub are : ArePageRecords records
+  pub begin : AreStarts rows records starts
+  pub pages_are : ArePages rows starts pages
+
+-- Page starts rise, are rows, and are few.
+pub record AreFewPages (rows : ℕ) (pages : List ℕ) : Type 0 where
+  pub rising : AllPairs (λ (one other : ℕ). one < other) pages
+  pub within : All (λ (page : ℕ). page < rows) pages
+  pub few : length pages ≤ 16777216
+
+-- What the sheets of elements on these pages ask for.
+pub record AskedOfPages {V : Type 0} (items : V → List PageRecordOf) (elements : List ElementOf) (records : Option V) (starts pages : List ℕ) : Type 0 where
+  pub are : AreFewPages (row_count elements) pages
+  pub locked : IfSome records (λ those. LockedSheets (row_count elements) (items those) starts pages)
+
+-- The sheets of elements on these pages: those of page records, or numbered ones by the marks of rows.
+abbrev pub marked_or_locked : List ElementOf → Option (List PageRecordOf) → List ℕ → List ℕ → List SheetOf
+marked_or_locked elements None starts pages = marked_sheets (marks_in elements) 1 pages
+marked_or_locked elements (Some records) starts pages = sheets_of_records (row_count elements) records starts pages

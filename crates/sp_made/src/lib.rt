@@ -1,0 +1,12 @@
+//! What is made of a state: its elements in rows, the labels of its headings, its pages and its sheets.
+#![tactic(auto)]
+
+mod headings;
+mod made;
+mod numbered;
+mod stops;
+mod views;
+
+pub use headings::headings_among;
+pub use made::{Laid, Made, lay, make, make_of, record_starts};
+pub use views::{body_shapes, made_sheet, made_title, sheet_count, title_count};

@@ -1,0 +1,240 @@
+//! What is made of a state and its stanzas: its elements in rows, the labels of its headings, and its sheets.
+ghost use Rattle.std.specs.Prelude.{◌≡◌, ℕ, ◌≤◌, ◌++◌, [], option_map, All, IfOk, IfSome};
+ghost use Rattle.spec_text.specs.Lines.{line_texts};
+ghost use Rattle.spec_script.specs.Stanzas.{stanzas_of};
+ghost use Rattle.spec_pages.specs.Pages.{page_starts, rows_on};
+ghost use Rattle.spec_labels.specs.PageRecords.{AreAnchored};
+ghost use Rattle.spec_state.specs.Headings.{heading_labels};
+ghost use Rattle.spec_state.specs.StateSheets.{body_sheets, layout_in};
+ghost use Rattle.spec_state.specs.Keeping.{IsWhole, state_of};
+ghost use Rattle.sp_text.specs.Gap.{text_of};
+ghost use Rattle.sp_exchange.specs.Restoring.{text_stanzas};
+ghost use Rattle.sp_layout.specs.Bodies.{row_count, shapes_in};
+ghost use Rattle.sp_layout.specs.LaidOut.{keyed};
+ghost use Rattle.sp_made.specs.Made.{AskedOfPages, IsLaidOf, IsMadeOf, key_starts, marked_or_locked};
+
+use crate::headings::{headings_among, scene_labels};
+use crate::numbered::marked_sheets;
+use crate::stops::merged_stops;
+use sp_kit::{Counter, Steps};
+use sp_labels::Label;
+use sp_layout::{Body, Layout, lay_out, placed_blocks};
+use sp_locks::{PageRecord, RowKey, Sheet, sheets, starts};
+use sp_records::Records;
+use sp_reflow::Pages;
+use sp_reread::Stanzas;
+use sp_text::Lines;
+use spec_pages::Paper;
+use std::alloc::{AllocError, Global};
+use std::marker::Model;
+
+/// The elements of a state laid out, the labels of its headings where scenes are locked, the first rows of its title
+/// sheets, and its other sheets.
+#[derive(Drop)]
+pub struct Made {
+    pub titles: Body,
+    pub body: Body,
+    pub labels: Option<Vec<Label>>,
+    pub title_pages: Pages,
+    pub sheets: Vec<Sheet>,
+}
+
+impl Model for Made {
+    ghost use Rattle.std.specs.Prelude.{option_map};
+    ghost use Rattle.sp_made.specs.Made.{MadeOf};
+
+    ghost Value = { MadeOf };
+
+    ghost view = { λ m. record {
+      titles = m.titles.elements;
+      body = m.body.elements;
+      keys = m.body.keys;
+      labels = option_map (λ those. those.items) m.labels;
+      title_starts = m.title_pages.starts;
+      sheets = m.sheets.items;
+    } };
+}
+
+/// How many body rows a page of the paper has.
+fn rows_on(paper: Paper) -> u32
+    ensures { result ≡ rows_on paper }
+{
+    match paper {
+        Paper::Letter => 54,
+        Paper::A4 => 58,
+    }
+}
+
+/// The text laid out, and the labels of its headings where scenes are locked.
+fn laid_text(
+    alloc: Global,
+    lines: &Lines,
+    stanzas: &Stanzas,
+    records: &Records,
+) -> Result<(Layout, Option<Vec<Label>>), AllocError>
+    requires whole { IsWhole (state_of (text_of lines.now) records.now) }
+    requires stanzas { stanzas.now.stanzas ≡ stanzas_of (line_texts lines.now.lines) }
+    ensures layout { IfOk result (λ it. it.0 ≡ keyed lines.now.lines (layout_in (state_of (text_of lines.now) records.now))) }
+    ensures labels { IfOk result (λ it. option_map (λ those. those.items) it.1 ≡ heading_labels lines.now.lines records.now.scenes) }
+{
+    let blocks = placed_blocks(alloc, stanzas)?;
+    let layout = lay_out(alloc, lines, &blocks, records.speakers)?;
+    let headings = headings_among(alloc, lines, &blocks)?;
+    let labels = scene_labels(alloc, &headings, &records.scenes)?;
+    Ok((layout, labels))
+}
+
+/// The first rows of the title sheets. Their fills aren't counted with those of the body.
+fn title_pages(alloc: Global, titles: &Body, paper: Paper) -> Result<Pages, AllocError>
+    ensures { IfOk result (λ pages. pages.starts ≡ page_starts (rows_on paper) (shapes_in titles.now.elements) []) }
+{
+    let mut fills = Counter::new();
+    let none: &[usize] = &[];
+    Pages::new(alloc, titles.shapes(), none, rows_on(paper), &mut fills)
+}
+
+/// The first rows of the pages of a body with these page breaks and these first rows of page records.
+fn body_pages<S: Steps>(
+    alloc: Global,
+    body: &Body,
+    breaks: &[usize],
+    starts: &[usize],
+    paper: Paper,
+    steps: &mut S,
+) -> Result<Pages, AllocError>
+    requires breaks { All (λ (stop : ℕ). stop ≤ row_count body.now.elements) breaks.now }
+    requires starts { All (λ (stop : ℕ). stop ≤ row_count body.now.elements) starts.now }
+    ensures starts { IfOk result (λ pages. pages.starts ≡ page_starts (rows_on paper) (shapes_in body.now.elements) (breaks.now ++ starts.now)) }
+    ensures reads { S.reads steps.new ≡ S.reads steps.old }
+{
+    let stops = merged_stops(alloc, breaks, starts)?;
+    Pages::new(alloc, body.shapes(), &stops, rows_on(paper), steps)
+}
+
+/// The first rows of page records; none where pages aren't locked.
+pub fn record_starts(
+    alloc: Global,
+    lines: &Lines,
+    keys: &[RowKey],
+    records: &Option<Vec<PageRecord>>,
+) -> Result<Vec<usize>, AllocError>
+    requires { IfSome records.now (λ those. AreAnchored lines.now.lines keys.now those.items) }
+    ensures { IfOk result (λ firsts. firsts.items ≡ key_starts lines.now.lines keys.now (option_map (λ those. those.items) records.now)) }
+{
+    match records {
+        None => Ok(Vec::new(alloc)),
+        Some(records) => starts(alloc, records, lines, keys),
+    }
+}
+
+/// The sheets of a body's pages: those of its page records where pages are locked, else numbered ones.
+fn sheets_of_pages(
+    alloc: Global,
+    body: &Body,
+    records: &Option<Vec<PageRecord>>,
+    starts: &[usize],
+    pages: &[usize],
+) -> Result<Vec<Sheet>, AllocError>
+    requires { AskedOfPages (λ those. those.items) body.now.elements records.now starts.now pages.now }
+    ensures { IfOk result (λ made. made.items ≡ marked_or_locked body.now.elements (option_map (λ those. those.items) records.now) starts.now pages.now) }
+{
+    match records {
+        None => marked_sheets(alloc, body.marks(), pages),
+        Some(records) => sheets(alloc, records, starts, pages, body.rows()),
+    }
+}
+
+/// The sheets of a body laid out.
+fn made_sheets<S: Steps>(
+    alloc: Global,
+    lines: &Lines,
+    records: &Records,
+    layout: &Layout,
+    steps: &mut S,
+) -> Result<Vec<Sheet>, AllocError>
+    requires whole { IsWhole (state_of (text_of lines.now) records.now) }
+    requires layout { layout.now ≡ keyed lines.now.lines (layout_in (state_of (text_of lines.now) records.now)) }
+    ensures sheets { IfOk result (λ made. made.items ≡ body_sheets (state_of (text_of lines.now) records.now)) }
+    ensures reads { S.reads steps.new ≡ S.reads steps.old }
+{
+    let body = &layout.body;
+    let firsts = record_starts(alloc, lines, body.keys(), &records.pages)?;
+    let pages = body_pages(alloc, body, &layout.breaks, &firsts, records.paper, steps)?;
+    sheets_of_pages(alloc, body, &records.pages, &firsts, pages.starts())
+}
+
+/// The elements of a state laid out, and the labels of its headings where scenes are locked.
+#[derive(Drop)]
+pub struct Laid {
+    pub layout: Layout,
+    pub labels: Option<Vec<Label>>,
+}
+
+impl Model for Laid {
+    ghost use Rattle.std.specs.Prelude.{option_map};
+    ghost use Rattle.sp_made.specs.Made.{LaidOf};
+
+    ghost Value = { LaidOf };
+
+    ghost view = { λ l. record { layout = l.layout; labels = option_map (λ those. those.items) l.labels } };
+}
+
+/// The text of a state laid out, by its stanzas. `AllocError` comes for want of memory alone.
+pub fn lay(
+    alloc: Global,
+    lines: &Lines,
+    stanzas: &Stanzas,
+    records: &Records,
+) -> Result<Laid, AllocError>
+    requires whole { IsWhole (state_of (text_of lines.now) records.now) }
+    requires stanzas { stanzas.now.stanzas ≡ text_stanzas (text_of lines.now) }
+    ensures { IfOk result (IsLaidOf (state_of (text_of lines.now) records.now)) }
+{
+    let (layout, labels) = laid_text(alloc, lines, stanzas, records)?;
+    Ok(Laid { layout, labels })
+}
+
+/// What is made of a state whose text is laid out. Each page of the body is filled once. `AllocError` comes for want of
+/// memory alone.
+pub fn make_of<S: Steps>(
+    alloc: Global,
+    lines: &Lines,
+    records: &Records,
+    laid: Laid,
+    steps: &mut S,
+) -> Result<Made, AllocError>
+    requires whole { IsWhole (state_of (text_of lines.now) records.now) }
+    requires laid { IsLaidOf (state_of (text_of lines.now) records.now) laid }
+    ensures made { IfOk result (IsMadeOf (state_of (text_of lines.now) records.now)) }
+    ensures reads { S.reads steps.new ≡ S.reads steps.old }
+{
+    let Laid { layout, labels } = laid;
+    let title_pages = title_pages(alloc, &layout.titles, records.paper)?;
+    let sheets = made_sheets(alloc, lines, records, &layout, steps)?;
+    let Layout { titles, body, .. } = layout;
+    Ok(Made {
+        titles,
+        body,
+        labels,
+        title_pages,
+        sheets,
+    })
+}
+
+/// What is made of a state and its stanzas. Each page of the body is filled once. `AllocError` comes for want of memory
+/// alone.
+pub fn make<S: Steps>(
+    alloc: Global,
+    lines: &Lines,
+    stanzas: &Stanzas,
+    records: &Records,
+    steps: &mut S,
+) -> Result<Made, AllocError>
+    requires stanzas { stanzas.now.stanzas ≡ text_stanzas (text_of lines.now) }
+    requires whole { IsWhole (state_of (text_of lines.now) records.now) }
+    ensures made { IfOk result (IsMadeOf (state_of (text_of lines.now) records.now)) }
+    ensures reads { S.reads steps.new ≡ S.reads steps.old }
+{
+    let laid = lay(alloc, lines, stanzas, records)?;
+    make_of(alloc, lines, records, laid, steps)
+}

@@ -1,0 +1,171 @@
+//! Sheets of elements laid out, lent.
+ghost use Rattle.std.specs.Prelude.{◌≡◌, ◌+◌, ◌<◌, ◌≤◌, None, Some, All, AllPairs, IfNone, IfSome, drop, length, option_map, slice_get, slice_index, slice_index_or, slice_range};
+ghost use Rattle.std.specs.Option.{option_copied};
+ghost use Rattle.spec_text.specs.Lines.{line_texts};
+ghost use Rattle.spec_labels.specs.PageRecords.{LiesWithin};
+ghost use Rattle.spec_layout.specs.Cells.{RowShows};
+ghost use Rattle.spec_layout.specs.Layout.{placed_in};
+ghost use Rattle.spec_layout.specs.Shown.{labels_past, shown_rows};
+ghost use Rattle.spec_print.specs.PageRows.{page_body};
+ghost use Rattle.spec_state.specs.StateSheets.{shown_sheet, title_sheet};
+ghost use Rattle.sp_layout.specs.Bodies.{row_count, shapes_in};
+ghost use Rattle.sp_print.specs.Views.{label_of};
+ghost use Rattle.sp_made.specs.Places.{HasPlaces, sheet_shown, title_at};
+
+use crate::made::Made;
+use crate::numbered::{greatest, page_behind};
+use sp_labels::Label;
+use sp_layout::Body;
+use sp_locks::Sheet;
+use sp_print::{PageView, SheetLabel};
+use sp_text::Lines;
+use spec_pages::Shape;
+
+/// The labels, where there are some.
+fn lent_labels(labels: &Option<Vec<Label>>) -> Option<&[Label]>
+    ensures { option_copied result ≡ option_map (λ those. those.items) labels.now }
+{
+    match labels {
+        None => None,
+        Some(labels) => Some(labels.as_slice()),
+    }
+}
+
+/// The labels behind the first ones.
+fn labels_behind(labels: &[Label], count: usize) -> &[Label]
+    ensures { result.now ≡ drop count labels.now }
+{
+    let past = count.min(labels.len());
+    &labels[past..]
+}
+
+/// The labels behind those of so many headings.
+fn labels_past<'a>(labels: Option<&'a [Label]>, count: usize) -> Option<&'a [Label]>
+    ensures { option_copied result ≡ labels_past count (option_copied labels.entry) }
+{
+    match labels {
+        None => None,
+        Some(labels) => Some(labels_behind(labels, count)),
+    }
+}
+
+/// The sheet of the rows of elements from one to before another, with the labels of all their headings.
+fn rows_view<'a>(
+    lines: &'a Lines,
+    body: &'a Body,
+    labels: Option<&'a [Label]>,
+    from: usize,
+    to: usize,
+    label: Option<SheetLabel<'a>>,
+    round: u8,
+) -> PageView<'a>
+    requires order { from < to }
+    requires within { to ≤ row_count body.now.elements }
+    requires few { row_count body.now.elements ≤ 16777216 }
+    requires show { All (RowShows (line_texts lines.now.lines)) (placed_in body.now.elements) }
+    ensures { result ≡ record { label = option_map label_of label.entry; round = round; rows = page_body round (slice_range (shown_rows lines.now.lines (option_copied labels.entry) body.now.elements) from to) } }
+{
+    let page = body.page(from, to);
+    let numbers = labels_past(labels, page.headings);
+    PageView::new(
+        lines,
+        page.elements,
+        numbers,
+        page.from,
+        page.to,
+        label,
+        round,
+    )
+}
+
+/// The title sheet at a place of those with these first rows.
+fn title_view<'a>(
+    lines: &'a Lines,
+    titles: &'a Body,
+    starts: &[usize],
+    place: usize,
+) -> PageView<'a>
+    requires inside { place < length starts.now }
+    requires rising { AllPairs (λ one other. one < other) starts.now }
+    requires within { All (λ page. page < row_count titles.now.elements) starts.now }
+    requires few { row_count titles.now.elements ≤ 16777216 }
+    requires show { All (RowShows (line_texts lines.now.lines)) (placed_in titles.now.elements) }
+    ensures { result ≡ title_sheet (slice_range (shown_rows lines.now.lines None titles.now.elements) (slice_index starts.now place) (slice_index_or starts.now (place + 1) (row_count titles.now.elements))) }
+{
+    let from = starts[place];
+    let to = page_behind(starts, place, titles.rows());
+    let round = greatest(&titles.marks()[from..to]);
+    rows_view(lines, titles, None, from, to, None, round)
+}
+
+/// A sheet of the body, with the labels of all its headings.
+fn body_view<'a>(
+    lines: &'a Lines,
+    body: &'a Body,
+    labels: Option<&'a [Label]>,
+    sheet: &'a Sheet,
+) -> PageView<'a>
+    requires lies { LiesWithin (row_count body.now.elements) sheet.now }
+    requires few { row_count body.now.elements ≤ 16777216 }
+    requires show { All (RowShows (line_texts lines.now.lines)) (placed_in body.now.elements) }
+    ensures { result ≡ shown_sheet (shown_rows lines.now.lines (option_copied labels.entry) body.now.elements) sheet.now }
+{
+    let label = SheetLabel {
+        first: &sheet.first,
+        last: &sheet.last,
+    };
+    if sheet.omitted {
+        return PageView::omitted(label, sheet.round);
+    }
+    rows_view(
+        lines,
+        body,
+        labels,
+        sheet.start,
+        sheet.end,
+        Some(label),
+        sheet.round,
+    )
+}
+
+/// What page ends see of each row of the body.
+pub fn body_shapes(made: &Made) -> &[Shape]
+    ensures { result.now ≡ shapes_in made.now.body }
+{
+    made.body.shapes()
+}
+
+/// How many title sheets there are.
+pub fn title_count(made: &Made) -> usize
+    ensures { result ≡ length made.now.title_starts }
+{
+    made.title_pages.starts().len()
+}
+
+/// How many sheets there are.
+pub fn sheet_count(made: &Made) -> usize
+    ensures { result ≡ length made.now.title_starts + length made.now.sheets }
+{
+    made.title_pages.starts().len() + made.sheets.len()
+}
+
+/// The title sheet at a place.
+pub fn made_title<'a>(lines: &'a Lines, made: &'a Made, place: usize) -> PageView<'a>
+    requires inside { place < length made.now.title_starts }
+    requires places { HasPlaces lines.now.lines made.now }
+    ensures { result ≡ title_at lines.now.lines made.now place }
+{
+    title_view(lines, &made.titles, made.title_pages.starts(), place)
+}
+
+/// The sheet at a place behind the title sheets.
+pub fn made_sheet<'a>(lines: &'a Lines, made: &'a Made, place: usize) -> Option<PageView<'a>>
+    requires { HasPlaces lines.now.lines made.now }
+    ensures some { IfSome result (λ page. option_map (sheet_shown lines.now.lines made.now) (slice_get made.now.sheets place) ≡ Some page) }
+    ensures none { IfNone result (length made.now.sheets ≤ place) }
+{
+    match made.sheets.get(place) {
+        None => None,
+        Some(sheet) => Some(body_view(lines, &made.body, lent_labels(&made.labels), sheet)),
+    }
+}
