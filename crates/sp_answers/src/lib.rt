@@ -9,6 +9,3 @@ mod sheets;
 pub use blocks::{block_replies, first_text, written_number};
 pub use rounds::round_name;
 pub use sheets::{scene_label_text, sheet_label, sheet_label_text, sheet_reply};
-
-#[cfg(test)]
-mod tests;

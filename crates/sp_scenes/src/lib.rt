@@ -14,6 +14,3 @@ pub use heading::{HeadingAt, SceneRecord};
 pub use locking::lock_scenes;
 pub use numbering::numbers;
 pub use sp_labels::LockFault;
-
-#[cfg(test)]
-mod tests;

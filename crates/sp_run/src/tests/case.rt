@@ -1,0 +1,228 @@
+//! A case as text.
+use std::alloc::{AllocError, Global};
+
+/// More than any call asks for.
+pub const MOST: usize = 1 << 30;
+
+/// What the program is run on, and what has to come of it. A case is lines of text; what a line is its first character says:
+///
+/// - `$` words, between spaces; without it the words are `print`;
+/// - `|` a line of the script, which stands under `f`, and is what the source has where there is no `>`; `-` where nothing
+///   stands under `f`;
+/// - `(` a line of the script, `)` one of the source, of a text so many times, as `3*a`;
+/// - `@` a line of the file under `f.desk`; `&` one of the file under `g`;
+/// - `>` a line of the source;
+/// - `!` a call that fails, from 0: of the source, as `i0`, of the sink, as `o0`, of the shelf, as `s0`;
+/// - `%` how many bytes the source gives and the sink takes in a call, where that isn't all;
+/// - `<` a line that is written; `+` bytes that are, without an end of a line;
+/// - `#` the label of a sheet that is written, none for a title sheet; `:` a row of it;
+/// - `?` the number of the status, and its line, where it isn't 0;
+/// - `=` a line of what stands under `f` at the end, `~` one of what stands under `f.desk`, where that is asked for.
+///
+/// Any other line is a remark. A number with `*` before a line stands for so many of it. In what is written `[n]` stands for n spaces.
+#[derive(Drop)]
+pub struct Case {
+    pub words: Vec<String>,
+    pub is_missing: bool,
+    pub script: Vec<u8>,
+    pub records: Vec<u8>,
+    pub other: Vec<u8>,
+    pub commands: Vec<u8>,
+    pub piece: usize,
+    pub input_fails: Vec<u64>,
+    pub output_fails: Vec<u64>,
+    pub shelf_fails: Vec<u64>,
+    pub written: Vec<u8>,
+    pub status: String,
+    pub script_kept: Vec<u8>,
+    pub records_kept: Vec<u8>,
+}
+
+/// A text in which `[n]` stands for n spaces.
+pub fn spaced(alloc: Global, row: &str) -> Result<Vec<u8>, AllocError> {
+    let text = row.as_bytes();
+    let mut bytes = Vec::new(alloc);
+    let mut count: Option<usize> = None;
+    for (place, byte) in text.iter().enumerate() {
+        match count {
+            Some(spaces) if *byte == b']' => {
+                bytes.extend_from_slice(vec![in alloc; b' '; spaces.min(100)]?.as_slice())?;
+                count = None;
+            }
+            Some(spaces) => {
+                let digit = byte.saturating_sub(b'0') as usize;
+                count = Some(spaces.saturating_mul(10).saturating_add(digit));
+            }
+            None => {
+                let next = text.get(place.saturating_add(1));
+                if *byte == b'[' && next.is_some_and(|next| next.is_ascii_digit()) {
+                    count = Some(0);
+                } else {
+                    bytes.push(*byte)?;
+                }
+            }
+        }
+    }
+    Ok(bytes)
+}
+
+/// Adds a line.
+fn add_line(bytes: &mut Vec<u8>, line: &[u8]) -> Result<(), AllocError> {
+    bytes.extend_from_slice(line)?;
+    bytes.push(b'\n')?;
+    Ok(())
+}
+
+/// The header of a sheet with this label, and the empty line below it.
+fn header(alloc: Global, label: &str) -> Result<Vec<u8>, AllocError> {
+    let mut bytes = Vec::new(alloc);
+    if !label.is_empty() {
+        let gap = vec![in alloc; b' '; 74usize.saturating_sub(label.len())]?;
+        bytes.extend_from_slice(gap.as_slice())?;
+        bytes.extend_from_slice(label.as_bytes())?;
+        bytes.push(b'.')?;
+    }
+    add_line(&mut bytes, b"\n")?;
+    Ok(bytes)
+}
+
+/// How often a line stands there, and the line.
+fn repeated(line: &str) -> (usize, &str) {
+    match line.split_once('*') {
+        Some((count, rest)) => match count.parse() {
+            Ok(count) => (count, rest),
+            Err(_) => (1, line),
+        },
+        None => (1, line),
+    }
+}
+
+/// A text that stands there so often.
+fn times(alloc: Global, line: &str) -> Result<Vec<u8>, AllocError> {
+    let (count, text) = repeated(line);
+    let mut bytes = Vec::new(alloc);
+    for _ in 0..count {
+        bytes.extend_from_slice(text.as_bytes())?;
+    }
+    Ok(bytes)
+}
+
+/// A call that fails.
+fn add_fails(case: &mut Case, text: &str) -> Result<(), AllocError> {
+    let Some(call) = text.get(1..) else {
+        return Ok(());
+    };
+    let Ok(call) = call.parse() else {
+        return Ok(());
+    };
+    match text.as_bytes().first() {
+        Some(b'i') => case.input_fails.push(call)?,
+        Some(b'o') => case.output_fails.push(call)?,
+        _ => case.shelf_fails.push(call)?,
+    }
+    Ok(())
+}
+
+/// Adds the words of a line.
+fn add_words(alloc: Global, words: &mut Vec<String>, line: &str) -> Result<(), AllocError> {
+    for word in line.split(' ') {
+        words.push(String::from_str(alloc, word)?)?;
+    }
+    Ok(())
+}
+
+/// Adds what a line says, but for the sheets.
+fn add(alloc: Global, case: &mut Case, kind: u8, line: &str) -> Result<(), AllocError> {
+    let text = line.as_bytes();
+    match kind {
+        b'$' => add_words(alloc, &mut case.words, line),
+        b'|' => add_line(&mut case.script, text),
+        b'(' => add_line(&mut case.script, times(alloc, line)?.as_slice()),
+        b')' => add_line(&mut case.commands, times(alloc, line)?.as_slice()),
+        b'@' => add_line(&mut case.records, text),
+        b'&' => add_line(&mut case.other, text),
+        b'>' => add_line(&mut case.commands, text),
+        b'=' => add_line(&mut case.script_kept, text),
+        b'~' => add_line(&mut case.records_kept, text),
+        b'-' => {
+            case.is_missing = true;
+            Ok(())
+        }
+        b'?' => {
+            let end = if line.contains(' ') { "\n" } else { "" };
+            case.status = format!(in alloc; "{line}{end}")?;
+            Ok(())
+        }
+        b'%' => {
+            case.piece = line.parse().unwrap_or(MOST);
+            Ok(())
+        }
+        b'!' => add_fails(case, line),
+        b'#' => {
+            let header = header(alloc, line)?;
+            case.written.extend_from_slice(header.as_slice())
+        }
+        b'+' => {
+            let line = spaced(alloc, line)?;
+            case.written.extend_from_slice(line.as_slice())
+        }
+        b'<' | b':' => {
+            let line = spaced(alloc, line)?;
+            add_line(&mut case.written, line.as_slice())
+        }
+        _ => Ok(()),
+    }
+}
+
+/// Nothing yet.
+fn no_case(alloc: Global) -> Case {
+    Case {
+        words: Vec::new(alloc),
+        is_missing: false,
+        script: Vec::new(alloc),
+        records: Vec::new(alloc),
+        other: Vec::new(alloc),
+        commands: Vec::new(alloc),
+        piece: MOST,
+        input_fails: Vec::new(alloc),
+        output_fails: Vec::new(alloc),
+        shelf_fails: Vec::new(alloc),
+        written: Vec::new(alloc),
+        status: String::new(alloc),
+        script_kept: Vec::new(alloc),
+        records_kept: Vec::new(alloc),
+    }
+}
+
+/// The case that a text says.
+pub fn case_of(alloc: Global, text: &str) -> Result<Case, AllocError> {
+    let mut case = no_case(alloc);
+    let mut in_sheet = false;
+    for line in text.split('\n') {
+        let (count, line) = repeated(line);
+        let Some(kind) = line.as_bytes().first() else {
+            continue;
+        };
+        if in_sheet && *kind != b':' {
+            case.written.push(b'\x0c')?;
+            in_sheet = false;
+        }
+        if *kind == b'#' {
+            in_sheet = true;
+        }
+        let rest = line.get(1..).unwrap_or("");
+        for _ in 0..count {
+            add(alloc, &mut case, *kind, rest)?;
+        }
+    }
+    if in_sheet {
+        case.written.push(b'\x0c')?;
+    }
+    if case.words.is_empty() {
+        add_words(alloc, &mut case.words, "print")?;
+    }
+    if case.status.is_empty() {
+        case.status.push('0')?;
+    }
+    Ok(case)
+}

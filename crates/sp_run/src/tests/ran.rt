@@ -1,0 +1,127 @@
+//! A case that is run.
+use crate::tests::case::{Case, MOST, case_of};
+use crate::{Status, fault_line, run};
+use sp_kit::{Counter, Fetched, MemoryShelf, MemorySink, MemorySource, Shelf};
+use std::alloc::{AllocError, Global};
+use std::process::Abort;
+use std::test::Fail;
+
+/// What is told of bytes.
+fn shown(alloc: Global, bytes: &[u8]) -> Result<String, AllocError> {
+    match String::from_utf8(bytes.to_vec(alloc)?) {
+        Ok(text) => Ok(text),
+        Err(_) => String::from_str(alloc, "no UTF-8"),
+    }
+}
+
+/// The number of a status and its line.
+pub fn told(alloc: Global, status: &Status) -> Result<String, AllocError> {
+    let mut sink = MemorySink::new(alloc, 4096, MOST, Vec::new(alloc))?;
+    if fault_line(status, &mut sink).is_err() {
+        return String::from_str(alloc, "its line fails");
+    }
+    let line = shown(alloc, sink.taken())?;
+    let code = status.code();
+    if line.is_empty() {
+        return format!(in alloc; "{code}");
+    }
+    format!(in alloc; "{code} {line}")
+}
+
+/// Stores bytes that a run may ask for.
+fn store(shelf: &mut MemoryShelf, name: &str, bytes: &[u8]) -> Result<(), AllocError> {
+    match shelf.store(name, bytes) {
+        Ok(()) => Ok(()),
+        Err(_) => Err(AllocError),
+    }
+}
+
+/// A shelf with the files of a case, whose calls fail as the case says.
+fn shelf_of(alloc: Global, case: &Case) -> Result<MemoryShelf, AllocError> {
+    let files = [
+        ("f", case.script.as_slice(), !case.is_missing),
+        ("f.desk", case.records.as_slice(), !case.records.is_empty()),
+        ("g", case.other.as_slice(), !case.other.is_empty()),
+    ];
+    let mut fails = Vec::new(alloc);
+    for call in &case.shelf_fails {
+        let stored = files.iter().filter(|file| file.2).count() as u64;
+        fails.push(call.saturating_add(stored))?;
+    }
+    let mut shelf = MemoryShelf::new(alloc, fails);
+    for (name, bytes, is_there) in files {
+        if is_there {
+            store(&mut shelf, name, bytes)?;
+        }
+    }
+    Ok(shelf)
+}
+
+/// What a run told and wrote, and what it left on the shelf.
+#[derive(Drop)]
+pub struct Outcome {
+    pub told: String,
+    pub written: String,
+    pub shelf: MemoryShelf,
+}
+
+/// Runs the program on a case.
+pub fn ran(alloc: Global, case: &Case) -> Result<Outcome, AllocError> {
+    let bytes = if case.commands.is_empty() {
+        case.script.to_vec(alloc)?
+    } else {
+        case.commands.to_vec(alloc)?
+    };
+    let mut input = MemorySource::new(bytes, case.piece, case.input_fails.to_vec(alloc)?);
+    let mut output = MemorySink::new(alloc, 1 << 20, case.piece, case.output_fails.to_vec(alloc)?)?;
+    let mut shelf = shelf_of(alloc, case)?;
+    let status = run(
+        alloc,
+        &case.words,
+        &mut input,
+        &mut output,
+        &mut shelf,
+        &mut Counter::new(),
+    );
+    Ok(Outcome {
+        told: told(alloc, &status)?,
+        written: shown(alloc, output.taken())?,
+        shelf,
+    })
+}
+
+/// What the shelf has under a name; nothing where it has none.
+pub fn kept(alloc: Global, shelf: &mut MemoryShelf, name: &str) -> Result<Vec<u8>, AllocError> {
+    match shelf.fetch(name, MOST) {
+        Ok(Fetched::Bytes(bytes)) => Ok(bytes),
+        _ => Ok(Vec::new(alloc)),
+    }
+}
+
+/// Runs the program on a case, and asks that it comes out as it says.
+pub fn comes_out(rt: &impl Abort, alloc: Global, case: &Case, text: &str) -> Result<(), Fail> {
+    let Outcome {
+        told,
+        written,
+        mut shelf,
+    } = ran(alloc, case)?;
+    assert!(rt; told.starts_with(case.status.as_str()), "{told} {text}");
+    let expected = shown(alloc, case.written.as_slice())?;
+    assert_eq!(rt; written.as_str(), expected.as_str(), "{text}");
+    for (name, bytes) in [("f", &case.script_kept), ("f.desk", &case.records_kept)] {
+        if !bytes.is_empty() {
+            let kept = kept(alloc, &mut shelf, name)?;
+            assert_eq!(rt; kept.as_slice(), bytes.as_slice(), "{text}");
+        }
+    }
+    Ok(())
+}
+
+/// The same of cases between which stand empty lines.
+pub fn come_out(rt: &impl Abort, alloc: Global, cases: &str) -> Result<(), Fail> {
+    for text in cases.split("\n\n") {
+        let case = case_of(alloc, text)?;
+        comes_out(rt, alloc, &case, text)?;
+    }
+    Ok(())
+}
