@@ -24,6 +24,8 @@ from program import LABELS, PROGRAM, SAVE, SECONDS, UNDO, Session, lines_of
 from report import tell
 
 NOBODY = 65534
+# The forms that open a script with its records.
+FORMS = ("print", "outline", "desk", "html", "cast", "packet", "room")
 REFUSED = {"no": "Shelf"}
 LINES = {
     0: "",
@@ -151,10 +153,22 @@ def statuses(place):
         f.unlink(missing_ok=True)
         if script is not None:
             f.write_bytes(script)
-        for form in ("print", "outline", "desk"):
+        for form in FORMS:
             yield from differs(f"{form} of {what}", place.run(form, "f"), (status, b"", line))
         if script is not None:
             yield from differs(f"{what} by print", place.run("print", text=script), (status, b"", line))
+    f.write_bytes(hello)
+    for words, status, line in (
+        (("collate", "gone", "f"), 3, "fountain: no file gone\n"),
+        (("collate", "f", "gone"), 3, "fountain: no file gone\n"),
+        (("collate", "f", "."), 7, LINES[7]),
+        (("collate", "f", "bad"), 13, "fountain: not printed sheets, file 1 sheet 0\n"),
+        (("collate", "bad", "f"), 13, "fountain: not printed sheets, file 0 sheet 0\n"),
+        (("collate", "bad", "gone"), 3, "fountain: no file gone\n"),
+    ):
+        place.put("bad", b"no sheet")
+        yield from differs(f"{words}", place.run(*words), (status, b"", line))
+    yield from differs("a sheet collated with itself", place.run("collate", "f", "f"), (0, hello, ""))
     f.write_bytes((b"a" * 4095 + b"\n") * 4096)
     yield from differs("a file at the limit", place.run("outline", "f"), (0, b"", ""))
 
@@ -167,7 +181,7 @@ def record_statuses(place):
         (b"\xff", "fountain: bad records, rule 1\n"),
     ):
         place.put("f.desk", records)
-        for form in ("print", "outline", "desk"):
+        for form in FORMS:
             yield from differs(f"{form} beside {records}", place.run(form, "f", text=lines_of(SAVE)), (8, b"", line))
     place.put("f", b"")
     (place.folder / "f.desk").unlink()
@@ -228,14 +242,15 @@ def little_memory(place):
 def full_output(place):
     place.put("f", b"!a\n" * 500)
     whole = place.run("print", "f")[1]
+    place.put("sheets", whole)
     with open("/dev/full", "wb") as full:
-        for words, text in ((("print", "f"), b""), (("print",), b"!a\n"), (("outline", "g"), b""), (("desk", "f"), lines_of(LABELS)), (("sample", "3"), b"")):
+        for words, text in ((("print", "f"), b""), (("print",), b"!a\n"), (("outline", "g"), b""), (("html", "g"), b""), (("collate", "sheets", "sheets"), b""), (("desk", "f"), lines_of(LABELS)), (("sample", "3"), b"")):
             place.put("g", b".A\n")
             ran = place.run(*words, text=text, stdout=full)
             yield from differs(f"{words[0]} to a full disk", (ran[0], ran[2]), (6, LINES[6]))
         place.put("f", b"!a\n")
         ran = place.run("desk", "f", text=lines_of(insert(0, "!b"), SAVE), stdout=full)
-        yield from differs("a session to a full disk", (ran[0], place.text("f"), place.names()), (6, b"!a\n", ["f", "g"]))
+        yield from differs("a session to a full disk", (ran[0], place.text("f"), place.names()), (6, b"!a\n", ["f", "g", "sheets"]))
         ran = place.run("print", "missing", stderr=full)
         yield from differs("a full disk for the line", (ran[0], ran[1]), (3, b""))
     place.put("f", b"!a\n" * 500)
@@ -330,7 +345,7 @@ def wild_clients(place):
 def folders_and_links(place):
     place.put("f", b"!a\n")
     (place.folder / "folder").mkdir()
-    for form in ("print", "outline", "desk"):
+    for form in FORMS:
         yield from ends(f"{form} of a folder", place.run(form, "folder"), 7)
         yield from ends(f"{form} below a file", place.run(form, "f/f"), 7)
         yield from ends(f"{form} of a name that is too long", place.run(form, "f" * 300), 7)
@@ -383,7 +398,7 @@ def permissions(place):
         return path
 
     opened("f", 0o000)
-    for form in ("print", "outline", "desk"):
+    for form in FORMS:
         yield from ends(f"{form} of a file that may not be read", place.run(form, "f", **how), 7)
     (place.folder / "f").unlink()
     opened("f", 0o644)
