@@ -154,12 +154,12 @@ def peak_memory(path):
 
 def main():
     parser = argparse.ArgumentParser()
-    parser.add_argument("--kind", choices=sorted([*KINDS, *LINES, "session", "locks", "cast"]), action="append")
+    parser.add_argument("--kind", choices=sorted([*KINDS, *LINES, "session", "locks", "cast", "collate"]), action="append")
     parser.add_argument("--runs", type=int, default=5)
     parser.add_argument("--most", type=int, default=16)
     options = parser.parse_args()
     subprocess.run([TOP / "run", "print"], stdin=subprocess.DEVNULL, check=True)
-    kinds = options.kind or [*KINDS, *LINES, "session", "locks", "cast"]
+    kinds = options.kind or [*KINDS, *LINES, "session", "locks", "cast", "collate"]
     with tempfile.TemporaryDirectory() as folder:
         folder = pathlib.Path(folder)
         if sizes := [kind for kind in kinds if kind in KINDS]:
@@ -172,6 +172,8 @@ def main():
             time_locks(folder, options)
         if "cast" in kinds:
             time_cast(folder, options)
+        if "collate" in kinds:
+            time_collate(folder, options)
 
 
 def growth(before, seconds):
@@ -243,6 +245,27 @@ def time_cast(folder, options):
             print(f"{kind:10} {2 * speeches:7} {seconds:9.4f} {growth(before, seconds)} {seconds / other:8.2f}", flush=True)
             before = seconds
             path.unlink()
+
+
+def sheets_of(count, letter):
+    """So many printed sheets, each with a label and 53 rows."""
+    for number in range(1, count + 1):
+        label = f"{number}{letter}."
+        yield " " * (75 - len(label)) + label + "\n\n" + (" " * 15 + f"row of sheet {label} with some words".ljust(60, "x") + "\n") * 53 + "\f"
+
+
+def time_collate(folder, options):
+    """Times the collation of two files of sheets whose labels lie between each other's, beside `cat` of both, into a file."""
+    print(f"{'kind':10} {'MB each':>7} {'collate s':>9} {'growth':>7} {'/ cat':>8}")
+    before = None
+    for megabytes in (12.5, 25, 50, 100):
+        path = folder / "old"
+        for name, letter in (("old", ""), ("new", "A")):
+            (folder / name).write_text("".join(sheets_of(int(megabytes * 245), letter)))
+        seconds = least('"$PROGRAM" collate "$FILE" "${FILE%old}new" > "$FILE.out"', path, options.runs)
+        other = least('cat "$FILE" "${FILE%old}new" > "$FILE.out"', path, options.runs)
+        print(f"{'collate':10} {megabytes:7} {seconds:9.4f} {growth(before, seconds)} {seconds / other:8.2f}", flush=True)
+        before = seconds
 
 
 def time_locks(folder, options):
