@@ -12,7 +12,7 @@ ghost use Rattle.sp_text.specs.Changing.{Refuses, edit_of};
 ghost use Rattle.spec_state.specs.Keeping.{IsWhole, records_of, state_of};
 ghost use Rattle.sp_text.specs.Gap.{text_of};
 ghost use Rattle.spec_layout.specs.Shown.{shape_of};
-ghost use Rattle.spec_state.specs.StateSheets.{body_sheets, rows_in, sheets_of_state};
+ghost use Rattle.spec_state.specs.StateSheets.{body_sheets, locked_starts, rows_in, sheets_of_state};
 ghost use Rattle.sp_reread.specs.Cache.{RisesWithin, counted_on};
 ghost use Rattle.sp_exchange.specs.Reads.{IsRefused};
 ghost use Rattle.sp_state.specs.Openings.{IsOpening};
@@ -23,7 +23,7 @@ use crate::editing::{edit_made, made_on, made_with_speakers, redo_made, undo_mad
 use crate::entry::{Entry, Unturned};
 use crate::fault::OpeningFault;
 use crate::locking::{lock_pages_made, lock_scenes_made, next_round_made};
-use crate::made::{Made, make};
+use crate::made::{Made, make, record_starts};
 use crate::views::{body_shapes, made_sheet, made_title, sheet_count, title_count};
 use sp_kit::Steps;
 use sp_locks::Sheet;
@@ -131,6 +131,19 @@ impl Script {
         ensures whole { IsWhole self.now }
     {
         &self.made.sheets
+    }
+
+    /// The first rows of its page records; none where pages aren't locked (docs/RULES.md, "Page records"). `AllocError` comes
+    /// for want of memory alone.
+    pub fn page_starts(&self, alloc: Global) -> Result<Vec<usize>, AllocError>
+        ensures { IfOk result (λ starts. starts.items ≡ locked_starts (self.now).lines (rows_in self.now) (self.now).pages) }
+    {
+        record_starts(
+            alloc,
+            &self.lines,
+            self.made.body.keys(),
+            &self.records.pages,
+        )
     }
 
     /// How many sheets it has, those of its title page counted. Takes no memory.
