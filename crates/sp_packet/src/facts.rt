@@ -16,7 +16,7 @@ use std::alloc::{AllocError, Global};
 use std::marker::Model;
 
 /// Records from one place to another, both included.
-#[derive(Debug, Clone, Copy, Drop)]
+#[derive(Debug, Drop)]
 pub struct Places {
     pub first: usize,
     pub last: usize,
@@ -119,11 +119,7 @@ fn add_pages(
 }
 
 /// The facts of the sheets with labels, by the first rows of records.
-fn facts_of(
-    alloc: Global,
-    script: &Script,
-    starts: &[usize],
-) -> Result<Vec<SheetFacts>, AllocError>
+fn facts_of(alloc: Global, script: &Script, starts: &[usize]) -> Result<Vec<SheetFacts>, AllocError>
     requires locked { is_some (script.now).pages ≡ true }
     requires starts { starts.now ≡ record_starts (script.now).lines (keys_in script.now) (records_in script.now) }
     ensures facts { IfOk result (λ facts. facts.items ≡ laid_facts (laid_of script.now)) }

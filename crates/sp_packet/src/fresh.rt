@@ -1,5 +1,5 @@
 //! Fresh records, counted.
-ghost use Rattle.std.specs.Prelude.{◌≡◌, ◌+◌, ◌^◌, ◌<◌, IfOk, map};
+ghost use Rattle.std.specs.Prelude.{◌≡◌, ◌+◌, ◌-◌, ◌^◌, ◌<◌, ◌||◌, IfOk, map};
 ghost use Rattle.sp_packet.specs.Fresh.{count_before, counts_of, has_fresh, has_fresh_cue, is_handed_by, is_of_round};
 ghost use Rattle.sp_packet.specs.Runs.{LieWithin, LiesBelow};
 
@@ -61,9 +61,9 @@ fn has_fresh(fresh: &FreshCounts, from: usize, to: usize) -> bool
 }
 
 /// Whether a record that a cue comes from is fresh.
-fn has_fresh_cue(fresh: &FreshCounts, cue: Option<Places>) -> bool
-    requires { LiesBelow (2 ^ 63) cue }
-    ensures { result ≡ has_fresh_cue fresh.now cue }
+fn has_fresh_cue(fresh: &FreshCounts, cue: &Option<Places>) -> bool
+    requires { LiesBelow (2 ^ 63) cue.now }
+    ensures { result ≡ has_fresh_cue fresh.now cue.now }
 {
     match cue {
         None => false,
@@ -72,9 +72,9 @@ fn has_fresh_cue(fresh: &FreshCounts, cue: Option<Places>) -> bool
 }
 
 /// Whether the record directly before some or directly behind them is fresh.
-fn has_fresh_neighbour(fresh: &FreshCounts, records: Places) -> bool
-    requires { records.last < 2 ^ 63 }
-    ensures { result ≡ (has_fresh fresh.now (records.first - 1) records.first || has_fresh fresh.now (records.last + 1) (records.last + 2)) }
+fn has_fresh_neighbour(fresh: &FreshCounts, records: &Places) -> bool
+    requires { (records.now).last < 2 ^ 63 }
+    ensures { result ≡ (has_fresh fresh.now ((records.now).first - 1) (records.now).first || has_fresh fresh.now ((records.now).last + 1) ((records.now).last + 2)) }
 {
     has_fresh(fresh, records.first.saturating_sub(1), records.first)
         || has_fresh(fresh, records.last + 1, records.last + 2)
@@ -85,11 +85,11 @@ pub(crate) fn is_handed(fresh: &FreshCounts, facts: &SheetFacts) -> bool
     requires { LieWithin (2 ^ 63) facts.now }
     ensures { result ≡ is_handed_by fresh.now facts.now }
 {
-    let records = facts.records;
+    let records = &facts.records;
     has_fresh(fresh, records.first, records.last + 1)
         || if facts.pages == 0 {
             has_fresh_neighbour(fresh, records)
         } else {
-            facts.pages > 1 || has_fresh_cue(fresh, facts.cue)
+            facts.pages > 1 || has_fresh_cue(fresh, &facts.cue)
         }
 }

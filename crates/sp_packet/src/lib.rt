@@ -5,7 +5,7 @@
 mod cue;
 mod facts;
 mod fresh;
-mod packet;
+mod handing;
 
 pub use facts::{Places, SheetFacts, sheet_facts};
-pub use packet::{PacketFault, packet};
+pub use handing::{PacketFault, packet};

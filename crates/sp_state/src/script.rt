@@ -23,7 +23,7 @@ use crate::editing::{edit_made, made_on, made_with_speakers, redo_made, undo_mad
 use crate::entry::{Entry, Unturned};
 use crate::fault::OpeningFault;
 use crate::locking::{lock_pages_made, lock_scenes_made, next_round_made};
-use crate::made::{Made, make, record_starts};
+use crate::made::{Made, made_starts, make};
 use crate::views::{body_shapes, made_sheet, made_title, sheet_count, title_count};
 use sp_kit::Steps;
 use sp_locks::Sheet;
@@ -138,12 +138,7 @@ impl Script {
     pub fn page_starts(&self, alloc: Global) -> Result<Vec<usize>, AllocError>
         ensures { IfOk result (λ starts. starts.items ≡ locked_starts (self.now).lines (rows_in self.now) (self.now).pages) }
     {
-        record_starts(
-            alloc,
-            &self.lines,
-            self.made.body.keys(),
-            &self.records.pages,
-        )
+        made_starts(alloc, &self.lines, &self.records, &self.made)
     }
 
     /// How many sheets it has, those of its title page counted. Takes no memory.

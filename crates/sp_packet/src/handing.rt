@@ -22,7 +22,7 @@ pub enum PacketFault {
 
 impl From<AllocError> for PacketFault {
     ghost use Rattle.std.specs.Prelude.{◌≡◌};
-    ghost use Rattle.sp_packet.specs.declared.packet.PacketFault.TheVariants.{NoMemory};
+    ghost use Rattle.sp_packet.specs.declared.handing.PacketFault.TheVariants.{NoMemory};
 
     ghost from_gives = { λ _ r. r ≡ NoMemory };
 
@@ -45,11 +45,7 @@ pub fn packet(alloc: Global, script: &Script) -> Result<Vec<u64>, PacketFault>
 }
 
 /// The places of the sheets of the packet, by the page records.
-fn packet_of(
-    alloc: Global,
-    script: &Script,
-    records: &[PageRecord],
-) -> Result<Vec<u64>, AllocError>
+fn packet_of(alloc: Global, script: &Script, records: &[PageRecord]) -> Result<Vec<u64>, AllocError>
     requires { (script.now).pages ≡ Some records.now }
     ensures { IfOk result (λ places. places.items ≡ packet_places script.now) }
 {
