@@ -29,7 +29,7 @@ fn shelf_of(
 }
 
 /// The status of these words over a shelf, and what was written.
-fn ended(
+pub fn ended(
     alloc: Global,
     words: &[&str],
     commands: &str,
