@@ -1,12 +1,12 @@
 -- The next sheet of a list.
-use Rattle.std.proofs.Common.{◌≡◌, inl, inr, ℕ, zero, suc, ◌+◌, ◌-◌, ◌<◌, ◌≤◌, ◌==◌, Bool, true, false, not, cond, List, [], ◌∷◌, ◌++◌, length, take, drop, get_or, refl, ap, ap₂, sym, subst, ◌∙◌, append_assoc, append-nil, length-append, ne_eqb, eqb-true, arith}
-use Rattle.std.specs.Prelude.{Option, Some, None, slice_get}
-use Rattle.std.specs.List.{list_any, before_first, after_first, slice_split, position_or_len}
+use Rattle.std.proofs.Common.{◌≡◌, inl, inr, ℕ, ◌+◌, ◌-◌, ◌<◌, ◌≤◌, ◌==◌, Bool, true, false, not, cond, List, [], ◌∷◌, ◌++◌, length, take, get_or, refl, ap, ap₂, sym, ◌∙◌, append_assoc, append-nil, length-append, ne_eqb, eqb-true, arith}
+use Rattle.std.specs.Prelude.{Option, Some, slice_get}
+use Rattle.std.specs.List.{after_first, slice_split, position_or_len}
 use Rattle.spec_script.specs.Letters.{ends}
 use Rattle.spec_labels.specs.Labels.{LabelOf}
 use Rattle.spec_print.specs.Sheets.{SheetLabelOf}
 use Rattle.spec_collation.specs.SheetLists.{PrintedOf, SheetListOf}
-use Rattle.spec_collation.specs.SheetReadings.{is_line_end, is_sheet_end, header_in, header_labels, PieceKind, title, labelled, no_sheet, kind_by_labels, kind_of, SheetsReading, sheets, broken, with_title, with_labelled, follows, is_first, read_piece, read_pieces, sheets_in}
+use Rattle.spec_collation.specs.SheetReadings.{header_in, header_labels, PieceKind, title, labelled, no_sheet, kind_by_labels, kind_of, SheetsReading, sheets, broken, with_labelled, follows, read_piece, read_pieces, sheets_in}
 use Rattle.std.proofs.lemmas.Bool.{cases_lt}
 use Rattle.std.proofs.lemmas.List.{take_at}
 use Rattle.std.proofs.lemmas.List.Sums.{passes_at_first, fails_before_first, split_at_first}

@@ -1,23 +1,21 @@
 -- The walk over two rising lists is their collation.
-use Rattle.std.proofs.Common.{◌≡◌, ◌⊎◌, inl, inr, ℕ, zero, suc, ◌+◌, ◌-◌, Bool, true, false, not, ◌&&◌, ◌||◌, cond, List, [], ◌∷◌, ◌++◌, map, take, drop, refl, ap, ap₂, sym, subst, ◌∙◌, arith}
+use Rattle.std.proofs.Common.{◌≡◌, inl, inr, ℕ, suc, ◌+◌, Bool, true, false, not, ◌&&◌, ◌||◌, cond, List, [], ◌∷◌, ◌++◌, map, take, drop, refl, ap, ap₂, sym, subst, ◌∙◌, arith}
 use Rattle.std.specs.Prelude.{filter, fold}
-use Rattle.std.specs.List.{list_any, prefix_len, flat_map}
-use Rattle.std.proofs.lemmas.Bool.{cases_Bool}
+use Rattle.std.specs.List.{list_any, flat_map}
 use Rattle.std.proofs.lemmas.List.{take-append-drop}
 use Rattle.spec_labels.specs.Labels.{LabelOf, Below}
 use Rattle.spec_labels.proofs.LabelOrder.{Below-transitive}
-use Rattle.spec_print.specs.Sheets.{SheetLabelOf}
 use Rattle.spec_collation.specs.SheetLists.{PrintedOf, IsIn, InOrder, UpTo, Before, AreRising}
 use Rattle.spec_collation.specs.SheetReadings.{is_below}
 use Rattle.spec_collation.specs.Collations.{meets, is_apart, put_sheet, collated}
-use Rattle.spec_collation.proofs.Lists.{in-left, in-right, filter-in, order-back, order-front}
-use Rattle.spec_collation.proofs.LabelTests.{below-test, test-below, upto-below, below-upto, upto-upto, upto-test, before-apart, behind-apart}
+use Rattle.spec_collation.proofs.Lists.{in-left, in-right, filter-in, order-back}
+use Rattle.spec_collation.proofs.LabelTests.{below-test, test-below, upto-below, below-upto, before-apart, behind-apart}
 use Rattle.spec_collation.proofs.CollationLaws.{Sooner, put-front, stays-front, none-apart}
 use Rattle.spec_collation.specs.SheetLists.{SheetListOf, bytes_of}
-use Rattle.spec_collation.specs.SheetReadings.{SheetsReading, sheets, broken, sheets_in}
-use Rattle.spec_collation.specs.BytesCollated.{Collating, collated_bytes, collating_lists, collating}
+use Rattle.spec_collation.specs.SheetReadings.{sheets, sheets_in}
+use Rattle.spec_collation.specs.BytesCollated.{collated_bytes, collating_lists, collating}
 use Rattle.spec_collation.proofs.ReadRising.{sheets_in-rising}
-use Rattle.sp_collation.specs.Merging.{ends_before, count_before, first_meets, merged, walk_bytes}
+use Rattle.sp_collation.specs.Merging.{count_before, first_meets, merged, walk_bytes}
 
 -- A list cut behind the sheets that end before a label.
 abbrev pub FirstFails : LabelOf → List PrintedOf → Type 0

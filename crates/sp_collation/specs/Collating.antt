@@ -1,8 +1,8 @@
 -- What the calls answer (docs/RULES.md, "Collation").
 use Rattle.std.specs.Prelude.{◌≡◌, ℕ, List}
 use Rattle.spec_collation.specs.SheetLists.{SheetListOf}
-use Rattle.spec_collation.specs.SheetReadings.{SheetsReading, sheets, broken, sheets_in}
-use Rattle.spec_collation.specs.BytesCollated.{Collating, collated_bytes, bad_sheets}
+use Rattle.spec_collation.specs.SheetReadings.{broken, sheets_in}
+use Rattle.spec_collation.specs.BytesCollated.{Collating, bad_sheets}
 use Rattle.sp_collation.specs.declared.fault.CollateFault.{CollateFault}
 use Rattle.sp_collation.specs.declared.fault.CollateFault.TheVariants.{BadSheets, NoMemory}
 use Rattle.sp_collation.specs.declared.sheets.SheetFault.{SheetFault}

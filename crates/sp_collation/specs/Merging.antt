@@ -1,5 +1,5 @@
 -- Two lists of sheets merged in one walk over both (docs/RULES.md, "Collation").
-use Rattle.std.specs.Prelude.{ℕ, Bool, true, false, not, if◌then◌else◌, List, [], ◌∷◌, ◌++◌, take, drop}
+use Rattle.std.specs.Prelude.{ℕ, Bool, false, not, if◌then◌else◌, List, [], ◌∷◌, ◌++◌, take, drop}
 use Rattle.std.specs.List.{prefix_len, flat_map}
 use Rattle.spec_labels.specs.Labels.{LabelOf}
 use Rattle.spec_print.specs.Sheets.{SheetLabelOf}

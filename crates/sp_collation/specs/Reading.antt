@@ -1,5 +1,5 @@
 -- Reading sheets one after another (docs/RULES.md, "Collation").
-use Rattle.std.specs.Prelude.{◌≡◌, ℕ, ◌+◌, ◌-◌, List, [], ◌∷◌, ◌++◌, length, slice_get, Option, Some, None, option_map}
+use Rattle.std.specs.Prelude.{◌≡◌, ℕ, ◌-◌, List, ◌++◌, length, slice_get, Option, Some, None}
 use Rattle.spec_labels.specs.Labels.{LabelOf}
 use Rattle.spec_collation.specs.SheetLists.{PrintedOf, SheetListOf}
 use Rattle.spec_collation.specs.SheetReadings.{SheetsReading, sheets, broken, kind_of, read_piece, sheets_in}

@@ -330,6 +330,13 @@ impl Desk {
         self.script.lines()
     }
 
+    /// Lends its script.
+    pub fn script(&self) -> &Script
+        ensures { result.now ≡ (self.now).state }
+    {
+        &self.script
+    }
+
     /// Lends the round, the settings and the records of the present state.
     pub fn records(&self) -> &Records
         ensures { result.now ≡ records_of (self.now).state }

@@ -5,7 +5,7 @@ ghost use Rattle.spec_script.specs.Stanzas.{stanzas_of};
 ghost use Rattle.spec_pages.specs.Pages.{page_starts, rows_on};
 ghost use Rattle.spec_labels.specs.PageRecords.{AreAnchored};
 ghost use Rattle.spec_state.specs.Headings.{heading_labels};
-ghost use Rattle.spec_state.specs.StateSheets.{body_sheets, layout_in};
+ghost use Rattle.spec_state.specs.StateSheets.{body_sheets, layout_in, locked_starts, rows_in};
 ghost use Rattle.spec_state.specs.Keeping.{IsWhole, state_of};
 ghost use Rattle.sp_text.specs.Gap.{text_of};
 ghost use Rattle.sp_exchange.specs.Restoring.{text_stanzas};
@@ -125,6 +125,20 @@ pub fn record_starts(
         None => Ok(Vec::new(alloc)),
         Some(records) => starts(alloc, records, lines, keys),
     }
+}
+
+/// The first rows of the page records of a state that this was made of; none where pages aren't locked.
+pub fn made_starts(
+    alloc: Global,
+    lines: &Lines,
+    records: &Records,
+    made: &Made,
+) -> Result<Vec<usize>, AllocError>
+    requires whole { IsWhole (state_of (text_of lines.now) records.now) }
+    requires made { IsMadeOf (state_of (text_of lines.now) records.now) made.now }
+    ensures { IfOk result (λ starts. starts.items ≡ locked_starts lines.now.lines (rows_in (state_of (text_of lines.now) records.now)) (records.now).pages) }
+{
+    record_starts(alloc, lines, made.body.keys(), &records.pages)
 }
 
 /// The sheets of a body's pages: those of its page records where pages are locked, else numbered ones.

@@ -91,6 +91,7 @@ module _ (old new : List ℕ) where
   first-refused shelf after (statuses.CommandLong number) it = absurd it
   first-refused shelf after statuses.InputFull it = absurd it
   first-refused shelf after (statuses.BadSheets file sheet) it = absurd it
+  first-refused shelf after statuses.NotLocked it = absurd it
 
   -- Two fetches leave the shelf as it was.
   both-same : (shelf between after : ShelfState) → SameShelf shelf between → SameShelf between after → SameShelf shelf after
@@ -133,6 +134,7 @@ module _ (old new : List ℕ) where
   second-refused shelf between after bytes (statuses.CommandLong number) first it = absurd it
   second-refused shelf between after bytes statuses.InputFull first it = absurd it
   second-refused shelf between after bytes (statuses.BadSheets file sheet) first it = absurd it
+  second-refused shelf between after bytes statuses.NotLocked first it = absurd it
 
   -- Both were fetched, and these views of them were collated.
   pub both-come : (shelf between after : ShelfState) (one other seen beside : List ℕ) (fate : Collating) → FetchedSheets shelf between old one → FetchedSheets between after new other
@@ -174,6 +176,7 @@ module _ (old new : List ℕ) where
       by (statuses.CommandLong number) it = absurd it
       by statuses.InputFull it = absurd it
       by (statuses.BadSheets file sheet) it = (it, none)
+      by statuses.NotLocked it = absurd it
 
   -- What a shelf tells decides.
   told-fate : (o : Option Files) (files : Files) (first second : Option (List ℕ)) → IfSome o (λ fs. fs old ≡ first) → IfSome o (λ fs. fs new ≡ second) → o ≡ Some files
@@ -204,3 +207,4 @@ module _ (old new : List ℕ) where
   answers-fate shelf after sink written (statuses.CommandLong number) it fetches writes low below files is = it.0
   answers-fate shelf after sink written statuses.InputFull it fetches writes low below files is = it.0
   answers-fate shelf after sink written (statuses.BadSheets file sheet) it fetches writes low below files is = comes-told shelf after files (spoils file sheet) it.0 is
+  answers-fate shelf after sink written statuses.NotLocked it fetches writes low below files is = it.0

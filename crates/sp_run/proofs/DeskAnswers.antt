@@ -68,3 +68,4 @@ desk-answers name old new statuses.NoMemory ends calm fetches low files is input
 desk-answers name old new (statuses.CommandLong number) ends calm fetches low files is input told = session-answers name old new (endings.CommandLong number) ends calm files is input told
 desk-answers name old new statuses.InputFull ends calm fetches low files is input told = session-answers name old new endings.InputFull ends calm files is input told
 desk-answers name old new (statuses.BadSheets file sheet) ends calm fetches low files is input told = absurd ends
+desk-answers name old new statuses.NotLocked ends calm fetches low files is input told = absurd ends

@@ -21,13 +21,13 @@ use Rattle.spec_wire.specs.Replies as replies
 use Rattle.spec_wire.specs.Replies.{ReplyOf, refused, saved, reply_line}
 use Rattle.spec_records.specs.RecordFile.{digest_of}
 use Rattle.spec_machine.specs.Machine.{Memory, opened_memory}
-use Rattle.spec_machine.specs.Answers.{Step, step_of}
+use Rattle.spec_machine.specs.Answers.{Step}
 use Rattle.spec_machine.specs.KeptMemories.{IsWholeMemory}
 use Rattle.spec_locked_pages.specs.Chains.{AreLinked}
 use Rattle.sp_kit.specs.Files.{Files, ShelfState}
 use Rattle.sp_run.specs.Records.{records_name}
 use Rattle.sp_run.specs.Saving.{Changes, KeepsAllBut, PutBoth, files_of}
-use Rattle.sp_run.specs.DeskLines.{NamedDesk, AnswersLine, RepliesTo, StopsAtLine, Stores, Leaves, asks_save, answered_line, answered_lines, desk_at, is_save, is_unsaved, line_step_by, memories_of, saved_step, shelf_behind, unsaved_count}
+use Rattle.sp_run.specs.DeskLines.{NamedDesk, AnswersLine, RepliesTo, StopsAtLine, Stores, Leaves, asks_save, answered_line, answered_lines, desk_at, is_save, is_unsaved, line_step_by, memories_of, other_step, saved_step, shelf_behind, unsaved_count}
 use Rattle.sp_run.specs.Promises.{ArePromised, Follows, KeepsPromises}
 use Rattle.std.specs.declared.option.Option.{Option}
 use Rattle.sp_run.specs.Forms.{desk}
@@ -103,7 +103,7 @@ told-rises before after asked reply (inl done) below = by-asked asked (ap (λ (i
     by-asks : (asks : Bool) (command : CommandOf) → is_save command ≡ asks → reply ≡ (line_step_by before.it.memory (Ok command)).reply → before.shelf.faults ≤ after.shelf.faults
         → before.shelf.faults + (if asks && bytes_eq (reply_line reply) (reply_line (refused replies.shelf)) then 1 else 0) ≤ after.shelf.faults
     by-asks true command asks is later =
-        let told : reply ≡ saved (digest_of before.it.memory.state.lines) = is ∙ ap (λ (b : Bool). (if b then saved_step before.it.memory else step_of before.it.memory command).reply) asks in
+        let told : reply ≡ saved (digest_of before.it.memory.state.lines) = is ∙ ap (λ (b : Bool). (if b then saved_step before.it.memory else other_step before.it.memory command).reply) asks in
         let other : bytes_eq (reply_line reply) (reply_line (refused replies.shelf)) ≡ false = ap (λ (r : ReplyOf). bytes_eq (reply_line r) (reply_line (refused replies.shelf))) told ∙ saved-told (digest_of before.it.memory.state.lines) in
         subst (λ (b : Bool). before.shelf.faults + (if b then 1 else 0) ≤ after.shelf.faults) (sym other) (omega (arith, later))
     by-asks false command asks is later = omega (arith, later)

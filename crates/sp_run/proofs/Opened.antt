@@ -63,6 +63,7 @@ none-unopened origin old new sink shelf after statuses.WriteFault it = absurd it
 none-unopened origin old new sink shelf after (statuses.CommandLong number) it = absurd it
 none-unopened origin old new sink shelf after statuses.InputFull it = absurd it
 none-unopened origin old new sink shelf after (statuses.BadSheets file sheet) it = absurd it
+none-unopened origin old new sink shelf after statuses.NotLocked it = absurd it
 
 -- A script that was had and comes to nothing but its length is too long.
 long-had : (origin : OriginOf) (old new : SourceState) (shelf after : ShelfState) (script : List ℕ) → HadScript origin old new shelf after script → printing_of script ≡ too_long
@@ -97,6 +98,7 @@ text-unopened origin old new sink shelf after script statuses.ShelfFault had it 
 text-unopened origin old new sink shelf after script (statuses.CommandLong number) had it = absurd it
 text-unopened origin old new sink shelf after script statuses.InputFull had it = absurd it
 text-unopened origin old new sink shelf after script (statuses.BadSheets file sheet) had it = absurd it
+text-unopened origin old new sink shelf after script statuses.NotLocked had it = absurd it
 
 -- What stands beside it is refused.
 pub beside-unopened : (name : List ℕ) (old new : SourceState) (sink : SinkState) (shelf between after : ShelfState) (script : List ℕ) (text : LinesState) (status : Status)
@@ -127,6 +129,7 @@ beside-unopened name old new sink shelf between after script text statuses.Write
 beside-unopened name old new sink shelf between after script text (statuses.CommandLong number) had read it = absurd it
 beside-unopened name old new sink shelf between after script text statuses.InputFull had read it = absurd it
 beside-unopened name old new sink shelf between after script text (statuses.BadSheets file sheet) had read it = absurd it
+beside-unopened name old new sink shelf between after script text statuses.NotLocked had read it = absurd it
 
 -- There was no memory behind the opening.
 pub had-unopened : (origin : OriginOf) (old new : SourceState) (sink : SinkState) (shelf after : ShelfState) (state : State) → HadState origin old new shelf after state

@@ -126,6 +126,7 @@ unfetched-beside name shelf after texts statuses.WriteFault it = absurd it
 unfetched-beside name shelf after texts (statuses.CommandLong number) it = absurd it
 unfetched-beside name shelf after texts statuses.InputFull it = absurd it
 unfetched-beside name shelf after texts (statuses.BadSheets file sheet) it = absurd it
+unfetched-beside name shelf after texts statuses.NotLocked it = absurd it
 
 -- The bytes that were fetched are refused.
 pub refused-beside : (name : List ℕ) (shelf after : ShelfState) (text : LinesState) (bytes : List ℕ) (status : Status) → FetchedRecords shelf after name (Some bytes) → RefusesFresh text bytes status
@@ -143,6 +144,7 @@ refused-beside name shelf after text bytes statuses.WriteFault fetched it = absu
 refused-beside name shelf after text bytes (statuses.CommandLong number) fetched it = absurd it
 refused-beside name shelf after text bytes statuses.InputFull fetched it = absurd it
 refused-beside name shelf after text bytes (statuses.BadSheets file sheet) fetched it = absurd it
+refused-beside name shelf after text bytes statuses.NotLocked fetched it = absurd it
 
 -- The same of what a call answered that read the bytes.
 pub found-some : {T : Type 0} (view : T → State) (name : List ℕ) (shelf after : ShelfState) (text : LinesState) (bytes : List ℕ) (result : Result T Status) → FetchedRecords shelf after name (Some bytes)

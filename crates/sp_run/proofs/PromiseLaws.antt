@@ -14,6 +14,7 @@ use Rattle.spec_locked_pages.specs.Chains.{AreLinked}
 use Rattle.spec_locked_pages.proofs.ChainLaws.{opened-linked, steps-linked}
 use Rattle.spec_locked_pages.proofs.PageLaws.{page-laws}
 use Rattle.spec_locked_pages.proofs.SheetParts.{bytes-among}
+use Rattle.spec_packet.proofs.MemoryPackets.{packet-laws}
 use Rattle.sp_desk.proofs.EntryLaws.{last-more}
 use Rattle.sp_run.specs.Promises.{Follows, KeepsPromises, IsPromised}
 
@@ -33,6 +34,7 @@ follows-promised earlier now it = record {
   round = beginning-stays now (it.whole).state;
   undo = edit-undone now;
   pages = page-laws now it.whole it.linked;
+  packet = packet-laws now it.whole it.linked;
   among = bytes-among now.state;
 }
 

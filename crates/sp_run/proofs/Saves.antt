@@ -17,7 +17,7 @@ use Rattle.sp_kit.specs.declared.shelf.ShelfFault.{ShelfFault}
 use Rattle.sp_kit.specs.declared.shelf.ShelfFault.TheVariants as shelf_faults
 use Rattle.sp_run.specs.Records.{records_name}
 use Rattle.sp_run.specs.Saving.{Changes, KeepsAllBut, TwoFiles, files_of, PutBoth, PutFirst, StoredBoth, StoreFailed, LeftBoth, StoreLeft, StoresBoth, RepliesToSave}
-use Rattle.sp_run.specs.DeskLines.{NamedDesk, desk_at, is_save, asks_save, saved_step, line_step_by, Stores, RepliesTo, Leaves, StopsAt}
+use Rattle.sp_run.specs.DeskLines.{NamedDesk, desk_at, is_save, is_packet, asks_save, saved_step, packet_step, other_step, line_step_by, packet_reply, Stores, RepliesTo, Leaves, StopsAt}
 
 -- The record file doesn't stand under the script's name.
 pub names-differ : (name : List ℕ) → name ≢ records_name name
@@ -172,7 +172,7 @@ save-replies name memory old new (saved digest) command asks it =
     let before = desk_at name memory old in
     let after = desk_at name memory new in
     inl (record {
-      step = ap (λ (d : List ℕ). record { after = memory; reply = saved d }) it.0 ∙ ap (λ (b : Bool). if b then saved_step memory else step_of memory command) (sym asks);
+      step = ap (λ (d : List ℕ). record { after = memory; reply = saved d }) it.0 ∙ ap (λ (b : Bool). if b then saved_step memory else other_step memory command) (sym asks);
       name = refl;
       stores = subst (λ (b : Bool). Stores b before after) (sym asks) it.1;
     })
@@ -197,8 +197,16 @@ other-stops name before after old new asked asks same kept =
     record { memory = inl kept; name = refl; leaves = subst (λ (b : Bool). Leaves b (desk_at name before old) (desk_at name after new)) (sym asks) same }
 
 -- A step of the machine is the step of a line that asks for its command.
-pub machine-step : (memory : Memory) (command : CommandOf) (step : Step) → is_save command ≡ false → step ≡ step_of memory command → step ≡ line_step_by memory (Ok command)
-machine-step memory command step asks is = is ∙ ap (λ (b : Bool). if b then saved_step memory else step_of memory command) (sym asks)
+pub machine-step : (memory : Memory) (command : CommandOf) (step : Step) → is_save command ≡ false → is_packet command ≡ false → step ≡ step_of memory command → step ≡ line_step_by memory (Ok command)
+machine-step memory command step asks other is = is ∙ ap (λ (b : Bool). if b then packet_step memory else step_of memory command) (sym other) ∙ ap (λ (b : Bool). if b then saved_step memory else other_step memory command) (sym asks)
+
+-- So is the packet.
+pub packet-step : (memory : Memory) (command : CommandOf) (reply : ReplyOf) → is_save command ≡ false → is_packet command ≡ true → reply ≡ packet_reply memory.state
+    → record { after = memory; reply = reply } ≡ line_step_by memory (Ok command)
+packet-step memory command reply asks packet is =
+    ap (λ (r : ReplyOf). record { after = memory; reply = r }) is
+    ∙ ap (λ (b : Bool). if b then packet_step memory else step_of memory command) (sym packet)
+    ∙ ap (λ (b : Bool). if b then saved_step memory else other_step memory command) (sym asks)
 
 -- What a reply left, want of memory for its line may leave.
 stored-leaves : (asks : Bool) (before after : AtShelf NamedDesk) → Stores asks before after → Leaves asks before after

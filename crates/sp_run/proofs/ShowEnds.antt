@@ -1,14 +1,16 @@
 -- How the writing of a script ends that was had whole.
-use Rattle.std.proofs.Common.{◌≡◌, ℕ, List, inl, inr, sym, subst}
+use Rattle.std.proofs.Common.{◌≡◌, ℕ, List, inl, inr, ap, sym, subst}
 use Rattle.std.specs.Prelude.{IsErrAnd, Ok, Err}
 use Rattle.std.specs.declared.result.Result.{Result}
+use Rattle.std.specs.Io.KnownBytes.{Keeps}
+use Rattle.std.proofs.KnownBytes.{Keeps-refl}
 use Rattle.spec_state.specs.State.{State}
 use Rattle.sp_kit.specs.Files.{ShelfState}
-use Rattle.sp_kit.specs.Outside.{SourceState}
+use Rattle.sp_kit.specs.Outside.{SourceState, SinkState}
 use Rattle.sp_text.specs.declared.fault.TextFault.TheVariants as faults
 use Rattle.sp_run.specs.Ending.{Outside, PartWritten, Unopened, ShowEnds, DeskEnds, NotDone, EndsAs}
 use Rattle.sp_run.specs.declared.form.View.{View}
-use Rattle.sp_run.specs.Forms.{OriginOf, from_source, from_file, view_bytes}
+use Rattle.sp_run.specs.Forms.{OriginOf, from_source, from_file, view_bytes, HasView, LacksView}
 use Rattle.sp_run.specs.Opening.{HadScript, HadState, FailedNothing}
 use Rattle.sp_run.specs.Written.{IsWritten}
 use Rattle.sp_run.specs.declared.status.Status.{Status}
@@ -36,6 +38,7 @@ unopened-shows view origin old new statuses.NoMemory it = (record { kept = it.ke
 unopened-shows view origin old new (statuses.CommandLong number) it = absurd it
 unopened-shows view origin old new statuses.InputFull it = absurd it
 unopened-shows view origin old new (statuses.BadSheets file sheet) it = absurd it
+unopened-shows view origin old new statuses.NotLocked it = absurd it
 
 -- A script that didn't open has no session.
 pub unopened-desk : (name : List ℕ) (old new : Outside) (status : Status) → Unopened (from_file name) old new status → DeskEnds name old new status × NotDone status
@@ -54,28 +57,40 @@ unopened-desk name old new statuses.NoMemory it = (inl it, tt)
 unopened-desk name old new (statuses.CommandLong number) it = absurd it
 unopened-desk name old new statuses.InputFull it = absurd it
 unopened-desk name old new (statuses.BadSheets file sheet) it = absurd it
+unopened-desk name old new statuses.NotLocked it = absurd it
+
+-- A script that was had whole and hasn't the view.
+pub lacks-ends : (view : View) (origin : OriginOf) (old new : Outside) (state : State) → HadState origin old.source new.source old.shelf new.shelf state → LacksView view state → new.sink ≡ old.sink
+    → ShowEnds view origin old new statuses.NotLocked
+lacks-ends view origin old new state had lacks same = record {
+  state = state;
+  had = had;
+  lacks = lacks;
+  nothing = record { taken = subst (λ (s : SinkState). Keeps old.sink.taken s.taken) (sym same) (Keeps-refl old.sink.taken); kept = ap (λ (s : SinkState). s.faults) same };
+}
 
 -- The answer is this status.
 pub err-ends : (view : View) (origin : OriginOf) (old new : Outside) (status : Status) (result : Result (Unit {0}) Status) → IsErrAnd result (λ s. s ≡ status) → Unopened origin old new status → EndsAs view origin old new result
 err-ends view origin old new status (Ok done) is it = absurd is
 err-ends view origin old new status (Err other) is it = subst (λ (s : Status). ShowEnds view origin old new s × NotDone s) (sym is) (unopened-shows view origin old new status it)
 
-pub show-ends : (view : View) (origin : OriginOf) (old new : Outside) (state : State) (result : Result (Unit {0}) Status) → HadState origin old.source new.source old.shelf new.shelf state
+pub show-ends : (view : View) (origin : OriginOf) (old new : Outside) (state : State) (result : Result (Unit {0}) Status) → HadState origin old.source new.source old.shelf new.shelf state → HasView view state
     → IsWritten old.sink new.sink (view_bytes view state) result → EndsAs view origin old new result
-show-ends view origin old new state (Ok done) had written = record { state = state; had = had; wrote = written.wrote; kept = written.kept }
-show-ends view origin old new state (Err statuses.WriteFault) had written =
-    let part : PartWritten view origin old new = record { state = state; had = had; wrote = written.wrote } in
+show-ends view origin old new state (Ok done) had has written = record { state = state; had = had; has = has; wrote = written.wrote; kept = written.kept }
+show-ends view origin old new state (Err statuses.WriteFault) had has written =
+    let part : PartWritten view origin old new = record { state = state; had = had; has = has; wrote = written.wrote } in
     (record { part = part; rose = written.rose }, tt)
-show-ends view origin old new state (Err statuses.NoMemory) had written =
-    let part : PartWritten view origin old new = record { state = state; had = had; wrote = written.wrote } in
+show-ends view origin old new state (Err statuses.NoMemory) had has written =
+    let part : PartWritten view origin old new = record { state = state; had = had; has = has; wrote = written.wrote } in
     (record { kept = had-whole origin old.source new.source old.shelf new.shelf had.script had.had; writes = written.kept; wrote = inr part }, tt)
-show-ends view origin old new state (Err statuses.Done) had written = absurd written
-show-ends view origin old new state (Err statuses.Usage) had written = absurd written
-show-ends view origin old new state (Err (statuses.NoFile name)) had written = absurd written
-show-ends view origin old new state (Err (statuses.BadText fault)) had written = absurd written
-show-ends view origin old new state (Err statuses.ReadFault) had written = absurd written
-show-ends view origin old new state (Err statuses.ShelfFault) had written = absurd written
-show-ends view origin old new state (Err (statuses.BadRecords fault)) had written = absurd written
-show-ends view origin old new state (Err (statuses.CommandLong number)) had written = absurd written
-show-ends view origin old new state (Err statuses.InputFull) had written = absurd written
-show-ends view origin old new state (Err (statuses.BadSheets file sheet)) had written = absurd written
+show-ends view origin old new state (Err statuses.Done) had has written = absurd written
+show-ends view origin old new state (Err statuses.Usage) had has written = absurd written
+show-ends view origin old new state (Err (statuses.NoFile name)) had has written = absurd written
+show-ends view origin old new state (Err (statuses.BadText fault)) had has written = absurd written
+show-ends view origin old new state (Err statuses.ReadFault) had has written = absurd written
+show-ends view origin old new state (Err statuses.ShelfFault) had has written = absurd written
+show-ends view origin old new state (Err (statuses.BadRecords fault)) had has written = absurd written
+show-ends view origin old new state (Err (statuses.CommandLong number)) had has written = absurd written
+show-ends view origin old new state (Err statuses.InputFull) had has written = absurd written
+show-ends view origin old new state (Err (statuses.BadSheets file sheet)) had has written = absurd written
+show-ends view origin old new state (Err statuses.NotLocked) had has written = absurd written

@@ -1,15 +1,18 @@
 -- What a desk makes of command lines (docs/RULES.md, "Sessions").
-use Rattle.std.specs.Prelude.{◌≡◌, ℕ, ◌+◌, ◌⊎◌, Bool, true, false, ◌&&◌, if◌then◌else◌, List, [], ◌∷◌, map}
+use Rattle.std.specs.Prelude.{◌≡◌, ℕ, ◌+◌, ◌⊎◌, Bool, true, false, ◌&&◌, if◌then◌else◌, List, [], ◌∷◌, map, is_some}
 use Rattle.std.specs.Str.{bytes_eq}
 use Rattle.std.specs.declared.result.Result.{Result}
 use Rattle.std.specs.declared.result.Result.TheVariants.{Ok, Err}
 use Rattle.spec_records.specs.RecordFile.{digest_of}
-use Rattle.spec_wire.specs.Commands.{CommandOf, FaultOf, save}
+use Rattle.spec_wire.specs.Commands.{CommandOf, FaultOf, save, packet}
 use Rattle.spec_wire.specs.Lines.{command_of_line}
-use Rattle.spec_wire.specs.Replies.{ReplyOf, refused, saved, shelf, unreadable, reply_line}
+use Rattle.spec_wire.specs.Replies as replies
+use Rattle.spec_wire.specs.Replies.{ReplyOf, refused, saved, shelf, unreadable, pages_not_locked, reply_line}
 use Rattle.spec_session.specs.Runs.{Answered, AtShelf}
+use Rattle.spec_state.specs.State.{State}
 use Rattle.spec_machine.specs.Machine.{Memory}
 use Rattle.spec_machine.specs.Answers.{Step, step_of}
+use Rattle.spec_packet.specs.StatePackets.{packet_places}
 use Rattle.sp_kit.specs.Files.{ShelfState}
 use Rattle.sp_run.specs.Promises.{Follows}
 use Rattle.sp_run.specs.Saving.{SavesState, StoreFailed, StoreLeft, files_of}
@@ -29,6 +32,10 @@ abbrev pub is_save : CommandOf → Bool
 is_save save = true
 is_save _ = false
 
+abbrev pub is_packet : CommandOf → Bool
+is_packet packet = true
+is_packet _ = false
+
 -- What was read of a line is the command to save.
 abbrev pub asks_save : Result CommandOf FaultOf → Bool
 asks_save (Ok command) = is_save command
@@ -42,9 +49,20 @@ unread_step memory fault = record { after = memory; reply = refused (unreadable 
 abbrev pub saved_step : Memory → Step
 saved_step memory = record { after = memory; reply = saved (digest_of memory.state.lines) }
 
+-- The packet of a state, or the refusal where pages aren't locked.
+abbrev pub packet_reply : State → ReplyOf
+packet_reply state = if is_some state.pages then replies.packet (packet_places state) else refused pages_not_locked
+
+abbrev pub packet_step : Memory → Step
+packet_step memory = record { after = memory; reply = packet_reply memory.state }
+
+-- A command that isn't to save: the packet, or what the machine does.
+abbrev pub other_step : Memory → CommandOf → Step
+other_step memory command = if is_packet command then packet_step memory else step_of memory command
+
 -- What becomes of a memory by what was read of a line, and the reply: a line that is no command changes nothing.
 abbrev pub line_step_by : Memory → Result CommandOf FaultOf → Step
-line_step_by memory (Ok command) = if is_save command then saved_step memory else step_of memory command
+line_step_by memory (Ok command) = if is_save command then saved_step memory else other_step memory command
 line_step_by memory (Err fault) = unread_step memory fault
 
 abbrev pub line_step : Memory → List ℕ → Step

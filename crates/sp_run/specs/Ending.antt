@@ -20,7 +20,7 @@ use Rattle.sp_text.specs.declared.fault.TextFault.TheVariants as faults
 use Rattle.sp_run.specs.declared.status.Status.{Status}
 use Rattle.sp_run.specs.declared.status.Status.TheVariants as statuses
 use Rattle.sp_run.specs.declared.form.View.{View}
-use Rattle.sp_run.specs.Forms.{OriginOf, Asked, show, desk, sample, collate, from_file, view_bytes}
+use Rattle.sp_run.specs.Forms.{OriginOf, Asked, show, desk, sample, collate, from_file, view_bytes, HasView, LacksView}
 use Rattle.spec_machine.specs.KeptMemories.{IsWholeMemory}
 use Rattle.spec_locked_pages.specs.Chains.{AreLinked}
 use Rattle.sp_run.specs.DeskLines.{AnswersLine, NamedDesk, StopsAtLine, answered_lines, desk_at, memories_of, shelf_behind, unsaved_count}
@@ -46,6 +46,7 @@ pub record WroteNothing (old new : Outside) : Type 0 where
 pub record Shown (view : View) (origin : OriginOf) (old new : Outside) : Type 0 where
   pub state : State
   pub had : HadState origin old.source new.source old.shelf new.shelf state
+  pub has : HasView view state
   pub wrote : Appends old.sink.taken new.sink.taken (view_bytes view state)
   pub kept : new.sink.faults ≡ old.sink.faults
 
@@ -53,12 +54,20 @@ pub record Shown (view : View) (origin : OriginOf) (old new : Outside) : Type 0 
 pub record PartWritten (view : View) (origin : OriginOf) (old new : Outside) : Type 0 where
   pub state : State
   pub had : HadState origin old.source new.source old.shelf new.shelf state
+  pub has : HasView view state
   pub wrote : AppendsPrefix old.sink.taken new.sink.taken (view_bytes view state)
 
 -- The sink failed, and what was written is a prefix of this view of a script that was had whole.
 pub record PartShown (view : View) (origin : OriginOf) (old new : Outside) : Type 0 where
   pub part : PartWritten view origin old new
   pub rose : Rose old.sink.faults new.sink.faults
+
+-- A script was had whole, with what stands beside it, and the state that they open as hasn't this view. Nothing was written.
+pub record LacksShown (view : View) (origin : OriginOf) (old new : Outside) : Type 0 where
+  pub state : State
+  pub had : HadState origin old.source new.source old.shelf new.shelf state
+  pub lacks : LacksView view state
+  pub nothing : WroteNothing old new
 
 -- A script was had whole, is refused for this reason, and nothing was written.
 pub record Refused (origin : OriginOf) (old new : Outside) (reason : Printing) : Type 0 where
@@ -137,6 +146,7 @@ ShowEnds view origin old new statuses.NoMemory = OutOfMemory view origin old new
 ShowEnds view origin old new (statuses.CommandLong number) = ⊥
 ShowEnds view origin old new statuses.InputFull = ⊥
 ShowEnds view origin old new (statuses.BadSheets file sheet) = ⊥
+ShowEnds view origin old new statuses.NotLocked = LacksShown view origin old new
 
 -- ---- a session of a desk
 
@@ -181,6 +191,7 @@ DeskEnds name old new statuses.NoMemory = NotOpened (from_file name) old new ⊎
 DeskEnds name old new (statuses.CommandLong number) = HeldSession name old new (endings.CommandLong number)
 DeskEnds name old new statuses.InputFull = HeldSession name old new endings.InputFull
 DeskEnds name old new (statuses.BadSheets file sheet) = ⊥
+DeskEnds name old new statuses.NotLocked = ⊥
 
 -- ---- a large sample
 
@@ -198,6 +209,7 @@ SampleEnds rooms old new statuses.NoMemory = WroteNothing old new
 SampleEnds rooms old new (statuses.CommandLong number) = ⊥
 SampleEnds rooms old new statuses.InputFull = ⊥
 SampleEnds rooms old new (statuses.BadSheets file sheet) = ⊥
+SampleEnds rooms old new statuses.NotLocked = ⊥
 
 -- How a run ends whose words ask for this.
 abbrev pub Ends : Asked → Outside → Outside → Status → Type 0
@@ -253,16 +265,25 @@ SaysNoFile name _ = ⊥
 abbrev pub Opens : List ℕ → Option (List ℕ) → Type 0
 Opens script records = (state : State) × OpensAs script records state
 
--- The status answers a script and what stands beside it: they are printed, or refused, or there is no memory.
-abbrev pub AnswersBoth : List ℕ → Option (List ℕ) → Status → Type 0
-AnswersBoth script records statuses.Done = Opens script records
-AnswersBoth script records (statuses.BadRecords fault) = RefusesRecords script records fault
-AnswersBoth script records status = Refuses (printing_of script) status
+-- It opens as a state that has this view, or as one that hasn't.
+abbrev pub OpensWith : View → List ℕ → Option (List ℕ) → Type 0
+OpensWith view script records = (state : State) × OpensAs script records state × HasView view state
+
+abbrev pub OpensWithout : View → List ℕ → Option (List ℕ) → Type 0
+OpensWithout view script records = (state : State) × OpensAs script records state × LacksView view state
+
+-- The status answers a script and what stands beside it: this view of them is written, they are refused, they haven't the view,
+-- or there is no memory.
+abbrev pub AnswersBoth : View → List ℕ → Option (List ℕ) → Status → Type 0
+AnswersBoth view script records statuses.Done = OpensWith view script records
+AnswersBoth view script records (statuses.BadRecords fault) = RefusesRecords script records fault
+AnswersBoth view script records statuses.NotLocked = OpensWithout view script records
+AnswersBoth view script records status = Refuses (printing_of script) status
 
 -- The status answers what stands under a name, and what stands under that of its records.
-abbrev pub AnswersFile : List ℕ → Option (List ℕ) → Option (List ℕ) → Status → Type 0
-AnswersFile name None records status = SaysNoFile name status
-AnswersFile name (Some script) records status = AnswersBoth script records status
+abbrev pub AnswersFile : View → List ℕ → Option (List ℕ) → Option (List ℕ) → Status → Type 0
+AnswersFile view name None records status = SaysNoFile name status
+AnswersFile view name (Some script) records status = AnswersBoth view script records status
 
 -- The status is the one that the command lines of an input ask for, or there is no memory.
 abbrev pub AnswersInput : List ℕ → Status → Type 0

@@ -10,10 +10,11 @@ use Rattle.spec_machine.specs.LabelPromises.{AreLabelled, LosesNone}
 use Rattle.spec_locked_pages.specs.Chains.{AreLinked}
 use Rattle.spec_locked_pages.specs.Segments.{IsLockedPage, StandsAmong, bytes_at}
 use Rattle.spec_locked_pages.specs.Promises.{ArePageLaws}
+use Rattle.spec_packet.specs.PacketPromises.{ArePacketLaws}
 
 -- Of a memory and a later one: the states keep the rules, labels rise and none is lost, a lock of pages and a new round leave the
--- bytes of every sheet, an undo gives back the whole state before its edit, locked pages keep their bytes, and the sheets of a locked
--- page are among those that the state has.
+-- bytes of every sheet, an undo gives back the whole state before its edit, locked pages keep their bytes, the sheets of a locked
+-- page are among those that the state has, and packets bring sheets up to date.
 pub record KeepsPromises (earlier now : Memory) : Type 0 where
   pub whole : IsWholeMemory now
   pub labels : AreLabelled now.state
@@ -22,6 +23,7 @@ pub record KeepsPromises (earlier now : Memory) : Type 0 where
   pub round : bytes_of_state (memory_after now next_round).state ≡ bytes_of_state now.state
   pub undo : (it : EditOf) → (memory_after (memory_after now (edit it)) undo).state ≡ now.state
   pub pages : ArePageLaws now
+  pub packet : ArePacketLaws now
   pub among : (i : ℕ) → IsLockedPage now.state i → StandsAmong (bytes_at now.state i) (bytes_of_state now.state)
 
 -- Of any two memories that a desk has one after the other, and of each for itself.

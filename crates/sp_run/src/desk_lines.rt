@@ -4,11 +4,12 @@ ghost use Rattle.std.specs.declared.result.Result.TheVariants.{Ok};
 ghost use Rattle.spec_wire.specs.Lines.{command_of_line};
 ghost use Rattle.spec_machine.specs.LabelPromises.{LosesNone};
 ghost use Rattle.sp_wire.specs.Values.{command_of, reply_of};
-ghost use Rattle.sp_run.specs.DeskLines.{RepliesTo, StopsAt, is_save, desk_at};
+ghost use Rattle.sp_run.specs.DeskLines.{RepliesTo, StopsAt, is_packet, is_save, packet_reply, desk_at};
 
 use crate::saving::save;
 use sp_desk::{Desk, DeskFault};
 use sp_kit::{Shelf, Steps};
+use sp_packet::{PacketFault, packet};
 use sp_session::Responder;
 use sp_wire::{Command, Refusal, Reply, WireFault, read_command, write_reply};
 use std::alloc::{AllocError, Global};
@@ -38,6 +39,24 @@ fn is_save(command: &Command) -> bool
     matches!(command, Command::Save)
 }
 
+/// Whether the command is `packet`.
+fn is_packet(command: &Command) -> bool
+    ensures { result ≡ is_packet (command_of command.now) }
+{
+    matches!(command, Command::Packet)
+}
+
+/// The packet of the present state, or the refusal where pages aren't locked (docs/RULES.md, "Packets").
+fn packet_reply(alloc: Global, desk: &Desk) -> Result<Reply, AllocError>
+    ensures { IfOk result (λ reply. reply_of reply ≡ packet_reply (desk.now).state) }
+{
+    match packet(alloc, desk.script()) {
+        Ok(places) => Ok(Reply::Packet(places)),
+        Err(PacketFault::PagesNotLocked) => Ok(Reply::Refused(Refusal::PagesNotLocked)),
+        Err(PacketFault::NoMemory) => Err(AllocError),
+    }
+}
+
 /// Does a command, and answers it. Only `save` touches the shelf.
 fn reply_to_command<F: Shelf, S: Steps>(
     alloc: Global,
@@ -53,6 +72,9 @@ fn reply_to_command<F: Shelf, S: Steps>(
 {
     if is_save(&command) {
         return save(alloc, name, desk, shelf);
+    }
+    if is_packet(&command) {
+        return packet_reply(alloc, desk);
     }
     match desk.apply(alloc, command, steps) {
         Ok(reply) => Ok(reply),

@@ -1,7 +1,9 @@
 //! The sheets of a script, written one by one.
-ghost use Rattle.std.specs.Prelude.{◌≡◌, ◌++◌, [], OnOk};
+ghost use Rattle.std.specs.Prelude.{◌≡◌, ℕ, ◌<◌, ◌++◌, [], true, All, OnOk, is_some, length};
 ghost use Rattle.std.specs.List.{flat_map};
 ghost use Rattle.sp_kit.specs.Outside.{Writes};
+ghost use Rattle.spec_print.specs.Sheets.{sheet_bytes};
+ghost use Rattle.spec_packet.specs.StatePackets.{packet_bytes, sheets_at};
 ghost use Rattle.spec_html.specs.HtmlReading.{styled_text};
 ghost use Rattle.spec_html.specs.HtmlSheets.{pages_html};
 ghost use Rattle.spec_html.specs.StyledSheets.{sheet_styled};
@@ -14,6 +16,7 @@ use crate::sheet_buffer::SheetBytes;
 use crate::status::Status;
 use sp_html::write_html;
 use sp_kit::{Failed, Sink, write_whole};
+use sp_packet::packet;
 use sp_print::{PageView, print_sheet};
 use sp_state::Script;
 use std::alloc::{AllocError, Global};
@@ -94,6 +97,35 @@ pub fn write_sheets<O: Sink>(alloc: Global, script: &Script, output: &mut O) -> 
     ensures { IsWritten (O.state output.old) (O.state output.new) (printed_state script.now) result }
 {
     write_all(alloc, SheetForm::Printed, script, output)
+}
+
+/// Writes the sheets of a script at these places, each made whole in one buffer first.
+fn write_places<O: Sink>(
+    alloc: Global,
+    script: &Script,
+    places: &[u64],
+    output: &mut O,
+) -> Result<(), Status>
+    requires { All (λ (place : ℕ). place < length (sheets_of_state script.now)) places.now }
+    ensures { IsWritten (O.state output.old) (O.state output.new) (flat_map sheet_bytes (sheets_at (sheets_of_state script.now) places.now)) result }
+{
+    let mut buffer = SheetBytes::new(alloc);
+    for place in places {
+        let Some(page) = script.sheet(*place as usize) else {
+            unreachable!();
+        };
+        write_sheet(SheetForm::Printed, &mut buffer, &page, output)?;
+    }
+    Ok(())
+}
+
+/// Writes the sheets of the packet of a script whose pages are locked (docs/RULES.md, "Packets").
+pub fn write_packet<O: Sink>(alloc: Global, script: &Script, output: &mut O) -> Result<(), Status>
+    requires { is_some (script.now).pages ≡ true }
+    ensures { IsWritten (O.state output.old) (O.state output.new) (packet_bytes script.now) result }
+{
+    let places = packet(alloc, script)?;
+    write_places(alloc, script, &places, output)
 }
 
 fn write_text<O: Sink>(text: &str, output: &mut O) -> Result<(), Status>

@@ -1,17 +1,17 @@
-//! Writing a script: its sheets, its outline, its page for a browser or the sides of its cast to the sink (docs/RULES.md, "The program").
-ghost use Rattle.std.specs.Prelude.{◌≡◌, ◌+◌};
+//! Writing a script: its sheets, its outline, its page for a browser, the sides of its cast or its packet to the sink (docs/RULES.md, "The program").
+ghost use Rattle.std.specs.Prelude.{◌≡◌, ◌+◌, true, false};
 ghost use Rattle.spec_text.specs.Limits.{raw_limit};
 ghost use Rattle.spec_machine.specs.Outlines.{outline_of};
 ghost use Rattle.spec_cast.specs.Said.{said_of};
 ghost use Rattle.spec_cast.specs.Sides.{sides_of};
-ghost use Rattle.sp_run.specs.Forms.{origin_of, view_bytes};
+ghost use Rattle.sp_run.specs.Forms.{HasView, LacksView, origin_of, view_bytes};
 ghost use Rattle.sp_run.specs.Opening.{LeavesSource, LeavesShelf};
 ghost use Rattle.sp_run.specs.Ending.{EndsAs, ReadsUpTo, outside};
 ghost use Rattle.sp_run.specs.Written.{IsWritten};
 
 use crate::form::{Origin, View};
 use crate::opening::open_state;
-use crate::sheets::{write_pages, write_sheets};
+use crate::sheets::{write_packet, write_pages, write_sheets};
 use crate::status::Status;
 use sp_cast::sides;
 use sp_contents::{outline_text, said};
@@ -37,7 +37,21 @@ pub fn show_script<I: Source, O: Sink, F: Shelf, S: Steps>(
 {
     let opened = open_state(alloc, origin, input, shelf)?;
     let script = Script::open(alloc, opened.lines, opened.records, steps)?;
+    if lacks_view(view, &script) {
+        return Err(Status::NotLocked);
+    }
     write_view(alloc, view, &script, output)
+}
+
+/// Whether a script hasn't this view: a packet where its pages aren't locked, and no other.
+fn lacks_view(view: View, script: &Script) -> bool
+    ensures lacks { result ≡ true → LacksView view script.now }
+    ensures has { result ≡ false → HasView view script.now }
+{
+    match view {
+        View::Packet => script.records().pages.is_none(),
+        _ => false,
+    }
 }
 
 /// Writes a view of a script that was opened.
@@ -47,6 +61,7 @@ fn write_view<O: Sink>(
     script: &Script,
     output: &mut O,
 ) -> Result<(), Status>
+    requires { HasView view script.now }
     ensures { IsWritten (O.state output.old) (O.state output.new) (view_bytes view script.now) result }
 {
     match view {
@@ -54,6 +69,7 @@ fn write_view<O: Sink>(
         View::Outline => write_outline(alloc, script, output),
         View::Html => write_pages(alloc, script, output),
         View::Cast => write_cast(alloc, script, output),
+        View::Packet => write_packet(alloc, script, output),
     }
 }
 

@@ -12,7 +12,7 @@ ghost use Rattle.sp_text.specs.Changing.{Refuses, edit_of};
 ghost use Rattle.spec_state.specs.Keeping.{IsWhole, records_of, state_of};
 ghost use Rattle.sp_text.specs.Gap.{text_of};
 ghost use Rattle.spec_layout.specs.Shown.{shape_of};
-ghost use Rattle.spec_state.specs.StateSheets.{body_sheets, rows_in, sheets_of_state};
+ghost use Rattle.spec_state.specs.StateSheets.{body_sheets, locked_starts, rows_in, sheets_of_state};
 ghost use Rattle.sp_reread.specs.Cache.{RisesWithin, counted_on};
 ghost use Rattle.sp_exchange.specs.Reads.{IsRefused};
 ghost use Rattle.sp_state.specs.Openings.{IsOpening};
@@ -25,7 +25,9 @@ use crate::fault::OpeningFault;
 use crate::locking::{lock_pages_made, lock_scenes_made, next_round_made};
 use sp_kit::Steps;
 use sp_locks::Sheet;
-use sp_made::{Made, body_shapes, made_sheet, made_title, make, sheet_count, title_count};
+use sp_made::{
+    Made, body_shapes, made_sheet, made_starts, made_title, make, sheet_count, title_count,
+};
 use sp_print::PageView;
 use sp_records::Records;
 use sp_reread::Stanzas;
@@ -130,6 +132,14 @@ impl Script {
         ensures whole { IsWhole self.now }
     {
         &self.made.sheets
+    }
+
+    /// The first rows of its page records; none where pages aren't locked (docs/RULES.md, "Page records"). `AllocError` comes
+    /// for want of memory alone.
+    pub fn page_starts(&self, alloc: Global) -> Result<Vec<usize>, AllocError>
+        ensures { IfOk result (λ starts. starts.items ≡ locked_starts (self.now).lines (rows_in self.now) (self.now).pages) }
+    {
+        made_starts(alloc, &self.lines, &self.records, &self.made)
     }
 
     /// How many sheets it has, those of its title page counted. Takes no memory.

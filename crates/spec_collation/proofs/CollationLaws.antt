@@ -1,15 +1,14 @@
 -- The old sheets, collated with the packet of the present ones, are the present ones.
-use Rattle.std.proofs.Common.{◌≡◌, ◌⊎◌, inl, inr, Bool, true, false, not, ◌||◌, cond, List, [], ◌∷◌, map, refl, ap, ap₂, sym, subst, ◌∙◌}
+use Rattle.std.proofs.Common.{◌≡◌, inl, inr, Bool, true, false, not, ◌||◌, cond, List, [], ◌∷◌, map, refl, ap, sym, subst, ◌∙◌}
 use Rattle.std.specs.Prelude.{filter, fold}
 use Rattle.std.specs.List.{list_any}
 use Rattle.std.proofs.lemmas.Bool.{cases_Bool}
 use Rattle.spec_labels.specs.Labels.{Below}
 use Rattle.spec_labels.proofs.LabelOrder.{Below-asymmetric}
-use Rattle.spec_collation.specs.SheetLists.{PrintedOf, IsIn, InOrder, UpTo, Before, AreRising}
-use Rattle.spec_collation.specs.SheetReadings.{is_below}
+use Rattle.spec_collation.specs.SheetLists.{PrintedOf, IsIn, InOrder, Before, AreRising}
 use Rattle.spec_collation.specs.Collations.{meets, is_apart, put_sheet, collated, Choice, sheet_of, is_handed, present_of, packet_of, Suffices}
 use Rattle.spec_collation.proofs.Lists.{in-map, map-in, in-filter, filter-in, order-filter, order-map, map-order, order-weaker, order-pair, same-list}
-use Rattle.spec_collation.proofs.LabelTests.{below-test, upto-below, below-upto, upto-not, upto-test, cover-meets, before-apart, behind-apart}
+use Rattle.spec_collation.proofs.LabelTests.{below-test, upto-below, upto-not, upto-test, cover-meets, before-apart, behind-apart}
 
 -- In order of first labels.
 abbrev pub Sooner : PrintedOf → PrintedOf → Type 0

@@ -1,27 +1,25 @@
 -- The header of a printed sheet gives back its labels.
-use Rattle.std.proofs.Common.{◌≡◌, ◌≢◌, ◌⊎◌, inl, inr, ℕ, zero, suc, ◌+◌, ◌-◌, ◌^◌, ◌<◌, ◌≤◌, max, Bool, true, false, not, ◌&&◌, ◌||◌, ◌==◌, cond, List, [], ◌∷◌, ◌++◌, length, take, replicate, refl, ap, ap₂, sym, subst, ◌∙◌, append_assoc, append-nil, length-append, ne_eqb, lt-ltb, le-ltb, leb-true, ltb-true, arith, Ordering, Less, Equal, Greater}
-use Rattle.std.specs.Prelude.{All, Option, Some, None, nat_lt, nat_le, codes, option_map}
-use Rattle.std.specs.List.{list_any, list_all, flat_map, before_first, after_first}
+use Rattle.std.proofs.Common.{◌≡◌, inl, inr, ℕ, ◌+◌, ◌-◌, ◌<◌, ◌≤◌, Bool, true, false, cond, List, [], ◌∷◌, ◌++◌, length, refl, ap, ap₂, sym, subst, ◌∙◌, append_assoc, append-nil, ne_eqb, lt-ltb, le-ltb, arith, Ordering, Less, Equal, Greater}
+use Rattle.std.specs.Prelude.{All, Some, None, codes, option_map}
+use Rattle.std.specs.List.{before_first, after_first}
 use Rattle.std.specs.Ordering.{is_eq}
-use Rattle.std.proofs.lemmas.Bool.{cases_Bool, and_parts, cases_lt}
+use Rattle.std.proofs.lemmas.Bool.{cases_lt}
 use Rattle.std.proofs.lemmas.List.Elements.{All-nil, All-cons, All-head, All-tail, All-append, All-weaker}
 use Rattle.std.proofs.lemmas.Cmp.{tied_itself}
 use Rattle.std.proofs.lemmas.List.{replicate-append-replicate}
-use Rattle.spec_script.specs.Letters.{ends}
-use Rattle.spec_labels.specs.Labels.{LabelOf, IsLabel, label_cmp, label_text, Below}
-use Rattle.spec_labels.specs.LabelReading.{number_limit, step_limit, Spells, label_read}
+use Rattle.spec_labels.specs.Labels.{LabelOf, label_cmp, label_text, Below}
+use Rattle.spec_labels.specs.LabelReading.{label_read}
 use Rattle.spec_labels.proofs.LabelOrder.{label_cmp_total, label_cmp-Equal}
 use Rattle.spec_labels.proofs.LabelTexts.{small_steps}
 use Rattle.spec_labels.proofs.LabelReadings.{label_read-IsReading, IsReading-unique}
-use Rattle.spec_layout.specs.Cells.{ShownCell, fixed_cell}
-use Rattle.spec_print.specs.RowBytes.{ShownRow, cell_bytes, cells_bytes, columns_behind, gap, spaces, untabbed, is_blank, row_bytes, row_line}
-use Rattle.spec_print.specs.Rounds.{round_name}
-use Rattle.spec_print.specs.Sheets.{SheetLabelOf, Sheet, sheet_label_text, ending_cell, round_cells, label_cells, header_row, sheet_bytes}
+use Rattle.spec_layout.specs.Cells.{fixed_cell}
+use Rattle.spec_print.specs.RowBytes.{cell_bytes, gap, spaces, untabbed}
+use Rattle.spec_print.specs.Sheets.{SheetLabelOf, sheet_label_text}
 use Rattle.spec_collation.specs.SheetLists.{UpTo}
-use Rattle.spec_collation.specs.SheetReadings.{is_below, is_line_end, is_dash, is_sheet_end, header_in, last_word, one_label, two_labels, labels_in, header_labels, PieceKind, title, labelled, no_sheet, kind_by_labels, kind_of}
+use Rattle.spec_collation.specs.SheetReadings.{is_dash, one_label, two_labels, labels_in}
 use Rattle.spec_collation.specs.Pieces.{IsReadable}
-use Rattle.spec_collation.proofs.Words.{before-first, after-first, any-behind, any-none, is_space, last-word, ends-behind, take-last}
-use Rattle.spec_collation.proofs.LabelBytes.{IsLabelByte, label-bytes, all_below, all_below-at}
+use Rattle.spec_collation.proofs.Words.{before-first, after-first, any-behind, any-none}
+use Rattle.spec_collation.proofs.LabelBytes.{IsLabelByte, label-bytes}
 use Rattle.spec_collation.proofs.LabelTests.{below-test}
 
 -- Both labels of a sheet are, and the first isn't behind the last.

@@ -1,9 +1,9 @@
 -- Tests of labels and of spans of labels.
-use Rattle.std.proofs.Common.{◌≡◌, ◌⊎◌, inl, inr, Bool, true, false, not, ◌&&◌, refl, ap, ap₂, sym, subst, ◌∙◌, Ordering, Less, Equal, Greater}
+use Rattle.std.proofs.Common.{◌≡◌, inl, inr, Bool, true, false, not, ◌&&◌, refl, ap, ap₂, sym, subst, ◌∙◌, Ordering, Less, Equal, Greater}
 use Rattle.std.specs.Ordering.{is_lt}
 use Rattle.std.proofs.lemmas.Bool.{cases_Bool}
 use Rattle.spec_labels.specs.Labels.{LabelOf, label_cmp, Below}
-use Rattle.spec_labels.proofs.LabelOrder.{Below-irreflexive, Below-transitive, Below-asymmetric}
+use Rattle.spec_labels.proofs.LabelOrder.{Below-irreflexive, Below-transitive}
 use Rattle.spec_print.specs.Sheets.{SheetLabelOf}
 use Rattle.spec_collation.specs.SheetLists.{UpTo}
 use Rattle.spec_collation.specs.SheetReadings.{is_below}

@@ -1,16 +1,16 @@
 -- A printed sheet is one piece, which is read as what it is.
-use Rattle.std.proofs.Common.{◌≡◌, ◌≢◌, ◌⊎◌, inl, inr, ℕ, zero, suc, ◌+◌, ◌-◌, ◌<◌, ◌≤◌, max, Bool, true, false, not, ◌&&◌, ◌==◌, ◌^◌, ◌/◌, ◌%◌, cond, List, [], ◌∷◌, ◌++◌, length, take, replicate, refl, ap, ap₂, sym, subst, ◌∙◌, append_assoc, append-nil, length-append, ne_eqb, leb-true, le-leb, ltb-true, arith}
-use Rattle.std.specs.Prelude.{All, Option, Some, None, codes, nat_le, nat_lt, decimal}
-use Rattle.std.specs.List.{list_any, list_all, flat_map}
+use Rattle.std.proofs.Common.{◌≡◌, inl, inr, ℕ, zero, suc, ◌+◌, ◌-◌, ◌<◌, ◌≤◌, max, Bool, true, false, not, ◌&&◌, ◌==◌, ◌^◌, ◌/◌, ◌%◌, cond, List, [], ◌∷◌, ◌++◌, length, take, refl, ap, sym, subst, ◌∙◌, append_assoc, append-nil, length-append, ne_eqb, leb-true, le-leb, ltb-true, arith}
+use Rattle.std.specs.Prelude.{All, Some, None, codes, nat_le, nat_lt, decimal}
+use Rattle.std.specs.List.{list_all, flat_map}
 use Rattle.std.specs.Option.{option_and_then}
 use Rattle.std.proofs.lemmas.Bool.{and_parts, cases_lt, lt-leb}
-use Rattle.std.proofs.lemmas.List.Elements.{All-nil, All-cons, All-head, All-tail, All-append, All-weaker}
+use Rattle.std.proofs.lemmas.List.Elements.{All-nil, All-cons, All-append, All-weaker}
 use Rattle.spec_script.specs.Letters.{ends}
 use Rattle.spec_layout.specs.Cells.{ShownCell, fixed_cell}
 use Rattle.spec_print.specs.RowBytes.{ShownRow, cell_bytes, cells_bytes, columns_behind, gap, spaces, row_bytes, row_line}
 use Rattle.spec_print.specs.Rounds.{round_colour, ordinal, round_name}
-use Rattle.spec_print.specs.Sheets.{SheetLabelOf, Sheet, sheet_label_text, ending_cell, round_cells, label_cells, header_row, sheet_bytes}
-use Rattle.spec_collation.specs.SheetReadings.{is_line_end, is_sheet_end, header_in, last_word, labels_in, header_labels, PieceKind, title, labelled, no_sheet, kind_by_labels, kind_of}
+use Rattle.spec_print.specs.Sheets.{SheetLabelOf, sheet_label_text, ending_cell, round_cells, header_row, sheet_bytes}
+use Rattle.spec_collation.specs.SheetReadings.{is_line_end, is_sheet_end, header_in, last_word, labels_in, header_labels, title, labelled, no_sheet, kind_by_labels, kind_of}
 use Rattle.spec_collation.specs.Pieces.{IsPiece, IsPlain}
 use Rattle.spec_collation.proofs.Words.{before-first, any-behind, is_space, last-word, ends-behind, ends-append, take-last}
 use Rattle.spec_collation.proofs.LabelBytes.{IsLabelByte, decimal-bytes, all_below, all_below-at}

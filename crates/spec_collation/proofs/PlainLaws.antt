@@ -1,11 +1,11 @@
 -- Rows whose texts have no form feed are written without one.
-use Rattle.std.proofs.Common.{◌≡◌, ◌⊎◌, inl, inr, ℕ, zero, suc, ◌==◌, Bool, true, false, cond, List, [], ◌∷◌, ◌++◌, length, refl, ap, sym, subst, ◌∙◌, ne_eqb, arith}
+use Rattle.std.proofs.Common.{◌≡◌, inl, inr, ℕ, zero, suc, ◌==◌, Bool, true, false, cond, List, [], ◌∷◌, ◌++◌, refl, subst, ne_eqb, arith}
 use Rattle.std.specs.Prelude.{All}
 use Rattle.std.specs.List.{flat_map}
 use Rattle.std.proofs.lemmas.List.Elements.{All-nil, All-cons, All-head, All-tail, All-append, All-weaker}
 use Rattle.spec_labels.specs.Labels.{LabelOf, label_text}
 use Rattle.spec_labels.proofs.LabelTexts.{small_steps}
-use Rattle.spec_layout.specs.Cells.{ShownText, slice, label, ShownPart, ShownCell, fixed_cell, part_text}
+use Rattle.spec_layout.specs.Cells.{ShownPart, ShownCell, part_text}
 use Rattle.spec_print.specs.RowBytes.{ShownRow, spaces, untabbed, part_bytes, is_blank, gap, cell_bytes, cells_bytes, columns_behind, star_cells, row_bytes, row_line}
 use Rattle.spec_collation.specs.SheetLists.{IsIn}
 use Rattle.spec_collation.specs.SheetReadings.{is_sheet_end}

@@ -1,5 +1,5 @@
 -- Sheets that were read rise.
-use Rattle.std.proofs.Common.{◌≡◌, ◌⊎◌, inl, inr, ℕ, zero, suc, ◌+◌, ◌-◌, ◌==◌, Bool, true, false, not, cond, List, [], ◌∷◌, ◌++◌, length, take, refl, ap, ap₂, sym, subst, ◌∙◌}
+use Rattle.std.proofs.Common.{◌≡◌, inl, inr, ℕ, ◌+◌, ◌-◌, ◌==◌, Bool, true, false, not, cond, List, [], ◌∷◌, ◌++◌, length, take, refl, subst}
 use Rattle.std.specs.Prelude.{Option, Some, None, option_map}
 use Rattle.std.specs.List.{list_any, before_first, after_first, slice_split}
 use Rattle.std.specs.Option.{option_and_then}
@@ -8,9 +8,9 @@ use Rattle.spec_labels.specs.Labels.{LabelOf, Below}
 use Rattle.spec_labels.specs.LabelReading.{label_read}
 use Rattle.spec_labels.proofs.LabelOrder.{Below-transitive}
 use Rattle.spec_print.specs.Sheets.{SheetLabelOf}
-use Rattle.spec_collation.specs.SheetLists.{PrintedOf, SheetListOf, IsIn, InOrder, UpTo, Before, AreRising}
+use Rattle.spec_collation.specs.SheetLists.{PrintedOf, SheetListOf, IsIn, UpTo, AreRising}
 use Rattle.spec_collation.specs.SheetReadings.{is_below, is_line_end, is_dash, is_sheet_end, header_in, last_word, one_label, two_labels, labels_in, header_labels, PieceKind, title, labelled, no_sheet, kind_by_labels, kind_of, SheetsReading, sheets, broken, with_title, with_labelled, follows, is_first, read_piece, read_pieces, sheets_in}
-use Rattle.spec_collation.proofs.LabelTests.{test-below, upto-below, below-upto}
+use Rattle.spec_collation.proofs.LabelTests.{test-below, below-upto}
 
 -- Labels that were read are in order.
 abbrev SpanSome : Option SheetLabelOf → Type 0

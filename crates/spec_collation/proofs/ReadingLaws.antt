@@ -1,14 +1,14 @@
 -- A printed list of sheets is read back; so the collation of bytes is that of lists.
-use Rattle.std.proofs.Common.{◌≡◌, ◌⊎◌, inl, inr, ℕ, ◌+◌, Bool, true, false, cond, List, [], ◌∷◌, ◌++◌, refl, ap, ap₂, sym, subst, ◌∙◌, append_assoc, append-nil}
+use Rattle.std.proofs.Common.{◌≡◌, inl, inr, ℕ, ◌+◌, Bool, true, false, cond, List, [], ◌∷◌, ◌++◌, refl, ap, ap₂, sym, ◌∙◌, append_assoc}
 use Rattle.std.specs.Prelude.{Option, Some, None}
 use Rattle.std.specs.List.{flat_map, slice_split, onto_first}
 use Rattle.std.proofs.lemmas.List.Splits.{slice_split_at}
-use Rattle.spec_labels.specs.Labels.{LabelOf, Below}
+use Rattle.spec_labels.specs.Labels.{LabelOf}
 use Rattle.spec_collation.specs.SheetLists.{PrintedOf, SheetListOf, bytes_of, list_bytes, IsIn, InOrder, Before}
-use Rattle.spec_collation.specs.SheetReadings.{is_below, is_sheet_end, PieceKind, title, labelled, kind_of, SheetsReading, sheets, broken, with_title, with_labelled, follows, is_first, read_piece, read_pieces, sheets_in}
+use Rattle.spec_collation.specs.SheetReadings.{is_sheet_end, PieceKind, title, labelled, sheets, broken, with_title, with_labelled, follows, read_piece, read_pieces, sheets_in}
 use Rattle.spec_collation.specs.Pieces.{IsPiece, ArePieces}
-use Rattle.spec_collation.specs.Collations.{Choice, present_of, packet_of, Suffices, collation}
-use Rattle.spec_collation.specs.BytesCollated.{Collating, collated_bytes, collating_lists, collating}
+use Rattle.spec_collation.specs.Collations.{Choice, present_of, packet_of, Suffices}
+use Rattle.spec_collation.specs.BytesCollated.{collated_bytes, collating_lists, collating}
 use Rattle.spec_collation.proofs.LabelTests.{below-test}
 use Rattle.spec_collation.proofs.CollationLaws.{collation-present}
 

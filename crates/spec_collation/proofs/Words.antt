@@ -1,8 +1,8 @@
 -- The words of a header: what stands before the first of something, behind the last space, and at the end.
-use Rattle.std.proofs.Common.{◌≡◌, ◌≢◌, ◌⊎◌, inl, inr, ℕ, zero, suc, ◌+◌, ◌-◌, ◌<◌, Bool, true, false, not, ◌&&◌, ◌||◌, ◌==◌, cond, List, [], ◌∷◌, ◌++◌, length, take, drop, get_or, refl, ap, ap₂, sym, subst, ◌∙◌, eq-eqb, lt-ltb, arith, length-append}
-use Rattle.std.specs.Prelude.{All, Option, Some, None, nat_lt, slice_index}
+use Rattle.std.proofs.Common.{◌≡◌, ℕ, suc, ◌+◌, ◌-◌, ◌<◌, Bool, true, false, not, ◌&&◌, ◌||◌, ◌==◌, cond, List, [], ◌∷◌, ◌++◌, length, take, drop, get_or, refl, ap, ap₂, sym, ◌∙◌, eq-eqb, lt-ltb, arith, length-append}
+use Rattle.std.specs.Prelude.{All, Some, None}
 use Rattle.std.specs.List.{list_any, prefix_len, position_or_len, before_first, after_first}
-use Rattle.std.proofs.lemmas.List.{take_at, drop_at, get_or_at, get_or-append-add}
+use Rattle.std.proofs.lemmas.List.{take_at, get_or_at, get_or-append-add}
 use Rattle.std.proofs.lemmas.List.Elements.{All-head, All-tail}
 use Rattle.spec_script.specs.Letters.{ends}
 use Rattle.spec_collation.specs.SheetReadings.{last_word, later_word}

@@ -1,6 +1,6 @@
 -- The collation of bytes (docs/RULES.md, "Collation").
 use Rattle.std.specs.Prelude.{ℕ, List}
-use Rattle.spec_collation.specs.SheetLists.{SheetListOf, list_bytes}
+use Rattle.spec_collation.specs.SheetLists.{list_bytes}
 use Rattle.spec_collation.specs.SheetReadings.{SheetsReading, sheets, broken, sheets_in}
 use Rattle.spec_collation.specs.Collations.{collation}
 

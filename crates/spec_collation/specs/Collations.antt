@@ -1,5 +1,5 @@
 -- The collation of two lists of sheets (docs/RULES.md, "Collation").
-use Rattle.std.specs.Prelude.{◌≡◌, ◌⊎◌, Bool, true, false, not, ◌&&◌, if◌then◌else◌, List, [], ◌∷◌, map, fold, filter}
+use Rattle.std.specs.Prelude.{◌≡◌, Bool, false, not, ◌&&◌, if◌then◌else◌, List, [], ◌∷◌, map, fold, filter}
 use Rattle.std.specs.List.{list_any}
 use Rattle.spec_print.specs.Sheets.{SheetLabelOf}
 use Rattle.spec_labels.specs.Labels.{LabelOf}

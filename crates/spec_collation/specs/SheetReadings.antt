@@ -1,5 +1,5 @@
 -- Bytes as a list of sheets (docs/RULES.md, "Collation").
-use Rattle.std.specs.Prelude.{ℕ, ◌+◌, ◌-◌, ◌==◌, Bool, true, false, not, ◌&&◌, if◌then◌else◌, List, [], ◌∷◌, ◌++◌, length, take, Option, Some, None, option_map}
+use Rattle.std.specs.Prelude.{ℕ, ◌+◌, ◌-◌, ◌==◌, Bool, true, false, not, if◌then◌else◌, List, [], ◌∷◌, ◌++◌, length, take, Option, Some, None, option_map}
 use Rattle.std.specs.List.{list_any, before_first, after_first, slice_split}
 use Rattle.std.specs.Option.{option_and_then}
 use Rattle.std.specs.Ordering.{is_lt}
@@ -7,7 +7,7 @@ use Rattle.spec_script.specs.Letters.{ends}
 use Rattle.spec_labels.specs.Labels.{LabelOf, label_cmp}
 use Rattle.spec_labels.specs.LabelReading.{label_read}
 use Rattle.spec_print.specs.Sheets.{SheetLabelOf}
-use Rattle.spec_collation.specs.SheetLists.{PrintedOf, SheetListOf}
+use Rattle.spec_collation.specs.SheetLists.{SheetListOf}
 
 -- The first label of two is below the second.
 abbrev pub is_below : LabelOf → LabelOf → Bool

@@ -1,9 +1,8 @@
 -- The packet by the runs of records is the packet by the facts of its sheets.
-use Rattle.std.proofs.Common.{◌≡◌, ◌⊎◌, inl, inr, ℕ, zero, suc, ◌+◌, ◌-◌, ◌<◌, ◌≤◌, Bool, true, false, not, ◌&&◌, ◌||◌, ◌==◌, cond, List, [], ◌∷◌, ◌++◌, length, map, take, drop, refl, ap, ap₂, sym, subst, ◌∙◌, append_assoc, append-nil, length-append, ne_eqb, arith}
+use Rattle.std.proofs.Common.{◌≡◌, inl, inr, ℕ, zero, suc, ◌+◌, ◌-◌, ◌<◌, Bool, true, false, ◌||◌, cond, List, [], ◌∷◌, ◌++◌, length, map, take, drop, refl, ap, ap₂, sym, ◌∙◌, append_assoc, length-append, ne_eqb, arith}
 use Rattle.std.specs.Prelude.{nat_lt, slice_range, None}
-use Rattle.std.specs.List.{list_any, flat_map}
-use Rattle.std.proofs.Math.Seq.{drop-append_seam, drop-append-add}
-use Rattle.std.proofs.lemmas.Bool.{cases_lt}
+use Rattle.std.specs.List.{list_any}
+use Rattle.std.proofs.Math.Seq.{drop-append_seam}
 use Rattle.std.proofs.lemmas.List.{map-append, length-map}
 use Rattle.spec_labels.specs.PageRecords.{SegmentOf, is_empty, SheetOf, segment_pages, page_sheets, runs_of}
 use Rattle.spec_labels.proofs.SheetLaws.{in_runs, runs_of-all}
@@ -11,7 +10,7 @@ use Rattle.spec_labels.proofs.RunLaws.{IsRun, runs_of-IsRun}
 use Rattle.spec_collation.specs.SheetLists.{IsIn, InOrder}
 use Rattle.spec_collation.specs.Collations.{Choice, is_handed}
 use Rattle.spec_packet.specs.Packets.{LaidOf, is_fresh, has_fresh_cue, page_choice, omitted_choice, run_choices, first_fresh, last_fresh, runs_choices, laid_choices}
-use Rattle.spec_packet.specs.SheetFacts.{PlacesOf, SheetFactsOf, itself, some_fresh, cue_fresh, fresh_before, fresh_behind, is_chosen, cue_places, page_facts, run_facts, runs_facts, laid_facts}
+use Rattle.spec_packet.specs.SheetFacts.{itself, some_fresh, cue_fresh, fresh_before, fresh_behind, is_chosen, cue_places, page_facts, run_facts, runs_facts, laid_facts}
 use Rattle.spec_packet.proofs.RunCuts.{all-in, run-full}
 use Rattle.spec_packet.proofs.ChoiceLaws.{last-fresh-append}
 use Rattle.spec_packet.proofs.RecordLaw.{slice-middle}

@@ -1,5 +1,5 @@
 -- No row of a state has a form feed.
-use Rattle.std.proofs.Common.{◌≡◌, ◌⊎◌, inl, inr, ℕ, zero, suc, ◌+◌, ◌-◌, ◌<◌, ◌≤◌, ◌==◌, Bool, true, false, not, ◌&&◌, cond, Option, Some, None, List, [], ◌∷◌, ◌++◌, length, map, take, drop, get_or, refl, sym, ap, subst, ◌∙◌, ne_eqb, arith, lit<, unwrap_or}
+use Rattle.std.proofs.Common.{◌≡◌, inl, inr, ℕ, zero, suc, ◌+◌, ◌-◌, ◌≤◌, ◌==◌, Bool, true, false, not, cond, Option, List, [], ◌∷◌, ◌++◌, length, drop, get_or, refl, sym, ap, subst, ◌∙◌, ne_eqb, arith, unwrap_or}
 use Rattle.std.specs.Prelude.{◌/◌, ◌%◌, All, codes, decimal, nat_le, nat_lt, slice_index, slice_range}
 use Rattle.std.specs.Fmt.{digit_glyph, digits_onto, digits}
 use Rattle.std.specs.List.{flat_map, list_all}
@@ -7,13 +7,12 @@ use Rattle.std.specs.Str.{chars, NonePass, NoCharPasses}
 use Rattle.std.proofs.lemmas.Bool.{and_parts, cases_lt, not-true}
 use Rattle.std.proofs.lemmas.List.{get_or_default, get_or_past}
 use Rattle.std.proofs.lemmas.List.Elements.{All-nil, All-cons, All-head, All-tail, All-append, All-contains, All-weaker}
-use Rattle.std.proofs.lemmas.Nat.{mod_below}
 use Rattle.std.proofs.lemmas.Str.{encodes-chars, NoCharPasses-byte}
 use Rattle.spec_text.specs.Lines.{LineState, IsClean, IsText, is_dropped, is_kept, line_texts}
 use Rattle.spec_text.proofs.ListLaws.{take-All, drop-All}
 use Rattle.spec_pages.specs.Rows.{ElementOf}
 use Rattle.spec_labels.specs.Labels.{LabelOf, step_letters, step_text, label_text}
-use Rattle.spec_layout.specs.Cells.{ShownText, slice, label, ShownPart, ShownCell, text_at, shown_bytes, part_text, RowShows}
+use Rattle.spec_layout.specs.Cells.{ShownText, slice, label, ShownPart, text_at, shown_bytes, RowShows}
 use Rattle.spec_layout.specs.Layout.{placed_in}
 use Rattle.spec_layout.specs.Shown.{shown_rows}
 use Rattle.spec_print.specs.RowBytes.{ShownRow}
@@ -21,10 +20,9 @@ use Rattle.spec_print.specs.PageRows.{page_body, omitted_rows}
 use Rattle.spec_print.specs.PageTexts.{fixed_texts, IsGiven, CellGiven, RowGiven}
 use Rattle.spec_print.proofs.PageParts.{page_body-given, omitted-given}
 use Rattle.spec_state.specs.State.{State, text_of}
-use Rattle.spec_collation.specs.SheetLists.{IsIn}
 use Rattle.spec_collation.specs.SheetReadings.{is_sheet_end}
 use Rattle.spec_collation.specs.Pieces.{IsPlain}
-use Rattle.spec_collation.proofs.PlainLaws.{Whole, PlainCell, rows-plain}
+use Rattle.spec_collation.proofs.PlainLaws.{Whole, rows-plain}
 use Rattle.spec_packet.proofs.RunCuts.{all-in}
 
 all-whole : (bytes : List ℕ) → list_all (λ b. not (is_sheet_end b)) bytes ≡ true → All Whole bytes

@@ -1,15 +1,14 @@
 -- Where no record is fresh from a speech's first row to the row behind its cue, the cue is repeated as it was.
-use Rattle.std.proofs.Common.{◌≡◌, ◌⊎◌, inl, inr, ℕ, zero, suc, ◌+◌, ◌-◌, ◌<◌, ◌≤◌, min, max, Bool, true, false, ◌&&◌, ◌||◌, ◌==◌, cond, List, [], ◌∷◌, ◌++◌, length, map, take, drop, refl, ap, ap₂, sym, subst, ◌∙◌, append_assoc, length-append, lt-ltb, le-leb, arith}
+use Rattle.std.proofs.Common.{◌≡◌, inl, inr, ℕ, zero, suc, ◌+◌, ◌-◌, ◌<◌, ◌≤◌, min, Bool, true, false, ◌&&◌, ◌||◌, ◌==◌, cond, List, [], ◌∷◌, ◌++◌, length, map, take, drop, refl, ap, ap₂, sym, subst, ◌∙◌, length-append, lt-ltb, le-leb, arith}
 use Rattle.std.specs.Prelude.{nat_lt, nat_le}
-use Rattle.std.specs.List.{list_any, prefix_len, flat_map}
+use Rattle.std.specs.List.{list_any, prefix_len}
 use Rattle.std.proofs.Math.Seq.{drop-append-add}
-use Rattle.std.proofs.lemmas.Bool.{cases_Bool, cases_lt}
-use Rattle.std.proofs.lemmas.List.{drop-append-le, take-take, length-drop}
-use Rattle.spec_labels.specs.PageRecords.{SegmentOf}
+use Rattle.std.proofs.lemmas.Bool.{cases_lt}
+use Rattle.std.proofs.lemmas.List.{take-take, length-drop}
 use Rattle.spec_collation.specs.SheetLists.{IsIn}
 use Rattle.spec_state.specs.SameRows.{BareRow}
-use Rattle.spec_packet.specs.Packets.{is_cue_row, cue_len, cue_reach, is_fresh, is_between, is_fresh_between}
-use Rattle.spec_packet.specs.RecordRows.{RecordRows, all_rows, segments_from, RowsBoth, were_of, are_of, StaysStale}
+use Rattle.spec_packet.specs.Packets.{is_cue_row, cue_len, cue_reach, is_fresh_between}
+use Rattle.spec_packet.specs.RecordRows.{all_rows, segments_from, RowsBoth, were_of, are_of, StaysStale}
 
 pub take-both : {X : Type 0} (m : ℕ) (xs ys : List X) → take m (xs ++ ys) ≡ take m xs ++ take (m - length xs) ys
 take-both zero [] ys = refl

@@ -1,22 +1,20 @@
 -- What edits do to the records of a state: each keeps its rows and its round, or gets the round.
-use Rattle.std.proofs.Common.{◌≡◌, ◌⊎◌, inl, inr, ℕ, ◌+◌, Bool, true, false, cond, Option, Some, None, List, [], ◌∷◌, length, map, refl, ap, sym, subst, ◌∙◌, arith, unwrap_or}
+use Rattle.std.proofs.Common.{◌≡◌, inl, inr, ℕ, ◌+◌, Bool, true, false, cond, Option, Some, None, List, [], ◌∷◌, length, map, refl, sym, subst, ◌∙◌, arith, unwrap_or}
 use Rattle.std.specs.Prelude.{option_map, is_some}
 use Rattle.std.proofs.lemmas.List.{length-map}
 use Rattle.spec_text.specs.Lines.{LineState}
 use Rattle.spec_text.specs.Edits.{Replacement}
 use Rattle.spec_text.specs.Ranges.{RangeOf}
-use Rattle.spec_labels.specs.Scenes.{SceneRecordOf}
 use Rattle.spec_labels.specs.PageRecords.{PageRecordOf, is_removed, line_from, carried, carried_records, record_starts}
 use Rattle.spec_layout.specs.Shown.{Shown}
 use Rattle.spec_state.specs.State.{State}
-use Rattle.spec_state.specs.Changes.{text_after, carried_after, carried_state, segment_rows, rows_by_record, raised, raised_records, pages_raised, edited_state, CanEdit}
+use Rattle.spec_state.specs.Changes.{text_after, carried_state, segment_rows, rows_by_record, raised, raised_records, pages_raised, edited_state}
 use Rattle.spec_state.specs.SameRows.{bare_of, same_rows}
 use Rattle.spec_state.specs.StateSheets.{rows_in, keys_in}
 use Rattle.spec_machine.specs.Machine.{EntryOf}
 use Rattle.spec_locked_pages.specs.Chains.{IsEditOf, LeadTo, first_state}
 use Rattle.spec_locked_pages.proofs.SameRows.{starts-raised}
 use Rattle.spec_locked_pages.proofs.StateStarts.{length-starts}
-use Rattle.spec_packet.specs.RecordRows.{RecordRows, RowsBoth, were_of, are_of}
 use Rattle.spec_packet.proofs.RecordChain.{EditsRecord}
 use Rattle.spec_packet.proofs.PairLaws.{EditsRecords, Pairs, begin-pairs, step-pairs}
 use Rattle.spec_packet.proofs.SameRowLaws.{rows-told}

@@ -1,19 +1,12 @@
 -- A sheet is handed out by the runs of records just where it is by its facts.
-use Rattle.std.proofs.Common.{◌≡◌, ◌⊎◌, inl, inr, ℕ, zero, suc, ◌+◌, ◌-◌, ◌<◌, ◌≤◌, Bool, true, false, not, ◌&&◌, ◌||◌, ◌==◌, cond, List, [], ◌∷◌, ◌++◌, length, map, take, drop, refl, ap, ap₂, sym, subst, ◌∙◌, append_assoc, append-nil, length-append, ne_eqb, lt-ltb, ltb-true, le-leb, arith}
-use Rattle.std.specs.Prelude.{nat_lt, nat_le, slice_range, Option, Some, None}
-use Rattle.std.specs.List.{list_any, prefix_len, flat_map}
-use Rattle.std.proofs.Math.Seq.{drop-append_seam, take-append_seam}
+use Rattle.std.proofs.Common.{◌≡◌, inl, inr, ℕ, zero, suc, ◌+◌, ◌-◌, ◌≤◌, Bool, true, false, not, ◌&&◌, ◌||◌, cond, List, [], ◌∷◌, map, take, drop, refl, ap, ap₂, sym, ◌∙◌, lt-ltb, ltb-true, le-leb, arith}
+use Rattle.std.specs.Prelude.{Some, None}
+use Rattle.std.specs.List.{list_any, prefix_len}
 use Rattle.std.proofs.lemmas.Bool.{cases_lt, lt-leb}
-use Rattle.std.proofs.lemmas.List.{map-append, length-map}
-use Rattle.spec_labels.specs.PageRecords.{SegmentOf, is_empty, SheetOf, segment_pages, page_sheets, runs_of}
-use Rattle.spec_labels.proofs.SheetLaws.{in_runs, runs_of-all}
-use Rattle.spec_labels.proofs.RunLaws.{IsRun, runs_of-IsRun}
+use Rattle.spec_labels.specs.PageRecords.{SegmentOf}
 use Rattle.spec_collation.specs.SheetLists.{IsIn, InOrder}
-use Rattle.spec_collation.specs.Collations.{Choice, is_handed}
-use Rattle.spec_state.specs.SameRows.{BareRow}
-use Rattle.spec_packet.specs.Packets.{LaidOf, is_fresh, is_between, is_fresh_between, has_fresh_cue, speech_start, cue_end, goes_on_at, page_choice, omitted_choice, run_choices, first_fresh, last_fresh, runs_choices, laid_choices}
-use Rattle.spec_packet.specs.SheetFacts.{PlacesOf, SheetFactsOf, itself, some_fresh, cue_fresh, fresh_before, fresh_behind, is_chosen, ends_behind, starts_by, places_between, cue_places, page_facts, run_facts, runs_facts, laid_facts}
-use Rattle.spec_packet.proofs.RunCuts.{all-in}
+use Rattle.spec_packet.specs.Packets.{LaidOf, is_fresh, is_fresh_between, has_fresh_cue, speech_start, cue_end, goes_on_at}
+use Rattle.spec_packet.specs.SheetFacts.{PlacesOf, itself, some_fresh, cue_fresh, ends_behind, starts_by, places_between, cue_places}
 
 -- Segments one behind the other: starts and ends don't fall.
 pub record NotFalling (one other : SegmentOf) : Type 0 where

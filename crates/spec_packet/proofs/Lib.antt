@@ -21,3 +21,4 @@ pub mod StateUnchanged
 pub mod CleanRows
 pub mod StatePrinted
 pub mod MemoryPackets
+pub mod PlaceLaws

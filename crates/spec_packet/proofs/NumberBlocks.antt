@@ -4,11 +4,10 @@ use Rattle.std.specs.Prelude.{All, drop}
 use Rattle.std.proofs.lemmas.Bool.{cases_Bool, true≢false}
 use Rattle.std.proofs.lemmas.List.Elements.{All-nil, All-cons, All-head, All-tail, All-append}
 use Rattle.spec_script.specs.LongestRuns.{Group, members, longest_runs}
-use Rattle.spec_script.specs.BlockValues.{LineOf, BlockOf}
+use Rattle.spec_script.specs.BlockValues.{BlockOf}
 use Rattle.spec_script.specs.Left.{Left, left_lines, trimmed, inner, plain_line, last_place, block_of, text_block}
 use Rattle.spec_script.specs.Trim.{trim_all}
-use Rattle.spec_script.specs.Letters.{begins}
-use Rattle.spec_script.specs.Forms.{is_natural_heading, is_natural_transition, is_forced_heading, is_page_break, is_synopsis, is_centred}
+use Rattle.spec_script.specs.Forms.{is_natural_heading, is_natural_transition, is_forced_heading, is_page_break, is_synopsis}
 use Rattle.spec_script.specs.Title.{title_opens}
 use Rattle.spec_script.specs.TitlePages.{one_key, title_of}
 use Rattle.spec_script.specs.Headings.{heading_skip, number_len, numbered_heading, heading_of}

@@ -1,26 +1,21 @@
 -- The law of packets, by records.
-use Rattle.std.proofs.Common.{◌≡◌, ◌⊎◌, inl, inr, ℕ, zero, suc, ◌+◌, ◌-◌, ◌<◌, ◌≤◌, Bool, true, false, not, ◌&&◌, ◌||◌, cond, List, [], ◌∷◌, ◌++◌, length, map, get_or, refl, ap, ap₂, sym, subst, ◌∙◌, append_assoc, arith}
-use Rattle.std.specs.Prelude.{All, AllPairs, slice_index_or}
-use Rattle.std.specs.List.{list_all, list_any, flat_map}
-use Rattle.std.proofs.lemmas.Bool.{cases_Bool, and_parts}
-use Rattle.std.proofs.lemmas.List.{get_or_default, length-map, map-append}
-use Rattle.std.proofs.lemmas.List.Elements.{All-head, All-tail}
+use Rattle.std.proofs.Common.{◌≡◌, inl, inr, ℕ, suc, ◌-◌, Bool, true, false, cond, List, [], ◌∷◌, ◌++◌, length, map, get_or, refl, ap, sym, subst, ◌∙◌, arith}
+use Rattle.std.specs.List.{list_all, list_any}
+use Rattle.std.proofs.lemmas.List.{get_or_default}
 use Rattle.spec_script.specs.LongestRuns.{last_of}
-use Rattle.spec_labels.specs.Labels.{LabelOf, IsLabel, Below}
-use Rattle.spec_labels.specs.PageRecords.{PageRecordOf, RisingRecords, SegmentOf, first_label, segments, is_empty, owner_of, SheetOf, AreSheets, segment_pages, page_label, page_sheet, page_sheets, omitted_sheet, runs_of, run_sheets, sheets_of_records}
-use Rattle.spec_labels.proofs.LabelOrder.{Below-transitive}
-use Rattle.spec_labels.proofs.SceneLabels.{AllPairs-head, AllPairs-tail}
-use Rattle.spec_labels.proofs.SheetLaws.{in_runs, runs_of-all, sheets-AreSheets}
+use Rattle.spec_labels.specs.Labels.{LabelOf, Below}
+use Rattle.spec_labels.specs.PageRecords.{PageRecordOf, SegmentOf, is_empty, owner_of, SheetOf, segment_pages, page_sheet, page_sheets, omitted_sheet, runs_of, run_sheets}
+use Rattle.spec_labels.proofs.SheetLaws.{in_runs, runs_of-all}
 use Rattle.spec_labels.proofs.RunLaws.{IsRun, AreApart, runs_of-IsRun, runs_of-AreApart}
-use Rattle.spec_collation.specs.SheetLists.{PrintedOf, IsIn, InOrder, UpTo, Before, AreRising}
-use Rattle.spec_collation.specs.Collations.{Choice, sheet_of, present_of, packet_of, Covers, Suffices, collated}
-use Rattle.spec_packet.specs.Packets.{LaidOf, laid_sheets, printed_of, laid_printed, is_fresh, has_fresh_cue, page_choice, omitted_choice, run_choices, first_fresh, last_fresh, runs_choices, laid_choices, Both, was_of, now_of, SameRecord, only_sheet, Starts, PrintsOmitted, LabelsRise, Unchanged}
-use Rattle.spec_collation.proofs.Lists.{in-map, map-in, order-map, order-back, order-front, in-left, in-right}
+use Rattle.spec_collation.specs.SheetLists.{PrintedOf, IsIn, InOrder, UpTo, AreRising}
+use Rattle.spec_collation.specs.Collations.{Choice, sheet_of, packet_of, Covers, collated}
+use Rattle.spec_packet.specs.Packets.{LaidOf, laid_sheets, printed_of, laid_printed, is_fresh, page_choice, omitted_choice, run_choices, first_fresh, runs_choices, laid_choices, Both, was_of, now_of, SameRecord, only_sheet, Starts, LabelsRise, Unchanged}
+use Rattle.spec_collation.proofs.Lists.{in-map, map-in, order-back, order-front, in-left, in-right}
 use Rattle.spec_collation.proofs.LabelTests.{upto-upto}
 use Rattle.spec_collation.proofs.CollationLaws.{collation-present}
 use Rattle.spec_packet.proofs.RunCuts.{Full, LastIs, FirstIs, run-empty, run-full, all-in, front-full, back-full}
 use Rattle.spec_packet.proofs.ChoiceLaws.{cut-at, in-flat, flat-in, fresh_end, choice-in, in-choices, choices-present, fresh_end-all, Stale, last-stale, first-stale, all-stale, last-was, first-was, empty-was}
-use Rattle.spec_packet.proofs.PacketLaws.{around, in-runs-middle, was-middle, empty-stays, page-stays, Neither, neither}
+use Rattle.spec_packet.proofs.PacketLaws.{around, in-runs-middle, was-middle, empty-stays, page-stays, neither}
 
 -- A sheet that the packet leaves out is one of the old sheets: the run of segments that it stands for, with those round it.
 record RunOf (round : ℕ) (was now : LaidOf) (records us xs zs : List Both) (before behind : Bool) : Type 0 where

@@ -1,20 +1,17 @@
 -- The packet of a text, by its records: the old sheets collated with it are the present ones.
-use Rattle.std.proofs.Common.{◌≡◌, ◌⊎◌, inl, inr, ℕ, zero, suc, ◌+◌, ◌-◌, ◌<◌, ◌≤◌, max, Bool, true, false, not, ◌&&◌, ◌||◌, cond, List, [], ◌∷◌, ◌++◌, length, map, get_or, refl, ap, ap₂, sym, subst, ◌∙◌, append_assoc, append-nil, arith, ltb, ltb-false}
-use Rattle.std.specs.Prelude.{All, fold, nat_lt, slice_index_or}
-use Rattle.std.specs.List.{list_all, list_any, flat_map}
-use Rattle.std.proofs.lemmas.Bool.{cases_Bool, and_parts}
-use Rattle.spec_labels.specs.Labels.{LabelOf, Below}
-use Rattle.spec_labels.specs.PageRecords.{PageRecordOf, SegmentOf, is_empty, owner_of, SheetOf, segment_pages, page_sheet, page_sheets, greatest_round, omitted_sheet, runs_of, run_sheets}
-use Rattle.spec_labels.proofs.SheetLaws.{in_runs, runs_of-all}
-use Rattle.spec_labels.proofs.RunLaws.{IsRun, AreApart, runs_of-IsRun, runs_of-AreApart}
-use Rattle.spec_collation.specs.SheetLists.{PrintedOf, IsIn, InOrder, UpTo, Before, AreRising}
-use Rattle.spec_collation.specs.Collations.{Choice, sheet_of, present_of, packet_of, Covers, Suffices, collated}
-use Rattle.spec_packet.specs.Packets.{LaidOf, laid_sheets, printed_of, laid_printed, is_fresh, has_fresh_cue, page_choice, omitted_choice, run_choices, first_fresh, last_fresh, runs_choices, laid_choices, Both, was_of, now_of, SameRecord, only_sheet, Starts, PrintsOmitted, LabelsRise, Unchanged}
-use Rattle.spec_collation.proofs.Lists.{in-map, map-in, in-left, in-right, append-in}
-use Rattle.spec_collation.proofs.CollationLaws.{collation-present}
-use Rattle.spec_packet.proofs.RunCuts.{Full, LastIs, FirstIs, CutHere, runs_of-empty, runs_of-middle, run-empty, run-full, all-in, front-full, back-full}
+use Rattle.std.proofs.Common.{◌≡◌, inl, inr, ℕ, zero, suc, ◌-◌, max, Bool, true, false, ◌||◌, cond, List, [], ◌∷◌, ◌++◌, length, map, get_or, refl, ap, sym, subst, ◌∙◌, append_assoc, arith, ltb-false}
+use Rattle.std.specs.Prelude.{fold, nat_lt}
+use Rattle.std.specs.List.{list_all}
+use Rattle.std.proofs.lemmas.Bool.{and_parts}
+use Rattle.spec_labels.specs.PageRecords.{PageRecordOf, SegmentOf, is_empty, owner_of, SheetOf, segment_pages, page_sheets, omitted_sheet, runs_of, run_sheets}
+use Rattle.spec_labels.proofs.SheetLaws.{in_runs}
+use Rattle.spec_collation.specs.SheetLists.{IsIn}
+use Rattle.spec_collation.specs.Collations.{Choice, sheet_of}
+use Rattle.spec_packet.specs.Packets.{LaidOf, laid_sheets, printed_of, laid_printed, is_fresh, has_fresh_cue, page_choice, Both, was_of, now_of, SameRecord, only_sheet, PrintsOmitted, Unchanged}
+use Rattle.spec_collation.proofs.Lists.{in-map, map-in, in-right}
+use Rattle.spec_packet.proofs.RunCuts.{Full, LastIs, FirstIs, runs_of-empty, runs_of-middle}
 use Rattle.std.proofs.lemmas.List.{map-append}
-use Rattle.spec_packet.proofs.ChoiceLaws.{Cut, cut-at, in-flat, FromFlat, flat-in, MapCut, map-cut, fresh_end, ChoiceIn, choice-in, in-choices, choices-present, fresh_end-all, Stale, last-stale, first-stale, all-stale, last-was, first-was, empty-was}
+use Rattle.spec_packet.proofs.ChoiceLaws.{in-flat, map-cut, Stale}
 
 -- Records with the same labels and rounds give omitted sheets of the same labels and round.
 length-both : (us : List Both) → length (map owner_of (map was_of us)) ≡ length (map owner_of (map now_of us))

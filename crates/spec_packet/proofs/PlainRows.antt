@@ -1,7 +1,7 @@
 -- The cells of rows: only the first row of a heading has a written number, and the cue of a speech has one cell, or two where its
 -- speaker goes on.
-use Rattle.std.proofs.Common.{◌≡◌, ◌⊎◌, inl, inr, ℕ, zero, suc, ◌+◌, ◌-◌, ◌<◌, ◌==◌, ◌&&◌, ◌||◌, not, Bool, true, false, cond, List, [], ◌∷◌, ◌++◌, length, map, drop, refl, sym, ap, ap₂, subst, ◌∙◌, arith}
-use Rattle.std.specs.Prelude.{All, filter, nat_le, nat_lt, slice_index_or}
+use Rattle.std.proofs.Common.{◌≡◌, inl, inr, ℕ, ◌+◌, ◌-◌, ◌==◌, ◌||◌, not, Bool, true, false, cond, List, [], ◌∷◌, ◌++◌, length, map, drop, refl, sym, ap, subst, ◌∙◌}
+use Rattle.std.specs.Prelude.{All, nat_le, nat_lt, slice_index_or}
 use Rattle.std.specs.List.{flat_map, list_any}
 use Rattle.std.proofs.lemmas.Bool.{cases_Bool, true≢false}
 use Rattle.std.proofs.lemmas.List.{length-map}
@@ -10,7 +10,6 @@ use Rattle.spec_text.specs.Lines.{LineState}
 use Rattle.spec_text.proofs.ListLaws.{filter-whole}
 use Rattle.spec_script.specs.BlockValues.{LineOf, BlockOf}
 use Rattle.spec_script.specs.declared.Kind.{Kind}
-use Rattle.spec_script.specs.declared.Kind.TheVariants as kinds
 use Rattle.spec_script.proofs.RunSteps.{one_alone, two_together}
 use Rattle.spec_pages.specs.declared.RowKind.{RowKind}
 use Rattle.spec_pages.specs.declared.RowKind.TheVariants as row_kinds
@@ -25,10 +24,9 @@ use Rattle.spec_layout.specs.Cells.{without_numbers}
 use Rattle.spec_layout.specs.Speakers.{Spoken}
 use Rattle.spec_layout.specs.Layout.{laid_out}
 use Rattle.spec_layout.specs.Shown.{is_fixed, opens_heading, no_row}
-use Rattle.spec_layout.proofs.IndexLaws.{dual_rows-element}
-use Rattle.spec_state.specs.Headings.{is_heading_kind, is_heading_block}
+use Rattle.spec_state.specs.Headings.{is_heading_block}
 use Rattle.spec_locked_pages.proofs.HeadingBlocks.{OneLined}
-use Rattle.spec_locked_pages.proofs.HeadingRows.{IsOf, Begins, alone-begins, pair-begins}
+use Rattle.spec_locked_pages.proofs.HeadingRows.{IsOf, alone-begins}
 use Rattle.spec_packet.proofs.NumberBlocks.{Unnumbered}
 
 -- A row without a written number.

@@ -1,20 +1,19 @@
 -- The law of packets on bytes.
-use Rattle.std.proofs.Common.{◌≡◌, ◌⊎◌, inl, inr, ℕ, zero, suc, ◌+◌, ◌<◌, ◌≤◌, Bool, true, false, cond, List, [], ◌∷◌, ◌++◌, map, refl, ap, ap₂, sym, subst, ◌∙◌, arith}
-use Rattle.std.specs.Prelude.{All, AllPairs, Some, None, filter}
+use Rattle.std.proofs.Common.{◌≡◌, inl, inr, ℕ, ◌+◌, Bool, true, false, cond, List, [], ◌∷◌, ◌++◌, map, refl, ap, ap₂, sym, subst, ◌∙◌}
+use Rattle.std.specs.Prelude.{All, AllPairs, filter}
 use Rattle.std.specs.List.{flat_map}
-use Rattle.spec_labels.specs.Labels.{LabelOf, IsLabel, Below}
-use Rattle.spec_labels.specs.PageRecords.{PageRecordOf, RisingRecords, SegmentOf, segments, is_empty, owner_of, SheetOf, segment_pages, page_label, page_sheet, page_sheets, omitted_sheet, runs_of, run_sheets, sheets_of_records}
+use Rattle.spec_labels.specs.Labels.{IsLabel, Below}
+use Rattle.spec_labels.specs.PageRecords.{PageRecordOf, RisingRecords, SegmentOf, segments, is_empty, owner_of, SheetOf, segment_pages, page_sheets, omitted_sheet, runs_of, run_sheets, sheets_of_records}
 use Rattle.spec_labels.proofs.SceneLabels.{AllPairs-head, AllPairs-tail}
 use Rattle.spec_labels.proofs.SheetLaws.{in_runs, runs_of-all, sheets-AreSheets, segments-All}
-use Rattle.spec_print.specs.Sheets.{SheetLabelOf, Sheet, sheet_bytes}
-use Rattle.spec_collation.specs.SheetLists.{PrintedOf, SheetListOf, list_bytes, IsIn, InOrder, UpTo, Before, AreRising}
+use Rattle.spec_collation.specs.SheetLists.{PrintedOf, list_bytes, IsIn, InOrder, UpTo, Before, AreRising}
 use Rattle.spec_collation.specs.SheetReadings.{title, labelled}
-use Rattle.spec_collation.specs.Pieces.{IsPiece, ArePieces, IsReadable}
-use Rattle.spec_collation.specs.Collations.{Choice, sheet_of, is_handed, present_of, packet_of}
-use Rattle.spec_collation.specs.BytesCollated.{Collating, collated_bytes, collating, collating_lists}
+use Rattle.spec_collation.specs.Pieces.{IsPiece, ArePieces}
+use Rattle.spec_collation.specs.Collations.{sheet_of, is_handed}
+use Rattle.spec_collation.specs.BytesCollated.{collated_bytes, collating, collating_lists}
 use Rattle.spec_packet.specs.Packets.{LaidOf, laid_sheets, printed_of, laid_printed, laid_choices, LabelsRise, Unchanged}
-use Rattle.spec_packet.specs.PrintedTexts.{page_of, Prints, PrintsTitle, printed_text, printed_packet, IsPrinted}
-use Rattle.spec_collation.proofs.Lists.{in-map, map-in, filter-in, order-map, map-order, order-filter, in-left, in-right, order-front, order-back}
+use Rattle.spec_packet.specs.PrintedTexts.{Prints, PrintsTitle, printed_text, printed_packet, IsPrinted}
+use Rattle.spec_collation.proofs.Lists.{in-map, map-in, filter-in, order-map, map-order, order-filter, order-front, order-back}
 use Rattle.spec_collation.proofs.PieceLaws.{labelled-piece, title-piece}
 use Rattle.spec_collation.proofs.ReadingLaws.{sheets-read}
 use Rattle.spec_packet.proofs.RunCuts.{all-in}

@@ -1,23 +1,16 @@
 -- A page whose record isn't fresh, nor its cue, is printed as it was.
-use Rattle.std.proofs.Common.{◌≡◌, ◌⊎◌, inl, inr, ℕ, zero, suc, ◌+◌, ◌-◌, ◌<◌, ◌≤◌, min, max, Bool, true, false, ◌&&◌, ◌||◌, ◌==◌, cond, List, [], ◌∷◌, ◌++◌, length, map, take, drop, refl, ap, ap₂, sym, subst, ◌∙◌, append_assoc, append-nil, length-append, lt-ltb, le-leb, leb-true, ne_eqb, arith}
-use Rattle.std.specs.Prelude.{nat_lt, nat_le, slice_get, slice_range, slice_index_or, Option, Some, None, option_map, unwrap_or}
-use Rattle.std.specs.List.{list_any, prefix_len, flat_map}
+use Rattle.std.proofs.Common.{◌≡◌, inl, inr, ℕ, zero, suc, ◌+◌, ◌-◌, ◌<◌, ◌≤◌, max, true, false, ◌&&◌, ◌==◌, List, [], ◌∷◌, ◌++◌, length, map, take, drop, refl, ap, ap₂, sym, subst, ◌∙◌, append_assoc, append-nil, le-leb, leb-true, ne_eqb, arith}
+use Rattle.std.specs.Prelude.{nat_le, slice_get, slice_range, Option, Some, option_map, unwrap_or}
+use Rattle.std.specs.List.{list_any}
 use Rattle.std.proofs.Math.Seq.{drop-append_seam, take-append_seam}
-use Rattle.std.proofs.lemmas.Bool.{cases_Bool, cases_lt}
-use Rattle.std.proofs.lemmas.List.{drop-append-le, length-drop, map-append}
-use Rattle.spec_script.specs.LongestRuns.{last_of}
+use Rattle.std.proofs.lemmas.Bool.{cases_Bool}
+use Rattle.std.proofs.lemmas.List.{drop-append-le, length-drop}
 use Rattle.spec_pages.specs.Pages.{continues_speech}
-use Rattle.spec_labels.specs.Labels.{LabelOf}
-use Rattle.spec_labels.specs.PageRecords.{PageRecordOf, SegmentOf, is_empty, SheetOf, segment_pages, page_label, page_sheet}
-use Rattle.spec_layout.specs.Cells.{ShownCell}
-use Rattle.spec_print.specs.RowBytes.{ShownRow}
-use Rattle.spec_print.specs.PageRows.{omitted_rows}
-use Rattle.spec_print.specs.Sheets.{sheet_bytes}
-use Rattle.spec_collation.specs.SheetLists.{IsIn, InOrder}
+use Rattle.spec_labels.specs.PageRecords.{SegmentOf}
+use Rattle.spec_collation.specs.SheetLists.{IsIn}
 use Rattle.spec_state.specs.SameRows.{BareRow}
-use Rattle.spec_packet.specs.Packets.{cue_len, cue_reach, speech_start, speech_at, cue_at, goes_on_at, cue_end, is_fresh, is_fresh_between, has_fresh_cue, LaidOf, Both, was_of, now_of, SameRecord, only_sheet, Starts, PrintsOmitted, LabelsRise, Unchanged}
-use Rattle.spec_packet.specs.RecordRows.{RecordRows, rows_of, all_rows, next_label, segment_behind, segments_from, RowsBoth, were_of, are_of, StaysStale}
-use Rattle.spec_collation.proofs.Lists.{in-map, in-right}
+use Rattle.spec_packet.specs.Packets.{cue_len, cue_reach, speech_start, cue_at, goes_on_at, cue_end, is_fresh_between, has_fresh_cue, LaidOf, Both, was_of, now_of}
+use Rattle.spec_packet.specs.RecordRows.{RecordRows, all_rows, segment_behind, segments_from, RowsBoth, were_of, are_of, StaysStale}
 use Rattle.spec_packet.proofs.CueLaws.{take-both, rows_now, rows_were, SameBetween, none-fresh, between-append, suffix-same, prefix-same, cue-same}
 
 get-at : {X : Type 0} (xs : List X) (y : X) (ys : List X) → slice_get (xs ++ (y ∷ ys)) (length xs) ≡ Some y

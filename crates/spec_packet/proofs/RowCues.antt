@@ -1,26 +1,25 @@
 -- The cue of a row that goes on with a speech is told by the rows of its speech, as an edit compares them.
-use Rattle.std.proofs.Common.{◌≡◌, ◌⊎◌, inl, inr, ℕ, zero, suc, ◌+◌, ◌-◌, ◌<◌, ◌≤◌, ◌==◌, ◌&&◌, ◌||◌, not, Bool, true, false, cond, Option, Some, None, List, [], ◌∷◌, ◌++◌, length, map, take, drop, get_or, refl, sym, ap, ap₂, subst, ◌∙◌, arith, append-nil, length-append, unwrap_or}
-use Rattle.std.specs.Prelude.{All, filter, nat_eq, nat_lt, option_map, slice_get, take_while}
+use Rattle.std.proofs.Common.{◌≡◌, ◌⊎◌, inl, inr, ℕ, zero, suc, ◌+◌, ◌-◌, ◌<◌, ◌≤◌, ◌==◌, ◌&&◌, ◌||◌, Bool, true, false, cond, Option, Some, List, [], ◌∷◌, ◌++◌, length, map, take, drop, get_or, refl, sym, ap, ap₂, subst, ◌∙◌, arith, length-append, unwrap_or}
+use Rattle.std.specs.Prelude.{All, filter, nat_eq, nat_lt, option_map, slice_get}
 use Rattle.std.specs.List.{flat_map, list_any, prefix_len, ends_with}
 use Rattle.std.proofs.Math.Seq.{drop-append-add, take-append_seam}
-use Rattle.std.proofs.lemmas.Bool.{cases_Bool, cases_lt, and_parts, true≢false}
+use Rattle.std.proofs.lemmas.Bool.{cases_lt, true≢false}
 use Rattle.std.proofs.lemmas.List.{get_or-map, length-map, map-append, get_or_append_left, get_or-append_right}
 use Rattle.std.proofs.lemmas.List.Elements.{All-nil, All-cons, All-head, All-tail}
 use Rattle.std.proofs.lemmas.Option.{slice_get-get_or}
 use Rattle.spec_text.specs.Lines.{LineState, IsText, line_texts}
 use Rattle.spec_script.specs.LongestRuns.{Group, last_of}
-use Rattle.spec_script.specs.Stanzas.{PlacedBlock, blocks_of}
+use Rattle.spec_script.specs.Stanzas.{PlacedBlock}
 use Rattle.spec_script.specs.Elements.{alone, pair}
-use Rattle.spec_script.proofs.RunSteps.{one_alone}
 use Rattle.spec_pages.specs.declared.RowKind.{RowKind}
 use Rattle.spec_pages.specs.declared.RowKind.TheVariants as row_kinds
 use Rattle.spec_pages.specs.Pages.{is_heading, is_speech, continues_speech}
-use Rattle.spec_pages.specs.Rows.{Cell, Row, ElementOf, is_title, placed_rows}
+use Rattle.spec_pages.specs.Rows.{Cell, Row, ElementOf, placed_rows}
 use Rattle.spec_labels.specs.Labels.{LabelOf}
-use Rattle.spec_layout.specs.Cells.{ShownCell, cell_text, cells_text, shown_cell, continued, with_continued, without_numbers, ends_continued}
-use Rattle.spec_layout.specs.Layout.{AreIndexed, is_title_element, in_body, laid_out}
+use Rattle.spec_layout.specs.Cells.{ShownCell, cell_text, cells_text, shown_cell, continued, with_continued, ends_continued}
+use Rattle.spec_layout.specs.Layout.{in_body, laid_out}
 use Rattle.spec_layout.specs.Speakers.{Spoken}
-use Rattle.spec_layout.specs.Shown.{Shown, is_cue, is_fixed, cue_rows, opens_heading, repeated_cells, element_cue, shown_of, element_shown, heading_label, labels_behind, shown_rows}
+use Rattle.spec_layout.specs.Shown.{Shown, is_cue, is_fixed, cue_rows, repeated_cells, element_cue, shown_of, element_shown, heading_label, labels_behind, shown_rows}
 use Rattle.spec_layout.proofs.IndexLaws.{AreOfElement, placed_rows-element}
 use Rattle.spec_layout.proofs.JoinLaws.{layout-indexed}
 use Rattle.spec_layout.proofs.RowLaws.{IsText-texts}
@@ -28,12 +27,10 @@ use Rattle.spec_state.specs.Headings.{heading_labels}
 use Rattle.spec_state.specs.SameRows.{BareRow, bare_of}
 use Rattle.spec_state.specs.State.{State, text_of}
 use Rattle.spec_state.specs.StateSheets.{layout_in, rows_in}
-use Rattle.spec_relayout.specs.Touched.{line_of_block}
 use Rattle.spec_relayout.specs.TextItems.{Script, spoken_by, spoken_group}
 use Rattle.spec_relayout.proofs.SoundElements.{SoundSteps, elements-sound}
-use Rattle.spec_locked_pages.specs.LockedPages.{elements_in as state_elements}
 use Rattle.spec_locked_pages.proofs.StateScripts.{script_of, texts_of, blocks_in, elements-scripted}
-use Rattle.spec_packet.specs.Packets.{is_cue_row, cue_len, speech_start, speech_at, cue_at}
+use Rattle.spec_packet.specs.Packets.{is_cue_row, cue_len, speech_start, cue_at}
 use Rattle.spec_packet.proofs.PlainRows.{NoNumber, without-none, Plain, TellsFixed, alone-plain, alone-tells, pair-plain, pair-tells, placed-plain, placed-tells}
 use Rattle.spec_packet.proofs.RowNumbers.{IsKnown, blocks-known}
 

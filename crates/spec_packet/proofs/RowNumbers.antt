@@ -1,5 +1,5 @@
 -- The cells of the rows of a state, by what an edit compares of them and by the labels of scene records.
-use Rattle.std.proofs.Common.{◌≡◌, ◌⊎◌, inl, inr, ℕ, ◌+◌, ◌==◌, ◌&&◌, Bool, true, false, cond, Option, Some, None, List, [], ◌∷◌, ◌++◌, length, map, get_or, refl, sym, ap, ap₂, subst, ◌∙◌, arith}
+use Rattle.std.proofs.Common.{◌≡◌, inl, inr, ℕ, ◌==◌, ◌&&◌, Bool, true, false, cond, Option, Some, None, List, [], ◌∷◌, ◌++◌, map, get_or, refl, sym, ap, subst, ◌∙◌}
 use Rattle.std.specs.Prelude.{All, is_some, option_map}
 use Rattle.std.specs.List.{flat_map}
 use Rattle.std.proofs.lemmas.Bool.{cases_Bool, and_parts, true≢false}
@@ -7,7 +7,7 @@ use Rattle.std.proofs.lemmas.List.Elements.{All-nil, All-cons, All-head, All-tai
 use Rattle.spec_text.specs.Lines.{LineState, IsText, line_texts}
 use Rattle.spec_script.specs.LongestRuns.{Group}
 use Rattle.spec_script.specs.Stanzas.{PlacedBlock, blocks_of}
-use Rattle.spec_script.specs.Elements.{is_dual, alone, pair}
+use Rattle.spec_script.specs.Elements.{alone, pair}
 use Rattle.spec_script.proofs.RunSteps.{one_alone}
 use Rattle.spec_pages.specs.Pages.{is_heading}
 use Rattle.spec_pages.specs.Rows.{Row, line_state, is_title, placed_rows, number_before, number_behind}
@@ -15,7 +15,7 @@ use Rattle.spec_labels.specs.Labels.{LabelOf}
 use Rattle.spec_labels.specs.Scenes.{SceneRecordOf, line_place}
 use Rattle.spec_layout.specs.Cells.{ShownCell, shown_cell, shown_cells, label_cell, without_numbers}
 use Rattle.spec_layout.specs.Layout.{laid_out}
-use Rattle.spec_layout.specs.Shown.{Shown, opens_heading, row_label, shown_of}
+use Rattle.spec_layout.specs.Shown.{Shown, opens_heading, shown_of}
 use Rattle.spec_layout.proofs.RowLaws.{IsText-texts}
 use Rattle.spec_state.specs.State.{State, text_of}
 use Rattle.spec_state.specs.Headings.{is_heading_block}
@@ -28,7 +28,7 @@ use Rattle.spec_relayout.proofs.SoundElements.{SoundSteps, elements-sound}
 use Rattle.spec_locked_pages.specs.Segments.{has_scene, HasScene}
 use Rattle.spec_locked_pages.proofs.HeadingBlocks.{PlacedLined, blocks-lined}
 use Rattle.spec_locked_pages.proofs.HeadingRows.{IsOf, alone-begins, pair-begins}
-use Rattle.spec_locked_pages.proofs.RowsAgree.{AgreesAt, Agree, recorded_by, state-agree, script-rows, placed-of, heading-at}
+use Rattle.spec_locked_pages.proofs.RowsAgree.{Agree, recorded_by, state-agree, script-rows, placed-of, heading-at}
 use Rattle.spec_locked_pages.proofs.StateScripts.{record_label, script_of, texts_of, blocks_in, items_of}
 use Rattle.spec_packet.proofs.NumberBlocks.{PlacedPlain, blocks-plain}
 use Rattle.spec_packet.proofs.PlainRows.{NoNumber, without-none, Plain, alone-plain, pair-plain, placed-plain}

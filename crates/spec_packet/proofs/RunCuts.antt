@@ -1,11 +1,11 @@
 -- Runs of segments: where a list may be cut, and what stands round a run.
-use Rattle.std.proofs.Common.{◌≡◌, ◌⊎◌, inl, inr, ℕ, zero, suc, ◌+◌, ◌-◌, ◌<◌, Bool, true, false, not, ◌&&◌, cond, List, [], ◌∷◌, ◌++◌, length, map, get_or, refl, ap, ap₂, sym, subst, ◌∙◌, append_assoc, append-nil, arith}
+use Rattle.std.proofs.Common.{◌≡◌, ◌⊎◌, inl, inr, suc, Bool, true, false, ◌&&◌, cond, List, [], ◌∷◌, ◌++◌, refl, ap, sym, subst, ◌∙◌, arith}
 use Rattle.std.specs.Prelude.{All}
-use Rattle.std.specs.List.{list_all, flat_map}
+use Rattle.std.specs.List.{list_all}
 use Rattle.std.proofs.lemmas.Bool.{cases_Bool, and_parts}
 use Rattle.spec_labels.specs.PageRecords.{SegmentOf, is_empty, onto_run, runs_of}
-use Rattle.spec_labels.proofs.SheetLaws.{in_runs, runs_of-all}
-use Rattle.spec_labels.proofs.RunLaws.{IsRun, AreApart, runs_of-IsRun, runs_of-AreApart}
+use Rattle.spec_labels.proofs.SheetLaws.{in_runs}
+use Rattle.spec_labels.proofs.RunLaws.{IsRun, AreApart}
 use Rattle.spec_collation.specs.SheetLists.{IsIn}
 
 -- A segment with rows.

@@ -1,17 +1,17 @@
 -- The pages of the segments of a state: each begins with one, and that of an opened state is alone.
-use Rattle.std.proofs.Common.{◌≡◌, ◌⊎◌, inl, inr, ℕ, zero, suc, ◌+◌, ◌<◌, ◌≤◌, Bool, true, false, ◌&&◌, ◌||◌, ◌==◌, cond, Option, Some, None, List, [], ◌∷◌, length, get_or, refl, sym, ap, ap₂, subst, ◌∙◌, eqb-true, ltb-true, lt-ltb, le-leb, arith, unwrap_or}
+use Rattle.std.proofs.Common.{◌≡◌, inl, inr, ℕ, suc, ◌+◌, ◌<◌, ◌≤◌, Bool, true, false, ◌&&◌, ◌==◌, cond, Option, Some, List, [], ◌∷◌, length, get_or, refl, sym, ap, ap₂, subst, ◌∙◌, eqb-true, lt-ltb, le-leb, arith, unwrap_or}
 use Rattle.std.specs.Prelude.{All, filter, nat_le, nat_lt, slice_index_or}
 use Rattle.std.specs.List.{list_any}
 use Rattle.std.proofs.lemmas.Bool.{cases_lt, lt-leb, or_cases}
 use Rattle.std.proofs.lemmas.List.Elements.{All-head, All-tail}
 use Rattle.spec_pages.specs.Pages.{rows_on}
-use Rattle.spec_labels.specs.PageRecords.{PageRecordOf, SegmentOf, is_empty, first_label, segments, segment_pages, page_sheets, record_starts, ArePages}
+use Rattle.spec_labels.specs.PageRecords.{PageRecordOf, SegmentOf, is_empty, segments, segment_pages, page_sheets, record_starts, ArePages}
 use Rattle.spec_state.specs.State.{State}
 use Rattle.spec_state.specs.Keeping.{IsWhole}
 use Rattle.spec_state.specs.StateSheets.{layout_in, rows_in, keys_in, pages_in}
 use Rattle.spec_state.proofs.StateLaws.{state-AreStarts, state-ArePages}
 use Rattle.spec_collation.specs.SheetLists.{IsIn, InOrder}
-use Rattle.spec_locked_pages.specs.Chains.{IsOneSheet, IsOpened}
+use Rattle.spec_locked_pages.specs.Chains.{IsOpened}
 use Rattle.spec_locked_pages.specs.Segments.{records_in, segments_in, segment_at, pages_of, pages_at, no_segment}
 use Rattle.spec_locked_pages.proofs.OpeningLaws.{length-segments}
 use Rattle.spec_locked_pages.proofs.StateStarts.{SomeRecords, length-starts}

@@ -1,11 +1,11 @@
 -- The sheets of a state with page records are printed as sheets that are read back.
-use Rattle.std.proofs.Common.{◌≡◌, ◌⊎◌, inl, inr, ℕ, zero, suc, ◌+◌, ◌-◌, ◌<◌, ◌≤◌, ◌==◌, ◌&&◌, max, Bool, true, false, not, cond, Option, Some, None, List, [], ◌∷◌, ◌++◌, length, map, get_or, refl, sym, ap, ap₂, subst, ◌∙◌, append_assoc, arith, unwrap_or}
+use Rattle.std.proofs.Common.{◌≡◌, inl, inr, ℕ, suc, ◌+◌, ◌-◌, ◌≤◌, ◌==◌, ◌&&◌, max, Bool, true, false, cond, Option, Some, None, List, [], ◌∷◌, ◌++◌, length, map, refl, sym, ap, ap₂, subst, ◌∙◌, append_assoc, arith, unwrap_or}
 use Rattle.std.specs.Prelude.{All, filter, fold, is_some, nat_le, nat_lt, slice_index_or, slice_range}
 use Rattle.std.specs.List.{flat_map, list_any}
 use Rattle.std.proofs.lemmas.Bool.{cases_lt}
-use Rattle.std.proofs.lemmas.List.{get_or_past, length-map}
+use Rattle.std.proofs.lemmas.List.{get_or_past}
 use Rattle.std.proofs.lemmas.List.Elements.{All-nil, All-cons, All-head, All-tail, All-append}
-use Rattle.spec_text.specs.Lines.{LineState, IsText, line_texts}
+use Rattle.spec_text.specs.Lines.{LineState, line_texts}
 use Rattle.spec_text.proofs.ListLaws.{take-All, drop-All}
 use Rattle.spec_script.specs.LongestRuns.{Group, last_of}
 use Rattle.spec_script.specs.BlockValues.{LineOf, BlockOf}
@@ -19,31 +19,30 @@ use Rattle.spec_pages.specs.Rows as rows
 use Rattle.spec_pages.specs.Wrapping.{WrappedRow, wrapped}
 use Rattle.spec_labels.specs.Labels.{LabelOf, IsLabel, between}
 use Rattle.spec_labels.specs.LabelReading.{number_limit, step_limit}
-use Rattle.spec_labels.specs.PageRecords.{PageRecordOf, SegmentOf, is_empty, owner_of, SheetOf, AreSheets, segment_pages, page_label, page_sheet, page_sheets, greatest_round, omitted_sheet, runs_of, run_sheets, segments, record_starts, sheets_of_records}
+use Rattle.spec_labels.specs.PageRecords.{PageRecordOf, SegmentOf, is_empty, owner_of, SheetOf, AreSheets, segment_pages, page_label, page_sheets, omitted_sheet, runs_of, run_sheets, segments, record_starts}
 use Rattle.spec_labels.proofs.SheetLaws.{runs_of-all, sheets-AreSheets}
 use Rattle.spec_layout.specs.Cells.{ShownCell}
-use Rattle.spec_layout.specs.Layout.{laid_beside, laid_out, is_title_element, placed_in}
+use Rattle.spec_layout.specs.Layout.{laid_beside, laid_out, is_title_element}
 use Rattle.spec_layout.specs.Speakers.{Spoken, text_elements}
 use Rattle.spec_layout.specs.Shown.{Shown, shown_of, element_cue, element_shown, heading_label, labels_behind, shown_rows}
 use Rattle.spec_layout.proofs.LayoutLaws.{layout_of-show}
 use Rattle.spec_print.specs.PageRows.{page_body, omitted_rows}
 use Rattle.spec_print.specs.Sheets.{Sheet, sheet_bytes}
-use Rattle.spec_records.specs.Bounds.{IsBounded}
 use Rattle.spec_records.specs.Kept.{IsLocked, IsAnchored, AreKeptPages}
 use Rattle.spec_records.proofs.BoundLaws.{between-steps, between-number}
 use Rattle.spec_state.specs.State.{State, text_of}
 use Rattle.spec_state.specs.Headings.{heading_labels}
 use Rattle.spec_state.specs.Keeping.{IsWhole}
 use Rattle.spec_state.specs.Printing.{printed_state}
-use Rattle.spec_state.specs.StateSheets.{greatest_mark, title_sheet, title_sheets, layout_in, rows_in, keys_in, titles_in, title_starts, body_sheets, sheets_in, pages_in, sheet_rows, shown_sheet}
+use Rattle.spec_state.specs.StateSheets.{greatest_mark, title_sheets, layout_in, rows_in, keys_in, titles_in, title_starts, body_sheets, sheets_in, pages_in, sheet_rows, shown_sheet}
 use Rattle.spec_state.proofs.StateLaws.{whole-kept, state-AreKeptPages, state-ArePages}
-use Rattle.spec_collation.specs.SheetLists.{PrintedOf, SheetListOf, bytes_of, list_bytes, IsIn, AreRising}
+use Rattle.spec_collation.specs.SheetLists.{bytes_of, list_bytes, IsIn, AreRising}
 use Rattle.spec_collation.specs.Pieces.{IsReadable, IsPlain}
-use Rattle.spec_collation.proofs.Lists.{in-map, map-in}
+use Rattle.spec_collation.proofs.Lists.{map-in}
 use Rattle.spec_locked_pages.specs.Segments.{records_in, segments_in, pages_of}
 use Rattle.spec_locked_pages.proofs.StateStarts.{SomeRecords}
-use Rattle.spec_packet.specs.Packets.{LaidOf, laid_sheets, printed_of, laid_printed}
-use Rattle.spec_packet.specs.PrintedTexts.{Prints, PrintsTitle, IsPrinted}
+use Rattle.spec_packet.specs.Packets.{laid_sheets, printed_of, laid_printed}
+use Rattle.spec_packet.specs.PrintedTexts.{PrintsTitle, IsPrinted}
 use Rattle.spec_packet.specs.StatePackets.{laid_of, title_bytes, sheets_of}
 use Rattle.spec_packet.proofs.ChoiceLaws.{in-flat, flat-in}
 use Rattle.spec_packet.proofs.CleanRows.{page-clean, omitted-clean}
@@ -333,11 +332,11 @@ module _ (state : State) (whole : IsWhole state) (some : SomeRecords state) wher
 
 -- ---- the bytes of a state are those of its list of sheets
 
-flat-both : {X Y : Type 0} (f : X → List Y) (xs ys : List X) → flat_map f (xs ++ ys) ≡ flat_map f xs ++ flat_map f ys
+pub flat-both : {X Y : Type 0} (f : X → List Y) (xs ys : List X) → flat_map f (xs ++ ys) ≡ flat_map f xs ++ flat_map f ys
 flat-both f [] ys = refl
 flat-both {X} {Y} f (x ∷ xs) ys = ap (λ (l : List Y). f x ++ l) (flat-both f xs ys) ∙ sym (append_assoc (f x) (flat_map f xs) (flat_map f ys))
 
-flat-titles : (sheets : List Sheet) → flat_map sheet_bytes sheets ≡ flat_map (λ (t : List ℕ). t) (map sheet_bytes sheets)
+pub flat-titles : (sheets : List Sheet) → flat_map sheet_bytes sheets ≡ flat_map (λ (t : List ℕ). t) (map sheet_bytes sheets)
 flat-titles [] = refl
 flat-titles (sheet ∷ sheets) = ap (λ (l : List ℕ). sheet_bytes sheet ++ l) (flat-titles sheets)
 
@@ -345,7 +344,7 @@ flat-body : (state : State) (sheets : List SheetOf) → flat_map sheet_bytes (ma
 flat-body state [] = refl
 flat-body state (sheet ∷ sheets) = ap (λ (l : List ℕ). sheet_bytes (shown_sheet (rows_in state) sheet) ++ l) (flat-body state sheets)
 
-body-laid : (state : State) → is_some state.pages ≡ true → body_sheets state ≡ laid_sheets (laid_of state)
+pub body-laid : (state : State) → is_some state.pages ≡ true → body_sheets state ≡ laid_sheets (laid_of state)
 body-laid state locked = by state.pages locked
   where
     by : (pages : Option (List PageRecordOf)) → is_some pages ≡ true

@@ -1,11 +1,11 @@
 -- The page records of a state with the rows of their segments.
-use Rattle.std.proofs.Common.{◌≡◌, ℕ, zero, suc, ◌+◌, ◌-◌, ◌<◌, ◌≤◌, Option, Some, None, List, [], ◌∷◌, ◌++◌, length, map, take, drop, get_or, refl, ap, ap₂, sym, subst, ◌∙◌, append-nil, length-append, length-drop, arith, unwrap_or}
+use Rattle.std.proofs.Common.{◌≡◌, ℕ, ◌+◌, ◌-◌, ◌≤◌, Option, Some, None, List, [], ◌∷◌, ◌++◌, length, map, drop, refl, ap, ap₂, sym, subst, ◌∙◌, append-nil, length-append, length-drop, arith, unwrap_or}
 use Rattle.std.specs.Prelude.{All, AllPairs, slice_range, slice_index_or}
 use Rattle.std.proofs.lemmas.List.{map-append, length-map, length-take, take_rest}
 use Rattle.std.proofs.lemmas.List.Folds.{drop_split}
 use Rattle.std.proofs.lemmas.List.Elements.{All-head, All-tail}
 use Rattle.spec_text.proofs.ListLaws.{pairs-head, pairs-tail}
-use Rattle.spec_labels.specs.PageRecords.{PageRecordOf, SegmentOf, segments, record_start, record_starts, AreStarts}
+use Rattle.spec_labels.specs.PageRecords.{PageRecordOf, SegmentOf, segments, record_start, record_starts}
 use Rattle.spec_layout.specs.Shown.{Shown}
 use Rattle.spec_state.specs.State.{State}
 use Rattle.spec_state.specs.Keeping.{IsWhole}
@@ -14,7 +14,7 @@ use Rattle.spec_state.specs.StateSheets.{rows_in, keys_in}
 use Rattle.spec_state.proofs.StateLaws.{state-AreStarts}
 use Rattle.spec_locked_pages.specs.Segments.{records_in, segments_in}
 use Rattle.spec_locked_pages.proofs.StateStarts.{SomeRecords}
-use Rattle.spec_packet.specs.RecordRows.{RecordRows, rows_of, all_rows, segment_behind, segments_from}
+use Rattle.spec_packet.specs.RecordRows.{RecordRows, all_rows, segments_from}
 
 -- Records with the rows from their starts on.
 abbrev pub with_rows : List Shown → List PageRecordOf → List ℕ → List RecordRows

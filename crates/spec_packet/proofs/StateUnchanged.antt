@@ -1,10 +1,8 @@
 -- A page that the packet leaves out is printed as at the opening.
-use Rattle.std.proofs.Common.{◌≡◌, ◌⊎◌, inl, inr, ℕ, zero, suc, ◌+◌, ◌-◌, ◌<◌, ◌≤◌, Bool, true, false, ◌&&◌, ◌==◌, cond, Option, Some, None, List, [], ◌∷◌, ◌++◌, length, map, take, drop, get_or, refl, sym, ap, ap₂, subst, ◌∙◌, arith, unwrap_or}
-use Rattle.std.specs.Prelude.{All, is_some, replicate, slice_range}
+use Rattle.std.proofs.Common.{◌≡◌, inl, ℕ, zero, suc, ◌+◌, ◌-◌, ◌<◌, Bool, true, false, ◌==◌, cond, Option, Some, List, [], ◌∷◌, ◌++◌, length, map, take, drop, get_or, refl, sym, ap, ap₂, subst, ◌∙◌, arith, unwrap_or}
+use Rattle.std.specs.Prelude.{All, replicate, slice_range}
 use Rattle.std.specs.List.{flat_map}
-use Rattle.std.proofs.lemmas.Bool.{cases_Bool, cases_lt}
-use Rattle.std.proofs.lemmas.List.{length-map}
-use Rattle.std.proofs.lemmas.List.Elements.{All-nil, All-cons, All-head, All-tail}
+use Rattle.std.proofs.lemmas.List.Elements.{All-head, All-tail}
 use Rattle.spec_text.proofs.ListLaws.{take-All, drop-All}
 use Rattle.spec_script.specs.LongestRuns.{last_of}
 use Rattle.spec_pages.specs.declared.Shape.{Shape}
@@ -12,7 +10,7 @@ use Rattle.spec_pages.specs.Pages.{is_heading, continues_speech}
 use Rattle.spec_labels.specs.declared.RowKey.{RowKey}
 use Rattle.spec_labels.specs.Labels.{LabelOf}
 use Rattle.spec_labels.specs.Scenes.{SceneRecordOf}
-use Rattle.spec_labels.specs.PageRecords.{PageRecordOf, RisingRecords, SegmentOf, is_empty, SheetOf, segment_pages, segments, record_starts}
+use Rattle.spec_labels.specs.PageRecords.{PageRecordOf, RisingRecords, SegmentOf, is_empty, SheetOf, record_starts}
 use Rattle.spec_layout.specs.Cells.{ShownCell}
 use Rattle.spec_layout.specs.Shown.{Shown}
 use Rattle.spec_print.specs.RowBytes.{ShownRow}
@@ -21,24 +19,24 @@ use Rattle.spec_print.specs.Sheets.{sheet_bytes}
 use Rattle.spec_state.specs.State.{State}
 use Rattle.spec_state.specs.Keeping.{IsWhole}
 use Rattle.spec_state.specs.SameRows.{BareRow, bare_of}
-use Rattle.spec_state.specs.StateSheets.{rows_in, keys_in, sheet_rows, shown_sheet}
+use Rattle.spec_state.specs.StateSheets.{rows_in, keys_in, sheet_rows}
 use Rattle.spec_state.proofs.StateLaws.{state-AreKeptPages}
 use Rattle.spec_collation.specs.SheetLists.{IsIn, InOrder}
 use Rattle.spec_collation.proofs.Lists.{in-map, in-right}
 use Rattle.spec_locked_pages.specs.Chains.{IsOpened}
-use Rattle.spec_locked_pages.specs.Segments.{records_in, segments_in, segment_at, pages_of, has_scene, HasScene, no_segment}
+use Rattle.spec_locked_pages.specs.Segments.{records_in, segments_in, segment_at, has_scene, HasScene, no_segment}
 use Rattle.spec_locked_pages.proofs.StateStarts.{SomeRecords}
-use Rattle.spec_packet.specs.Packets.{LaidOf, cue_at, is_fresh, has_fresh_cue, Both, was_of, now_of, SameRecord, only_sheet, Starts, PrintsOmitted, LabelsRise, Unchanged}
-use Rattle.spec_packet.specs.RecordRows.{RecordRows, all_rows, segment_behind, segments_from, RowsBoth, were_of, are_of, StaysStale}
+use Rattle.spec_packet.specs.Packets.{cue_at, is_fresh, has_fresh_cue, Both, was_of, now_of, SameRecord, only_sheet, LabelsRise, Unchanged}
+use Rattle.spec_packet.specs.RecordRows.{all_rows, segment_behind, segments_from, RowsBoth, were_of, are_of, StaysStale}
 use Rattle.spec_packet.specs.StatePackets.{laid_of}
 use Rattle.spec_packet.proofs.CueLaws.{rows_now, rows_were}
 use Rattle.spec_packet.proofs.EditRecords.{Chained}
 use Rattle.spec_packet.proofs.PrintedLaws.{segments-rise}
-use Rattle.spec_packet.proofs.RecordLaw.{slice-middle, rows-cut, cue-stays, both_from, both-were, both-are, PlaceOf, place-of, empty-len}
-use Rattle.spec_packet.proofs.RowCues.{Knows, repeated, state-knows}
+use Rattle.spec_packet.proofs.RecordLaw.{slice-middle, rows-cut, cue-stays, both_from, both-were, both-are, place-of, empty-len}
+use Rattle.spec_packet.proofs.RowCues.{repeated, state-knows}
 use Rattle.spec_packet.proofs.RowNumbers.{number_by, numbered, CellsTold, state-told}
 use Rattle.spec_packet.proofs.StatePages.{index-of, some-rows, state-paged, length-segments_in, opened-paged}
-use Rattle.spec_packet.proofs.StateRecords.{text_records, text-segments, text-rows}
+use Rattle.spec_packet.proofs.StateRecords.{text-segments, text-rows}
 
 -- ---- rows that an edit takes for the same
 

@@ -1,8 +1,8 @@
 -- The revision packet (docs/RULES.md, "Packets").
-use Rattle.std.specs.Prelude.{◌≡◌, ℕ, ◌+◌, ◌-◌, ◌<◌, min, max, Bool, true, false, not, ◌&&◌, ◌||◌, ◌==◌, nat_lt, nat_le, if◌then◌else◌, List, [], ◌∷◌, ◌++◌, length, map, take, drop, slice_get, slice_index_or, Option, Some, None, unwrap_or, option_map}
+use Rattle.std.specs.Prelude.{◌≡◌, ℕ, ◌+◌, ◌-◌, min, max, Bool, true, false, ◌&&◌, ◌||◌, ◌==◌, nat_lt, nat_le, if◌then◌else◌, List, [], ◌∷◌, ◌++◌, length, map, take, drop, slice_get, unwrap_or, option_map}
 use Rattle.std.specs.List.{list_any, flat_map, prefix_len}
 use Rattle.spec_pages.specs.Pages.{continues_speech}
-use Rattle.spec_labels.specs.PageRecords.{PageRecordOf, SegmentOf, is_empty, owner_of, SheetOf, segment_pages, page_sheets, page_sheet, omitted_sheet, runs_of, run_sheets}
+use Rattle.spec_labels.specs.PageRecords.{SegmentOf, is_empty, owner_of, SheetOf, segment_pages, page_sheets, page_sheet, omitted_sheet, runs_of, run_sheets}
 use Rattle.spec_layout.specs.Shown.{is_cue}
 use Rattle.spec_labels.specs.Labels.{Below}
 use Rattle.spec_state.specs.SameRows.{BareRow}

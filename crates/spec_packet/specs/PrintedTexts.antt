@@ -1,5 +1,5 @@
 -- A text with page records, printed: its title sheets and its sheets with labels (docs/RULES.md, "Packets").
-use Rattle.std.specs.Prelude.{◌≡◌, ℕ, ◌≤◌, Bool, true, false, if◌then◌else◌, List, [], ◌∷◌, map, slice_range, Option, Some, None, All}
+use Rattle.std.specs.Prelude.{◌≡◌, ℕ, ◌≤◌, List, Some, None}
 use Rattle.spec_labels.specs.PageRecords.{SheetOf}
 use Rattle.spec_print.specs.RowBytes.{ShownRow}
 use Rattle.spec_print.specs.Sheets.{Sheet, sheet_bytes}

@@ -1,9 +1,8 @@
 -- What a packet asks of a sheet, by the places of records (docs/RULES.md, "Packets").
-use Rattle.std.specs.Prelude.{◌≡◌, ℕ, ◌+◌, ◌-◌, Bool, true, false, not, ◌&&◌, ◌||◌, ◌==◌, nat_lt, nat_le, if◌then◌else◌, List, [], ◌∷◌, ◌++◌, length, map, slice_range, Option, Some, None}
+use Rattle.std.specs.Prelude.{ℕ, ◌+◌, ◌-◌, Bool, false, not, ◌||◌, ◌==◌, nat_lt, nat_le, if◌then◌else◌, List, [], ◌∷◌, ◌++◌, length, map, slice_range, Option, Some, None}
 use Rattle.std.specs.List.{list_any, prefix_len}
 use Rattle.spec_labels.specs.PageRecords.{SegmentOf, is_empty, SheetOf, segment_pages, page_sheets, runs_of}
-use Rattle.spec_state.specs.SameRows.{BareRow}
-use Rattle.spec_packet.specs.Packets.{LaidOf, is_fresh, speech_start, cue_end, goes_on_at}
+use Rattle.spec_packet.specs.Packets.{LaidOf, speech_start, cue_end, goes_on_at}
 
 -- Records from one place to another.
 pub record PlacesOf : Type 0 where

@@ -1,4 +1,4 @@
-use Rattle.std.proofs.Common.{◌≡◌, List, ℕ, sym, ap, ◌∙◌}
+use Rattle.std.proofs.Common.{sym, ap, ◌∙◌}
 use Rattle.spec_collation.specs.BytesCollated.{collated_bytes}
 use Rattle.sp_collation.proofs.MergeLaws.{collating-walk}
 use Rattle.sp_collation.proofs.collation.collate.Goals as goal

@@ -1,4 +1,4 @@
-use Rattle.std.proofs.Common.{◌≡◌, List, ℕ, map, Bor, sym, ap, ◌∙◌}
+use Rattle.std.proofs.Common.{List, ℕ, map, Bor, ap, ◌∙◌}
 use Rattle.spec_collation.specs.SheetLists.{SheetListOf}
 use Rattle.sp_collation.proofs.MergeLaws.{gather}
 use Rattle.sp_collation.proofs.collation.collation.Goals as goal

@@ -1,4 +1,4 @@
-use Rattle.std.proofs.Common.{◌≡◌, ◌==◌, ℕ, ◌+◌, ◌-◌, List, length, take, drop, sym, subst}
+use Rattle.std.proofs.Common.{◌==◌, ◌+◌, take, sym, subst}
 use Rattle.std.proofs.lemmas.List.{take_rest}
 use Rattle.sp_collation.specs.Cuts.{IsCut}
 use Rattle.sp_collation.proofs.CutLaws.{cut-some, cut-none}

@@ -1,4 +1,4 @@
-use Rattle.std.proofs.Common.{◌≡◌, arith}
+use Rattle.std.proofs.Common.{arith}
 use Rattle.sp_collation.proofs.CutLaws.{word-at}
 use Rattle.sp_collation.proofs.header.last_word.Goals as goal
 

@@ -1,4 +1,4 @@
-use Rattle.std.proofs.Common.{◌≡◌, ◌+◌, length, take, sym}
+use Rattle.std.proofs.Common.{◌+◌, length, sym}
 use Rattle.std.proofs.lemmas.List.{length-take-le}
 use Rattle.sp_collation.proofs.AddLaws.{whole-piece}
 use Rattle.sp_collation.proofs.sheets.first_sheet.Goals as goal

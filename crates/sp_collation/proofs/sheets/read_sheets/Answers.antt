@@ -1,4 +1,4 @@
-use Rattle.std.proofs.Common.{◌≡◌, ◌==◌, ◌+◌, ◌≤◌, length, sym, subst, ap, ◌∙◌, arith}
+use Rattle.std.proofs.Common.{sym, subst, ◌∙◌, arith}
 use Rattle.sp_collation.specs.Collating.{IsNotRead}
 use Rattle.sp_collation.proofs.AddLaws.{read-step, not-read}
 use Rattle.sp_collation.proofs.sheets.read_sheets.Goals as goal

@@ -1,7 +1,6 @@
 use Rattle.std.proofs.Common.{◌≡◌, ◌∷◌, ◌++◌, [], List, ℕ, true, sym, subst, ap, ◌∙◌}
 use Rattle.std.specs.Prelude.{Some}
 use Rattle.spec_script.specs.Letters.{ends}
-use Rattle.spec_collation.specs.SheetLists.{SheetListOf}
 use Rattle.spec_collation.specs.SheetReadings.{header_labels, follows}
 use Rattle.sp_collation.specs.Reading.{Adds, last_label}
 use Rattle.sp_collation.proofs.AddLaws.{adds-labelled}

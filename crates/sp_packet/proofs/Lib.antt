@@ -1,0 +1,6 @@
+mod FreshLaws
+mod CueLaws
+mod RunLaws
+mod SegmentLaws
+mod FactWalk
+mod PlaceWalk

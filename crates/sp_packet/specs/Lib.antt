@@ -1,0 +1,4 @@
+pub mod Cues
+pub mod Fresh
+pub mod Runs
+pub mod Refusing
