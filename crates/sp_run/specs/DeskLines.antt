@@ -94,21 +94,21 @@ pub record AnswersLine (before : AtShelf NamedDesk) (line : List ℕ) (after : A
 abbrev pub memories_of : Memory → List (Answered (AtShelf NamedDesk)) → List Memory
 memories_of memory steps = memory ∷ map (λ (step : Answered (AtShelf NamedDesk)). step.after.it.memory) steps
 
--- The line asks to save, and was answered that a store failed.
-abbrev pub is_unsaved : List ℕ → Answered (AtShelf NamedDesk) → Bool
-is_unsaved line step = asks_save (command_of_line line) && bytes_eq step.reply (reply_line (refused shelf))
+-- The line asks to save.
+abbrev pub saves : List ℕ → Bool
+saves line = asks_save (command_of_line line)
 
--- How many of these lines are saves that were answered that a store failed.
-abbrev pub unsaved_count : List (List ℕ) → List (Answered (AtShelf NamedDesk)) → ℕ
-unsaved_count [] steps = 0
-unsaved_count (line ∷ lines) [] = 0
-unsaved_count (line ∷ lines) (step ∷ steps) = (if is_unsaved line step then 1 else 0) + unsaved_count lines steps
+-- How many of these lines are saves, by this test, that were answered that a store failed.
+abbrev pub unsaved_count : (List ℕ → Bool) → List (List ℕ) → List (Answered (AtShelf NamedDesk)) → ℕ
+unsaved_count test [] steps = 0
+unsaved_count test (line ∷ lines) [] = 0
+unsaved_count test (line ∷ lines) (step ∷ steps) = (if test line && bytes_eq step.reply (reply_line (refused shelf)) then 1 else 0) + unsaved_count test lines steps
 
 -- The shelf as the last save of these lines left it, which were answered by these steps; as it was, where none is a save.
-abbrev pub shelf_behind : ShelfState → List (List ℕ) → List (Answered (AtShelf NamedDesk)) → ShelfState
-shelf_behind files [] steps = files
-shelf_behind files (line ∷ lines) [] = files
-shelf_behind files (line ∷ lines) (step ∷ steps) = shelf_behind (if asks_save (command_of_line line) then step.after.shelf else files) lines steps
+abbrev pub shelf_behind : (List ℕ → Bool) → ShelfState → List (List ℕ) → List (Answered (AtShelf NamedDesk)) → ShelfState
+shelf_behind test files [] steps = files
+shelf_behind test files (line ∷ lines) [] = files
+shelf_behind test files (line ∷ lines) (step ∷ steps) = shelf_behind test (if test line then step.after.shelf else files) lines steps
 
 -- What want of memory leaves of a shelf: what a save may leave, and else all.
 abbrev pub Leaves : Bool → AtShelf NamedDesk → AtShelf NamedDesk → Type 0

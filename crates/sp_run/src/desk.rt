@@ -3,14 +3,16 @@ ghost use Rattle.std.specs.Prelude.{◌≡◌, IfOk, IfErr};
 ghost use Rattle.sp_kit.specs.Outside.{SinkState};
 ghost use Rattle.sp_run.specs.Records.{records_name};
 ghost use Rattle.sp_run.specs.Saving.{Changes, KeepsAllBut};
-ghost use Rattle.sp_run.specs.Ending.{DeskEnds, NotDone, OpensDesk, outside};
+ghost use Rattle.sp_run.specs.Ending.{DeskEnds, NotDone, OpensDesk, RoomEnds, outside};
 
 use crate::desk_lines::DeskLines;
 use crate::form::Origin;
 use crate::opening::open_state;
+use crate::room_lines::RoomLines;
 use crate::status::Status;
 use sp_desk::Desk;
 use sp_kit::{Shelf, Sink, Source, Steps};
+use sp_room::Room;
 use sp_session::session;
 use std::alloc::Global;
 
@@ -53,6 +55,31 @@ pub fn hold_session<I: Source, O: Sink, F: Shelf, S: Steps>(
         alloc,
         name,
         desk,
+        steps,
+    };
+    Status::from(session(alloc, &mut lines, input, output, shelf))
+}
+
+/// Answers the command lines of the source by a room round such a desk.
+pub fn hold_room<I: Source, O: Sink, F: Shelf, S: Steps>(
+    alloc: Global,
+    name: &str,
+    input: &mut I,
+    output: &mut O,
+    shelf: &mut F,
+    steps: &mut S,
+) -> Status
+    ensures ends { RoomEnds name.now (outside (I.state input.old) (O.state output.old) (F.state shelf.old)) (outside (I.state input.new) (O.state output.new) (F.state shelf.new)) result }
+    ensures others { Changes (F.state shelf.old).files (F.state shelf.new).files (λ old new. KeepsAllBut old new name.now (records_name name.now)) }
+{
+    let desk = match open_desk(alloc, name, input, shelf, steps) {
+        Ok(desk) => desk,
+        Err(status) => return status,
+    };
+    let mut lines = RoomLines {
+        alloc,
+        name,
+        room: Room::open(alloc, desk),
         steps,
     };
     Status::from(session(alloc, &mut lines, input, output, shelf))
