@@ -6,7 +6,7 @@ use Rattle.spec_text.specs.Lines.{line_texts, lines, reading_of}
 use Rattle.spec_state.specs.State.{State}
 use Rattle.spec_machine.specs.Machine.{Memory, opened_memory}
 use Rattle.spec_session.specs.CommandLines.{KeepsLimits, IsFirstLong, IsFull, command_lines}
-use Rattle.spec_session.specs.Runs.{Answered, AtShelf, Runs, output_of, steps_seen}
+use Rattle.spec_session.specs.Runs.{Answered, AtShelf, Runs, output_of}
 use Rattle.spec_session.specs.Sessions.{SessionEnds, streams}
 use Rattle.spec_session.specs.declared.SessionEnd.{SessionEnd}
 use Rattle.spec_session.specs.declared.SessionEnd.TheVariants as endings
@@ -24,7 +24,7 @@ use Rattle.sp_run.specs.Forms.{OriginOf, Asked, show, desk, room, sample, collat
 use Rattle.spec_machine.specs.KeptMemories.{IsWholeMemory}
 use Rattle.spec_locked_pages.specs.Chains.{AreLinked}
 use Rattle.spec_room.specs.Rooms.{opened_room}
-use Rattle.sp_run.specs.DeskLines.{AnswersLine, NamedDesk, StopsAtLine, answered_lines, desk_at, memories_of, saves, shelf_behind, unsaved_count}
+use Rattle.sp_run.specs.DeskLines.{AnswersLine, NamedDesk, StopsAtLine, answered_lines, desk_at, desk_itself, memories_of, saves, shelf_behind, unsaved_count}
 use Rattle.sp_run.specs.RoomLines.{AnswersRoomLine, NamedRoom, StopsAtRoomLine, answered_room_lines, desk_in, room_at, seat_saves}
 use Rattle.sp_run.specs.Seats.{AreTakenSeen}
 use Rattle.sp_run.specs.Promises.{ArePromised}
@@ -144,8 +144,8 @@ ShowEnds view origin old new (statuses.BadSheets file sheet) = ⊥
 -- ---- a session of a desk
 
 -- Each save, by this test, that failed raised the shelf's count of faults, where the count can tell.
-abbrev pub CountsUnsaved : (List ℕ → Bool) → ShelfState → ShelfState → List (List ℕ) → List (Answered (AtShelf NamedDesk)) → Type 0
-CountsUnsaved test old new lines steps = new.faults < 2 ^ 64 - 1 → old.faults + unsaved_count test lines steps ≤ new.faults
+abbrev pub CountsUnsaved : {R : Type 0} → (List ℕ → Bool) → ShelfState → ShelfState → List (List ℕ) → List (Answered R) → Type 0
+CountsUnsaved test old new asked steps = new.faults < 2 ^ 64 - 1 → old.faults + unsaved_count test asked steps ≤ new.faults
 
 -- The shelf has a script under the name; it was opened as a desk with what stands beside it, and so its session ended, which
 -- left the shelf as it is now. All memories that the desk had keep what is promised.
@@ -155,7 +155,7 @@ pub record HeldSession (name : List ℕ) (old new : Outside) (end : SessionEnd) 
   pub after : AtShelf NamedDesk
   pub ends : SessionEnds AnswersLine StopsAtLine (streams old.source old.sink) (streams new.source new.sink) (desk_at name (opened_memory state) old.shelf) after end
   pub left : new.shelf ≡ after.shelf
-  pub promised : ArePromised (memories_of (opened_memory state) ends.course.steps)
+  pub promised : ArePromised (memories_of desk_itself (opened_memory state) ends.course.steps)
   pub counted : CountsUnsaved saves old.shelf new.shelf ends.course.lines ends.course.steps
 
 -- The shelf has a script under the name and was left as it was, and this is the memory of its desk.
@@ -175,9 +175,9 @@ pub record HeldRoom (name : List ℕ) (old new : Outside) (end : SessionEnd) : T
   pub after : AtShelf NamedRoom
   pub ends : SessionEnds AnswersRoomLine StopsAtRoomLine (streams old.source old.sink) (streams new.source new.sink) (room_at name (opened_room (opened_memory state)) old.shelf) after end
   pub left : new.shelf ≡ after.shelf
-  pub promised : ArePromised (memories_of (opened_memory state) (steps_seen desk_in ends.course.steps))
+  pub promised : ArePromised (memories_of desk_in (opened_memory state) ends.course.steps)
   pub seen : AreTakenSeen (opened_room (opened_memory state)) (state.lines ∷ []) ends.course.lines ends.course.steps
-  pub counted : CountsUnsaved seat_saves old.shelf new.shelf ends.course.lines (steps_seen desk_in ends.course.steps)
+  pub counted : CountsUnsaved seat_saves old.shelf new.shelf ends.course.lines ends.course.steps
 
 -- How a run ends that answers commands, where a session is held so.
 abbrev pub CommandsEnd : (SessionEnd → Type 0) → List ℕ → Outside → Outside → Status → Type 0
@@ -241,7 +241,7 @@ pub record AnsweredAll (name : List ℕ) (old new : Outside) : Type 0 where
   pub runs : Runs AnswersLine (desk_at name (opened_memory state) old.shelf) (command_lines input) steps
   pub wrote : Appends old.sink.taken new.sink.taken (output_of steps)
   pub left : new.shelf ≡ shelf_behind saves old.shelf (command_lines input) steps
-  pub promised : ArePromised (memories_of (opened_memory state) steps)
+  pub promised : ArePromised (memories_of desk_itself (opened_memory state) steps)
   pub counted : CountsUnsaved saves old.shelf new.shelf (command_lines input) steps
 
 -- All command lines of the input were answered by a desk of the script, and each save was done.
@@ -263,10 +263,10 @@ pub record RoomAnsweredAll (name : List ℕ) (old new : Outside) : Type 0 where
   pub steps : List (Answered (AtShelf NamedRoom))
   pub runs : Runs AnswersRoomLine (room_at name (opened_room (opened_memory state)) old.shelf) (command_lines input) steps
   pub wrote : Appends old.sink.taken new.sink.taken (output_of steps)
-  pub left : new.shelf ≡ shelf_behind seat_saves old.shelf (command_lines input) (steps_seen desk_in steps)
-  pub promised : ArePromised (memories_of (opened_memory state) (steps_seen desk_in steps))
+  pub left : new.shelf ≡ shelf_behind seat_saves old.shelf (command_lines input) steps
+  pub promised : ArePromised (memories_of desk_in (opened_memory state) steps)
   pub seen : AreTakenSeen (opened_room (opened_memory state)) (state.lines ∷ []) (command_lines input) steps
-  pub counted : CountsUnsaved seat_saves old.shelf new.shelf (command_lines input) (steps_seen desk_in steps)
+  pub counted : CountsUnsaved seat_saves old.shelf new.shelf (command_lines input) steps
 
 pub record RoomAnsweredCalmly (name : List ℕ) (old new : Outside) : Type 0 where
   pub state : State

@@ -6,7 +6,7 @@ use Rattle.spec_records.specs.RecordFile.{digest_of}
 use Rattle.spec_wire.specs.Commands.{CommandOf, FaultOf, RoomLineOf}
 use Rattle.spec_wire.specs.Lines.{room_line_of_line}
 use Rattle.spec_wire.specs.Replies.{ReplyOf, refused, saved, shelf, unreadable, room_reply_line}
-use Rattle.spec_session.specs.Runs.{Answered, AtShelf}
+use Rattle.spec_session.specs.Runs.{Answered, AtShelf, at_shelf}
 use Rattle.spec_room.specs.Rooms.{RoomState, RoomStep, room_step_to, room_step_of}
 use Rattle.sp_kit.specs.Files.{ShelfState}
 use Rattle.sp_run.specs.DeskLines.{NamedDesk, Leaves, Stores, asks_save, is_save}
@@ -23,8 +23,11 @@ abbrev pub room_at : List ℕ → RoomState → ShelfState → AtShelf NamedRoom
 room_at name room files = record { it = record { name = name; room = room }; shelf = files }
 
 -- Its desk.
-abbrev pub desk_in : AtShelf NamedRoom → AtShelf NamedDesk
-desk_in at = record { it = record { name = at.it.name; memory = at.it.room.desk }; shelf = at.shelf }
+abbrev pub desk_in : NamedRoom → NamedDesk
+desk_in it = record { name = it.name; memory = it.room.desk }
+
+abbrev pub desk_of_room : AtShelf NamedRoom → AtShelf NamedDesk
+desk_of_room at = at_shelf (desk_in at.it) at.shelf
 
 -- What was read of a line, without the seat.
 abbrev pub seatless : Result RoomLineOf FaultOf → Result CommandOf FaultOf
@@ -66,7 +69,7 @@ answered_room_lines room (line ∷ lines) = answered_room_line room line ∷ ans
 pub record SeatIsDone (before : AtShelf NamedRoom) (asked : Result RoomLineOf FaultOf) (after : AtShelf NamedRoom) (reply : ReplyOf) : Type 0 where
   pub step : room_step_to after.it.room reply ≡ room_line_step_by before.it.room asked
   pub name : after.it.name ≡ before.it.name
-  pub stores : Stores (asks_save (seatless asked)) (desk_in before) (desk_in after)
+  pub stores : Stores (asks_save (seatless asked)) (desk_of_room before) (desk_of_room after)
 
 -- A save that wasn't done, since a store failed; the room is as it was.
 pub record SeatIsUnsaved (before : AtShelf NamedRoom) (asked : Result RoomLineOf FaultOf) (after : AtShelf NamedRoom) (reply : ReplyOf) : Type 0 where
@@ -90,7 +93,7 @@ pub record AnswersRoomLine (before : AtShelf NamedRoom) (line : List ℕ) (after
 pub record SeatStops (before : AtShelf NamedRoom) (asked : Result RoomLineOf FaultOf) (after : AtShelf NamedRoom) : Type 0 where
   pub room : (after.it.room ≡ before.it.room) ⊎ (after.it.room ≡ (room_line_step_by before.it.room asked).after)
   pub name : after.it.name ≡ before.it.name
-  pub leaves : Leaves (asks_save (seatless asked)) (desk_in before) (desk_in after)
+  pub leaves : Leaves (asks_save (seatless asked)) (desk_of_room before) (desk_of_room after)
 
 abbrev pub StopsAtRoomLine : AtShelf NamedRoom → List ℕ → AtShelf NamedRoom → Type 0
 StopsAtRoomLine before line after = SeatStops before (room_line_of_line line) after

@@ -22,7 +22,7 @@ pub record TookLine (old : RoomState) (texts : List Text) (asked : Result RoomLi
   pub asks : asked ≡ Ok it
   pub takes : Takes old it new
   pub seen : IsSeen old texts it.seen (kind_of it.command) new
-  pub texts : behind ≡ versions_after texts (kind_of it.command) new.desk.state.lines
+  pub are : behind ≡ versions_after texts (kind_of it.command) new.desk.state.lines
 
 -- A line left the room as it was, or the room took it.
 abbrev pub IsTakenSeen : RoomState → List Text → Result RoomLineOf FaultOf → RoomState → List Text → Type 0
