@@ -1,9 +1,10 @@
-//! A session of a desk (docs/RULES.md, "The program" and "Sessions").
+//! A session of a desk, or of a room round it (docs/RULES.md, "The program" and "Sessions").
 ghost use Rattle.std.specs.Prelude.{◌≡◌, IfOk, IfErr};
 ghost use Rattle.sp_kit.specs.Outside.{SinkState};
+ghost use Rattle.sp_run.specs.Forms.{from_file};
 ghost use Rattle.sp_run.specs.Records.{records_name};
 ghost use Rattle.sp_run.specs.Saving.{Changes, KeepsAllBut};
-ghost use Rattle.sp_run.specs.Ending.{DeskEnds, NotDone, OpensDesk, RoomEnds, outside};
+ghost use Rattle.sp_run.specs.Ending.{DeskEnds, OpensDesk, RoomEnds, Unopened, outside};
 
 use crate::desk_lines::DeskLines;
 use crate::form::Origin;
@@ -25,7 +26,7 @@ fn open_desk<I: Source, F: Shelf, S: Steps>(
     steps: &mut S,
 ) -> Result<Desk, Status>
     ensures opened { IfOk result (OpensDesk (F.state shelf.old) (F.state shelf.new) name.now) }
-    ensures refused { (sink : SinkState) → IfErr result (λ status. DeskEnds name.now (outside (I.state input.old) sink (F.state shelf.old)) (outside (I.state input.new) sink (F.state shelf.new)) status × NotDone status) }
+    ensures refused { (sink : SinkState) → IfErr result (Unopened (from_file name.now) (outside (I.state input.old) sink (F.state shelf.old)) (outside (I.state input.new) sink (F.state shelf.new))) }
     ensures source_kept { input.new ≡ input.old }
     ensures files_kept { (F.state shelf.new).files ≡ (F.state shelf.old).files }
 {

@@ -2,7 +2,10 @@
 ghost use Rattle.std.specs.Prelude.{◌≡◌, ℕ, ◌+◌, ◌-◌, ◌^◌, ◌<◌, ◌≤◌, IfOk, OnErr};
 ghost use Rattle.std.specs.declared.result.Result.TheVariants.{Ok};
 ghost use Rattle.spec_wire.specs.Lines.{room_line_of_line};
+ghost use Rattle.spec_wire.specs.Commands.{RoomLineOf};
 ghost use Rattle.sp_wire.specs.Values.{room_line_of, reply_of};
+ghost use Rattle.sp_room.specs.Answers.{IsRoomAnswer};
+ghost use Rattle.sp_run.specs.Promises.{Follows};
 ghost use Rattle.sp_run.specs.RoomLines.{SeatReplies, SeatStops, room_at};
 
 use crate::desk_lines::is_save;
@@ -32,6 +35,24 @@ impl<'a, 'b, S> Model for RoomLines<'a, 'b, S> {
     ghost view = { λ r. record { name = r.name.now; room = r.room } };
 }
 
+/// Does a seat's command by the room. A refusal and want of memory leave it as it was.
+fn ask_room<S: Steps>(
+    room: &mut Room,
+    asked: RoomLine,
+    steps: &mut S,
+) -> Result<Reply, DeskFault>
+    requires version { (room.old).version + 1 < 2 ^ 64 }
+    ensures step { IsRoomAnswer room.old (room_line_of asked) room.new result }
+    ensures same { OnErr result (room.new ≡ room.old) }
+    ensures follows { Follows (room.old).desk (room.new).desk }
+    ensures version { (room.new).version ≤ (room.old).version + 1 }
+{
+    let _before = room.desk().sheets();
+    let answer = room.apply(asked.seat.as_str(), asked.seen, asked.command, steps);
+    let _after = room.desk().sheets();
+    answer
+}
+
 /// Does a seat's command, and answers it. Only `save` touches the shelf.
 fn reply_to_seat<F: Shelf, S: Steps>(
     alloc: Global,
@@ -44,11 +65,14 @@ fn reply_to_seat<F: Shelf, S: Steps>(
     requires version { (room.old).version + 1 < 2 ^ 64 }
     ensures reply { IfOk result (λ reply. SeatReplies (room_at name.now room.old (F.state shelf.old)) (Ok (room_line_of asked)) (room_at name.now room.new (F.state shelf.new)) (reply_of reply)) }
     ensures stops { OnErr result (SeatStops (room_at name.now room.old (F.state shelf.old)) (Ok (room_line_of asked)) (room_at name.now room.new (F.state shelf.new))) }
+    ensures follows { Follows (room.old).desk (room.new).desk }
+    ensures version { (room.new).version ≤ (room.old).version + 1 }
 {
     if is_save(&asked.command) {
+        let _sheets = room.desk().sheets();
         return save(alloc, name, room.desk(), shelf);
     }
-    match room.apply(asked.seat.as_str(), asked.seen, asked.command, steps) {
+    match ask_room(room, asked, steps) {
         Ok(reply) => Ok(reply),
         Err(DeskFault::Refused(reason)) => Ok(Reply::Refused(reason)),
         Err(DeskFault::NoMemory) => Err(AllocError),
@@ -67,7 +91,10 @@ fn reply_to_room_line<F: Shelf, S: Steps>(
     requires version { (room.old).version + 1 < 2 ^ 64 }
     ensures reply { IfOk result (λ reply. SeatReplies (room_at name.now room.old (F.state shelf.old)) (room_line_of_line line.now) (room_at name.now room.new (F.state shelf.new)) (reply_of reply)) }
     ensures stops { OnErr result (SeatStops (room_at name.now room.old (F.state shelf.old)) (room_line_of_line line.now) (room_at name.now room.new (F.state shelf.new))) }
+    ensures follows { Follows (room.old).desk (room.new).desk }
+    ensures version { (room.new).version ≤ (room.old).version + 1 }
 {
+    let _sheets = room.desk().sheets();
     match read_room_command(alloc, line) {
         Ok(asked) => reply_to_seat(alloc, name, room, asked, shelf, steps),
         Err(WireFault::BadJson) => Ok(Reply::Refused(Refusal::BadJson)),
@@ -96,7 +123,6 @@ impl<'a, 'b, S: Steps> Responder for RoomLines<'a, 'b, S> {
             shelf,
             self.steps,
         )?;
-        let _sheets = self.room.desk().sheets();
         write_room_reply(self.alloc, &reply, self.room.version())
     }
 }

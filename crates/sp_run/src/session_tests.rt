@@ -10,11 +10,21 @@ pub fn held(
     script: &str,
     commands: Vec<u8>,
 ) -> Result<(Status, Vec<u8>), AllocError> {
+    held_by(alloc, "desk", script, commands)
+}
+
+/// The status of a form with x, where x holds this script, and what was written.
+pub fn held_by(
+    alloc: Global,
+    form: &str,
+    script: &str,
+    commands: Vec<u8>,
+) -> Result<(Status, Vec<u8>), AllocError> {
     let mut output = MemorySink::new(alloc, 1 << 16, MOST, Vec::new(alloc))?;
     let mut input = MemorySource::new(commands, MOST, Vec::new(alloc));
     let mut shelf = MemoryShelf::new(alloc, Vec::new(alloc));
     let stored = shelf.store("x", script.as_bytes());
-    let words = words_of(alloc, &["desk", "x"])?;
+    let words = words_of(alloc, &[form, "x"])?;
     let status = run(
         alloc,
         &words,
@@ -35,6 +45,16 @@ pub fn answers(
     script: &str,
     exchanges: &[(&str, &str)],
 ) -> Result<bool, AllocError> {
+    answers_by(alloc, "desk", script, exchanges)
+}
+
+/// The same of a session of this form.
+pub fn answers_by(
+    alloc: Global,
+    form: &str,
+    script: &str,
+    exchanges: &[(&str, &str)],
+) -> Result<bool, AllocError> {
     let mut commands = Vec::new(alloc);
     let mut replies = Vec::new(alloc);
     for (command, reply) in exchanges {
@@ -45,7 +65,7 @@ pub fn answers(
         replies.extend_from_slice(spaced(alloc, reply)?.as_slice())?;
         replies.push(b'\n')?;
     }
-    let (status, bytes) = held(alloc, script, commands)?;
+    let (status, bytes) = held_by(alloc, form, script, commands)?;
     Ok(status == Status::Done && bytes.as_slice() == replies.as_slice())
 }
 
