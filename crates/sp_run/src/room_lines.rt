@@ -47,8 +47,13 @@ fn ask_room<S: Steps>(
     ensures follows { Follows (room.old).desk (room.new).desk }
     ensures version { (room.new).version ≤ (room.old).version + 1 }
 {
+    let RoomLine {
+        seat,
+        seen,
+        command,
+    } = asked;
     let _before = room.desk().sheets();
-    let answer = room.apply(asked.seat.as_str(), asked.seen, asked.command, steps);
+    let answer = room.apply(seat.as_str(), seen, command, steps);
     let _after = room.desk().sheets();
     answer
 }
