@@ -22,8 +22,15 @@ use Rattle.spec_room.specs.Kinds.{Kind, kind_of, command_at}
 use Rattle.spec_room.specs.Rooms.{RoomState, RoomStep, asked_of, room_after, room_step_to, asked_step, room_step_by, room_step_of}
 use Rattle.spec_room.specs.Sessions.{Session, Takes, goes, versions_after}
 use Rattle.spec_room.proofs.SessionLaws.{session_seen}
-use Rattle.sp_run.specs.DeskLines.{is_save}
-use Rattle.sp_run.specs.RoomLines.{room_line_step_by, saved_room}
+use Rattle.spec_session.specs.Runs.{AtShelf}
+use Rattle.sp_wire.specs.declared.reply.Reply.{Reply}
+use Rattle.sp_wire.specs.Values.{reply_of}
+use Rattle.sp_desk.specs.declared.fault.DeskFault.{DeskFault}
+use Rattle.sp_room.specs.Answers.{IsRoomAnswer}
+use Rattle.sp_run.specs.DeskLines.{Leaves, asks_save, is_save}
+use Rattle.sp_run.specs.RoomLines.{NamedRoom, SeatReplies, SeatStops, desk_of_room, room_line_step_by, saved_room, seatless}
+use Rattle.sp_run.specs.Saving.{files_of}
+use Rattle.sp_run.proofs.Saves.{failed-left, names-differ, stored-leaves}
 use Rattle.sp_run.specs.Promises.{Follows}
 use Rattle.sp_run.specs.Seats.{IsSeen, IsTakenSeen}
 
@@ -86,6 +93,25 @@ step-follows old it new reply is whole now linked = record { whole = now; linked
 pub same-follows : (old new : RoomState) → new ≡ old → IsWholeMemory new.desk → AreLinked new.desk → Follows old.desk new.desk
 same-follows old new same now linked =
     record { whole = now; linked = linked; lost = subst (λ (room : RoomState). LosesNone old.desk.state room.desk.state) (sym same) (all-stay old.desk.state) }
+
+pub answer-follows : (old : RoomState) (it : RoomLineOf) (new : RoomState) (result : Result Reply DeskFault) → IsRoomAnswer old it new result → OnErr result (new ≡ old) → IsWholeMemory old.desk
+    → IsWholeMemory new.desk → AreLinked new.desk → Follows old.desk new.desk
+answer-follows old it new (Ok reply) step same whole now linked = step-follows old it new (reply_of reply) step whole now linked
+answer-follows old it new (Err fault) step same whole now linked = same-follows old new same now linked
+
+-- What a reply left, want of memory for its line may leave.
+pub seat-stops : (before after : AtShelf NamedRoom) (asked : Result RoomLineOf FaultOf) (reply : ReplyOf) → SeatReplies before asked after reply → SeatStops before asked after
+seat-stops before after asked reply (inl it) = record {
+  room = inr (ap (λ (s : RoomStep). s.after) it.step);
+  name = it.name;
+  leaves = stored-leaves (asks_save (seatless asked)) (desk_of_room before) (desk_of_room after) it.stores;
+}
+seat-stops before after asked reply (inr it) = record {
+  room = inl (ap (λ (r : NamedRoom). r.room) it.same);
+  name = ap (λ (r : NamedRoom). r.name) it.same;
+  leaves = subst (λ (b : Bool). Leaves b (desk_of_room before) (desk_of_room after)) (sym it.asks)
+      (failed-left (files_of before.it.name before.it.room.desk.state) before.shelf after.shelf (names-differ before.it.name) it.failed);
+}
 
 -- ---- what the seats saw
 
