@@ -114,6 +114,17 @@ def session(lines, splices, undos):
     return "".join(json.dumps(command) + "\n" for command in commands)
 
 
+def seats(lines, behind, form):
+    """1,000 splices of the first lines, and then some near the end of so many lines, by ten seats in turn that are each so many versions
+    behind; `desk` is asked the same."""
+    commands = [{"do": "splice", "line": i % 10, "from": 0, "to": 0, "text": "a"} for i in range(1000)]
+    commands += [{"do": "splice", "line": lines - 1 - i, "from": 0, "to": 0, "text": "a"} for i in range(EDITS)]
+    if form == "room":
+        for i, command in enumerate(commands):
+            command |= {"seat": f"seat {i % 10}", "seen": i - behind if i >= 1000 else i}
+    return "".join(json.dumps(command) + "\n" for command in commands)
+
+
 LOCKED = {"pages": "!a\n===\n", "scenes": ".A\n\n"}
 
 
@@ -154,12 +165,12 @@ def peak_memory(path):
 
 def main():
     parser = argparse.ArgumentParser()
-    parser.add_argument("--kind", choices=sorted([*KINDS, *LINES, "session", "locks", "cast", "collate"]), action="append")
+    parser.add_argument("--kind", choices=sorted([*KINDS, *LINES, "session", "locks", "cast", "collate", "room"]), action="append")
     parser.add_argument("--runs", type=int, default=5)
     parser.add_argument("--most", type=int, default=16)
     options = parser.parse_args()
     subprocess.run([TOP / "run", "print"], stdin=subprocess.DEVNULL, check=True)
-    kinds = options.kind or [*KINDS, *LINES, "session", "locks", "cast", "collate"]
+    kinds = options.kind or [*KINDS, *LINES, "session", "locks", "cast", "collate", "room"]
     with tempfile.TemporaryDirectory() as folder:
         folder = pathlib.Path(folder)
         if sizes := [kind for kind in kinds if kind in KINDS]:
@@ -174,6 +185,8 @@ def main():
             time_cast(folder, options)
         if "collate" in kinds:
             time_collate(folder, options)
+        if "room" in kinds:
+            time_rooms(folder, options)
 
 
 def growth(before, seconds):
@@ -266,6 +279,23 @@ def time_collate(folder, options):
         other = least('cat "$FILE" "${FILE%old}new" > "$FILE.out"', path, options.runs)
         print(f"{'collate':10} {megabytes:7} {seconds:9.4f} {growth(before, seconds)} {seconds / other:8.2f}", flush=True)
         before = seconds
+
+
+def time_rooms(folder, options):
+    """Times edits of a room that are up to date, that are 1,000 versions behind, and the same of a desk, by the number of lines."""
+    print(f"{'kind':10} {'lines':>7} {'desk s':>9} {'room s':>9} {'/ desk':>7} {'an edit s':>9} {'behind s':>9} {'ratio':>7}")
+    for lines in (2_000, 20_000, 200_000):
+        path = folder / f"room{lines}"
+        path.write_text("!a\n\n" * (lines // 2))
+        commands = folder / f"{path.name}.commands"
+        times = []
+        for form, behind in (("desk", 0), ("room", 0), ("room", 1000)):
+            commands.write_text(seats(lines, behind, form))
+            times.append(least(f'"$PROGRAM" {form} "$FILE" < "$FILE.commands" > /dev/null', path, 1 if lines == 200_000 else options.runs))
+        desk, room, behind = times
+        edit = room / (1000 + EDITS)
+        late = edit + (behind - room) / EDITS
+        print(f"{'room':10} {lines:7} {desk:9.4f} {room:9.4f} {room / desk:7.2f} {edit:9.6f} {late:9.6f} {late / edit:7.2f}", flush=True)
 
 
 def time_locks(folder, options):

@@ -209,7 +209,7 @@ packet-step memory command reply asks packet is =
     ∙ ap (λ (b : Bool). if b then saved_step memory else other_step memory command) (sym asks)
 
 -- What a reply left, want of memory for its line may leave.
-stored-leaves : (asks : Bool) (before after : AtShelf NamedDesk) → Stores asks before after → Leaves asks before after
+pub stored-leaves : (asks : Bool) (before after : AtShelf NamedDesk) → Stores asks before after → Leaves asks before after
 stored-leaves true before after it = stored-left (files_of before.it.name before.it.memory.state) before.shelf after.shelf it.stored
 stored-leaves false before after it = it
 

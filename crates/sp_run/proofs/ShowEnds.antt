@@ -5,10 +5,11 @@ use Rattle.std.specs.declared.result.Result.{Result}
 use Rattle.std.specs.Io.KnownBytes.{Keeps}
 use Rattle.std.proofs.KnownBytes.{Keeps-refl}
 use Rattle.spec_state.specs.State.{State}
+use Rattle.spec_session.specs.declared.SessionEnd.{SessionEnd}
 use Rattle.sp_kit.specs.Files.{ShelfState}
 use Rattle.sp_kit.specs.Outside.{SourceState, SinkState}
 use Rattle.sp_text.specs.declared.fault.TextFault.TheVariants as faults
-use Rattle.sp_run.specs.Ending.{Outside, PartWritten, Unopened, ShowEnds, DeskEnds, NotDone, EndsAs}
+use Rattle.sp_run.specs.Ending.{Outside, PartWritten, Unopened, ShowEnds, CommandsEnd, NotDone, EndsAs}
 use Rattle.sp_run.specs.declared.form.View.{View}
 use Rattle.sp_run.specs.Forms.{OriginOf, from_source, from_file, view_bytes, HasView, LacksView}
 use Rattle.sp_run.specs.Opening.{HadScript, HadState, FailedNothing}
@@ -41,23 +42,23 @@ unopened-shows view origin old new (statuses.BadSheets file sheet) it = absurd i
 unopened-shows view origin old new statuses.NotLocked it = absurd it
 
 -- A script that didn't open has no session.
-pub unopened-desk : (name : List ℕ) (old new : Outside) (status : Status) → Unopened (from_file name) old new status → DeskEnds name old new status × NotDone status
-unopened-desk name old new statuses.Done it = absurd it
-unopened-desk name old new statuses.Usage it = absurd it
-unopened-desk name old new (statuses.NoFile given) it = (it, tt)
-unopened-desk name old new (statuses.BadText (faults.NotUtf8 place)) it = (it, tt)
-unopened-desk name old new (statuses.BadText (faults.LineFull place)) it = (it, tt)
-unopened-desk name old new (statuses.BadText faults.TextFull) it = (it, tt)
-unopened-desk name old new (statuses.BadText faults.NoMemory) it = absurd it
-unopened-desk name old new statuses.ReadFault it = absurd it.failed
-unopened-desk name old new statuses.WriteFault it = absurd it
-unopened-desk name old new statuses.ShelfFault it = (it, tt)
-unopened-desk name old new (statuses.BadRecords fault) it = (it, tt)
-unopened-desk name old new statuses.NoMemory it = (inl it, tt)
-unopened-desk name old new (statuses.CommandLong number) it = absurd it
-unopened-desk name old new statuses.InputFull it = absurd it
-unopened-desk name old new (statuses.BadSheets file sheet) it = absurd it
-unopened-desk name old new statuses.NotLocked it = absurd it
+pub unopened-ends : (held : SessionEnd → Type 0) (name : List ℕ) (old new : Outside) (status : Status) → Unopened (from_file name) old new status → CommandsEnd held name old new status × NotDone status
+unopened-ends held name old new statuses.Done it = absurd it
+unopened-ends held name old new statuses.Usage it = absurd it
+unopened-ends held name old new (statuses.NoFile given) it = (it, tt)
+unopened-ends held name old new (statuses.BadText (faults.NotUtf8 place)) it = (it, tt)
+unopened-ends held name old new (statuses.BadText (faults.LineFull place)) it = (it, tt)
+unopened-ends held name old new (statuses.BadText faults.TextFull) it = (it, tt)
+unopened-ends held name old new (statuses.BadText faults.NoMemory) it = absurd it
+unopened-ends held name old new statuses.ReadFault it = absurd it.failed
+unopened-ends held name old new statuses.WriteFault it = absurd it
+unopened-ends held name old new statuses.ShelfFault it = (it, tt)
+unopened-ends held name old new (statuses.BadRecords fault) it = (it, tt)
+unopened-ends held name old new statuses.NoMemory it = (inl it, tt)
+unopened-ends held name old new (statuses.CommandLong number) it = absurd it
+unopened-ends held name old new statuses.InputFull it = absurd it
+unopened-ends held name old new (statuses.BadSheets file sheet) it = absurd it
+unopened-ends held name old new statuses.NotLocked it = absurd it
 
 -- A script that was had whole and hasn't the view.
 pub lacks-ends : (view : View) (origin : OriginOf) (old new : Outside) (state : State) → HadState origin old.source new.source old.shelf new.shelf state → LacksView view state → new.sink ≡ old.sink

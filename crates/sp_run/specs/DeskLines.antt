@@ -26,6 +26,10 @@ pub record NamedDesk : Type 0 where
 abbrev pub desk_at : List ℕ → Memory → ShelfState → AtShelf NamedDesk
 desk_at name memory files = record { it = record { name = name; memory = memory }; shelf = files }
 
+-- A desk seen as itself.
+abbrev pub desk_itself : NamedDesk → NamedDesk
+desk_itself desk = desk
+
 -- ---- what a line asks for
 
 abbrev pub is_save : CommandOf → Bool
@@ -109,24 +113,24 @@ pub record AnswersLine (before : AtShelf NamedDesk) (line : List ℕ) (after : A
   pub follows : Follows before.it.memory after.it.memory
 
 -- The memory of a desk, and behind it those that these steps left.
-abbrev pub memories_of : Memory → List (Answered (AtShelf NamedDesk)) → List Memory
-memories_of memory steps = memory ∷ map (λ (step : Answered (AtShelf NamedDesk)). step.after.it.memory) steps
+abbrev pub memories_of : {R : Type 0} → (R → NamedDesk) → Memory → List (Answered (AtShelf R)) → List Memory
+memories_of {R} desk memory steps = memory ∷ map (λ (step : Answered (AtShelf R)). (desk step.after.it).memory) steps
 
--- The line asks to save, and was answered that a store failed.
-abbrev pub is_unsaved : List ℕ → Answered (AtShelf NamedDesk) → Bool
-is_unsaved line step = asks_save (command_of_line line) && bytes_eq step.reply (reply_line (refused shelf))
+-- The line asks to save.
+abbrev pub saves : List ℕ → Bool
+saves line = asks_save (command_of_line line)
 
--- How many of these lines are saves that were answered that a store failed.
-abbrev pub unsaved_count : List (List ℕ) → List (Answered (AtShelf NamedDesk)) → ℕ
-unsaved_count [] steps = 0
-unsaved_count (line ∷ lines) [] = 0
-unsaved_count (line ∷ lines) (step ∷ steps) = (if is_unsaved line step then 1 else 0) + unsaved_count lines steps
+-- How many of these lines are saves, by this test, that were answered that a store failed.
+abbrev pub unsaved_count : {R : Type 0} → (List ℕ → Bool) → List (List ℕ) → List (Answered R) → ℕ
+unsaved_count test [] steps = 0
+unsaved_count test (line ∷ lines) [] = 0
+unsaved_count test (line ∷ lines) (step ∷ steps) = (if test line && bytes_eq step.reply (reply_line (refused shelf)) then 1 else 0) + unsaved_count test lines steps
 
 -- The shelf as the last save of these lines left it, which were answered by these steps; as it was, where none is a save.
-abbrev pub shelf_behind : ShelfState → List (List ℕ) → List (Answered (AtShelf NamedDesk)) → ShelfState
-shelf_behind files [] steps = files
-shelf_behind files (line ∷ lines) [] = files
-shelf_behind files (line ∷ lines) (step ∷ steps) = shelf_behind (if asks_save (command_of_line line) then step.after.shelf else files) lines steps
+abbrev pub shelf_behind : {R : Type 0} → (List ℕ → Bool) → ShelfState → List (List ℕ) → List (Answered (AtShelf R)) → ShelfState
+shelf_behind test files [] steps = files
+shelf_behind test files (line ∷ lines) [] = files
+shelf_behind test files (line ∷ lines) (step ∷ steps) = shelf_behind test (if test line then step.after.shelf else files) lines steps
 
 -- What want of memory leaves of a shelf: what a save may leave, and else all.
 abbrev pub Leaves : Bool → AtShelf NamedDesk → AtShelf NamedDesk → Type 0

@@ -1,5 +1,5 @@
 -- How a run ends: a relation between what is outside before it and after it, and its status (docs/RULES.md, "The program").
-use Rattle.std.specs.Prelude.{◌≡◌, ℕ, ◌+◌, ◌-◌, ◌^◌, ◌<◌, ◌≤◌, ◌⊎◌, List, length, string_bytes, Option, Some, None, Ok, Err}
+use Rattle.std.specs.Prelude.{◌≡◌, ℕ, ◌+◌, ◌-◌, ◌^◌, ◌<◌, ◌≤◌, ◌⊎◌, Bool, List, [], ◌∷◌, length, string_bytes, Option, Some, None, Ok, Err}
 use Rattle.std.specs.declared.result.Result.{Result}
 use Rattle.std.specs.Io.KnownBytes.{Appends, Consumes, IsAtEnd, Keeps}
 use Rattle.spec_text.specs.Lines.{line_texts, lines, reading_of}
@@ -20,10 +20,13 @@ use Rattle.sp_text.specs.declared.fault.TextFault.TheVariants as faults
 use Rattle.sp_run.specs.declared.status.Status.{Status}
 use Rattle.sp_run.specs.declared.status.Status.TheVariants as statuses
 use Rattle.sp_run.specs.declared.form.View.{View}
-use Rattle.sp_run.specs.Forms.{OriginOf, Asked, show, desk, sample, collate, from_file, view_bytes, HasView, LacksView}
+use Rattle.sp_run.specs.Forms.{OriginOf, Asked, show, desk, room, sample, collate, from_file, view_bytes, HasView, LacksView}
 use Rattle.spec_machine.specs.KeptMemories.{IsWholeMemory}
 use Rattle.spec_locked_pages.specs.Chains.{AreLinked}
-use Rattle.sp_run.specs.DeskLines.{AnswersLine, NamedDesk, StopsAtLine, answered_lines, desk_at, memories_of, shelf_behind, unsaved_count}
+use Rattle.spec_room.specs.Rooms.{opened_room}
+use Rattle.sp_run.specs.DeskLines.{AnswersLine, NamedDesk, StopsAtLine, answered_lines, desk_at, desk_itself, memories_of, saves, shelf_behind, unsaved_count}
+use Rattle.sp_run.specs.RoomLines.{AnswersRoomLine, NamedRoom, StopsAtRoomLine, answered_room_lines, desk_in, room_at, seat_saves}
+use Rattle.sp_run.specs.Seats.{AreTakenSeen}
 use Rattle.sp_run.specs.Promises.{ArePromised}
 use Rattle.sp_run.specs.Opening.{AreFresh, SameShelf, HadScript, HadState, HadTooLong, HadNoFile, HasRecords, HasState, SourceFailed, ShelfFailed, FailedNothing}
 use Rattle.sp_run.specs.Written.{WroteAll, WrotePart}
@@ -150,9 +153,9 @@ ShowEnds view origin old new statuses.NotLocked = LacksShown view origin old new
 
 -- ---- a session of a desk
 
--- Each save that failed raised the shelf's count of faults, where the count can tell.
-abbrev pub CountsUnsaved : ShelfState → ShelfState → List (List ℕ) → List (Answered (AtShelf NamedDesk)) → Type 0
-CountsUnsaved old new asked steps = new.faults < 2 ^ 64 - 1 → old.faults + unsaved_count asked steps ≤ new.faults
+-- Each save, by this test, that failed raised the shelf's count of faults, where the count can tell.
+abbrev pub CountsUnsaved : {R : Type 0} → (List ℕ → Bool) → ShelfState → ShelfState → List (List ℕ) → List (Answered R) → Type 0
+CountsUnsaved test old new asked steps = new.faults < 2 ^ 64 - 1 → old.faults + unsaved_count test asked steps ≤ new.faults
 
 -- The shelf has a script under the name; it was opened as a desk with what stands beside it, and so its session ended, which
 -- left the shelf as it is now. All memories that the desk had keep what is promised.
@@ -162,8 +165,8 @@ pub record HeldSession (name : List ℕ) (old new : Outside) (end : SessionEnd) 
   pub after : AtShelf NamedDesk
   pub ends : SessionEnds AnswersLine StopsAtLine (streams old.source old.sink) (streams new.source new.sink) (desk_at name (opened_memory state) old.shelf) after end
   pub left : new.shelf ≡ after.shelf
-  pub promised : ArePromised (memories_of (opened_memory state) ends.course.steps)
-  pub counted : CountsUnsaved old.shelf new.shelf ends.course.lines ends.course.steps
+  pub promised : ArePromised (memories_of desk_itself (opened_memory state) ends.course.steps)
+  pub counted : CountsUnsaved saves old.shelf new.shelf ends.course.lines ends.course.steps
 
 -- The shelf has a script under the name and was left as it was, and this is the memory of its desk.
 pub record OpensDesk (shelf after : ShelfState) (name : List ℕ) (memory : Memory) : Type 0 where
@@ -174,24 +177,43 @@ pub record OpensDesk (shelf after : ShelfState) (name : List ℕ) (memory : Memo
   pub whole : IsWholeMemory memory
   pub linked : AreLinked memory
 
--- How a run ends that answers commands by a desk.
+-- The same of a room round a desk that was opened so: its desk keeps what is promised, and each edit that the room took took away or
+-- changed just the lines that its seat saw.
+pub record HeldRoom (name : List ℕ) (old new : Outside) (end : SessionEnd) : Type 0 where
+  pub state : State
+  pub has : HasState old.shelf name state
+  pub after : AtShelf NamedRoom
+  pub ends : SessionEnds AnswersRoomLine StopsAtRoomLine (streams old.source old.sink) (streams new.source new.sink) (room_at name (opened_room (opened_memory state)) old.shelf) after end
+  pub left : new.shelf ≡ after.shelf
+  pub promised : ArePromised (memories_of desk_in (opened_memory state) ends.course.steps)
+  pub seen : AreTakenSeen (opened_room (opened_memory state)) (state.lines ∷ []) ends.course.lines ends.course.steps
+  pub counted : CountsUnsaved seat_saves old.shelf new.shelf ends.course.lines ends.course.steps
+
+-- How a run ends that answers commands, where a session is held so.
+abbrev pub CommandsEnd : (SessionEnd → Type 0) → List ℕ → Outside → Outside → Status → Type 0
+CommandsEnd held name old new statuses.Done = held endings.Done
+CommandsEnd held name old new statuses.Usage = ⊥
+CommandsEnd held name old new (statuses.NoFile given) = FoundNone (from_file name) old new (string_bytes given)
+CommandsEnd held name old new (statuses.BadText (faults.NotUtf8 place)) = Refused (from_file name) old new (no_utf8 place)
+CommandsEnd held name old new (statuses.BadText (faults.LineFull place)) = Refused (from_file name) old new (long_line place)
+CommandsEnd held name old new (statuses.BadText faults.TextFull) = TooLong (from_file name) old new
+CommandsEnd held name old new (statuses.BadText faults.NoMemory) = ⊥
+CommandsEnd held name old new statuses.ReadFault = held endings.ReadFault
+CommandsEnd held name old new statuses.WriteFault = held endings.WriteFault
+CommandsEnd held name old new statuses.ShelfFault = FetchFailed (from_file name) old new
+CommandsEnd held name old new (statuses.BadRecords fault) = RecordsRefused (from_file name) old new fault
+CommandsEnd held name old new statuses.NoMemory = NotOpened (from_file name) old new ⊎ held endings.NoMemory
+CommandsEnd held name old new (statuses.CommandLong number) = held (endings.CommandLong number)
+CommandsEnd held name old new statuses.InputFull = held endings.InputFull
+CommandsEnd held name old new (statuses.BadSheets file sheet) = ⊥
+CommandsEnd held name old new statuses.NotLocked = ⊥
+
+-- How a run ends that answers commands by a desk, and by a room.
 abbrev pub DeskEnds : List ℕ → Outside → Outside → Status → Type 0
-DeskEnds name old new statuses.Done = HeldSession name old new endings.Done
-DeskEnds name old new statuses.Usage = ⊥
-DeskEnds name old new (statuses.NoFile given) = FoundNone (from_file name) old new (string_bytes given)
-DeskEnds name old new (statuses.BadText (faults.NotUtf8 place)) = Refused (from_file name) old new (no_utf8 place)
-DeskEnds name old new (statuses.BadText (faults.LineFull place)) = Refused (from_file name) old new (long_line place)
-DeskEnds name old new (statuses.BadText faults.TextFull) = TooLong (from_file name) old new
-DeskEnds name old new (statuses.BadText faults.NoMemory) = ⊥
-DeskEnds name old new statuses.ReadFault = HeldSession name old new endings.ReadFault
-DeskEnds name old new statuses.WriteFault = HeldSession name old new endings.WriteFault
-DeskEnds name old new statuses.ShelfFault = FetchFailed (from_file name) old new
-DeskEnds name old new (statuses.BadRecords fault) = RecordsRefused (from_file name) old new fault
-DeskEnds name old new statuses.NoMemory = NotOpened (from_file name) old new ⊎ HeldSession name old new endings.NoMemory
-DeskEnds name old new (statuses.CommandLong number) = HeldSession name old new (endings.CommandLong number)
-DeskEnds name old new statuses.InputFull = HeldSession name old new endings.InputFull
-DeskEnds name old new (statuses.BadSheets file sheet) = ⊥
-DeskEnds name old new statuses.NotLocked = ⊥
+DeskEnds name old new status = CommandsEnd (HeldSession name old new) name old new status
+
+abbrev pub RoomEnds : List ℕ → Outside → Outside → Status → Type 0
+RoomEnds name old new status = CommandsEnd (HeldRoom name old new) name old new status
 
 -- ---- a large sample
 
@@ -215,6 +237,7 @@ SampleEnds rooms old new statuses.NotLocked = ⊥
 abbrev pub Ends : Asked → Outside → Outside → Status → Type 0
 Ends (show view origin) old new status = ShowEnds view origin old new status
 Ends (desk name) old new status = DeskEnds name old new status
+Ends (room name) old new status = RoomEnds name old new status
 Ends (sample rooms) old new status = SampleEnds rooms old new status
 Ends (collate one other) old new status = CollateEnds one other old.shelf new.shelf old.sink new.sink status
 
@@ -229,9 +252,9 @@ pub record AnsweredAll (name : List ℕ) (old new : Outside) : Type 0 where
   pub steps : List (Answered (AtShelf NamedDesk))
   pub runs : Runs AnswersLine (desk_at name (opened_memory state) old.shelf) (command_lines input) steps
   pub wrote : Appends old.sink.taken new.sink.taken (output_of steps)
-  pub left : new.shelf ≡ shelf_behind old.shelf (command_lines input) steps
-  pub promised : ArePromised (memories_of (opened_memory state) steps)
-  pub counted : CountsUnsaved old.shelf new.shelf (command_lines input) steps
+  pub left : new.shelf ≡ shelf_behind saves old.shelf (command_lines input) steps
+  pub promised : ArePromised (memories_of desk_itself (opened_memory state) steps)
+  pub counted : CountsUnsaved saves old.shelf new.shelf (command_lines input) steps
 
 -- All command lines of the input were answered by a desk of the script, and each save was done.
 pub record AnsweredCalmly (name : List ℕ) (old new : Outside) : Type 0 where
@@ -241,6 +264,29 @@ pub record AnsweredCalmly (name : List ℕ) (old new : Outside) : Type 0 where
   pub gave : Consumes old.source.unread new.source.unread input
   pub at_end : IsAtEnd new.source.unread
   pub wrote : Appends old.sink.taken new.sink.taken (output_of (answered_lines (opened_memory state) (command_lines input)))
+
+-- The same of a room.
+pub record RoomAnsweredAll (name : List ℕ) (old new : Outside) : Type 0 where
+  pub state : State
+  pub has : HasState old.shelf name state
+  pub input : List ℕ
+  pub gave : Consumes old.source.unread new.source.unread input
+  pub at_end : IsAtEnd new.source.unread
+  pub steps : List (Answered (AtShelf NamedRoom))
+  pub runs : Runs AnswersRoomLine (room_at name (opened_room (opened_memory state)) old.shelf) (command_lines input) steps
+  pub wrote : Appends old.sink.taken new.sink.taken (output_of steps)
+  pub left : new.shelf ≡ shelf_behind seat_saves old.shelf (command_lines input) steps
+  pub promised : ArePromised (memories_of desk_in (opened_memory state) steps)
+  pub seen : AreTakenSeen (opened_room (opened_memory state)) (state.lines ∷ []) (command_lines input) steps
+  pub counted : CountsUnsaved seat_saves old.shelf new.shelf (command_lines input) steps
+
+pub record RoomAnsweredCalmly (name : List ℕ) (old new : Outside) : Type 0 where
+  pub state : State
+  pub has : HasState old.shelf name state
+  pub input : List ℕ
+  pub gave : Consumes old.source.unread new.source.unread input
+  pub at_end : IsAtEnd new.source.unread
+  pub wrote : Appends old.sink.taken new.sink.taken (output_of (answered_room_lines (opened_room (opened_memory state)) (command_lines input)))
 
 -- The status refuses a script with this fate, or there is no memory.
 abbrev pub Refuses : Printing → Status → Type 0

@@ -1,16 +1,19 @@
-//! A session of a desk (docs/RULES.md, "The program" and "Sessions").
+//! A session of a desk, or of a room round it (docs/RULES.md, "The program" and "Sessions").
 ghost use Rattle.std.specs.Prelude.{◌≡◌, IfOk, IfErr};
 ghost use Rattle.sp_kit.specs.Outside.{SinkState};
+ghost use Rattle.sp_run.specs.Forms.{from_file};
 ghost use Rattle.sp_run.specs.Records.{records_name};
 ghost use Rattle.sp_run.specs.Saving.{Changes, KeepsAllBut};
-ghost use Rattle.sp_run.specs.Ending.{DeskEnds, NotDone, OpensDesk, outside};
+ghost use Rattle.sp_run.specs.Ending.{DeskEnds, OpensDesk, RoomEnds, Unopened, outside};
 
 use crate::desk_lines::DeskLines;
 use crate::form::Origin;
 use crate::opening::open_state;
+use crate::room_lines::RoomLines;
 use crate::status::Status;
 use sp_desk::Desk;
 use sp_kit::{Shelf, Sink, Source, Steps};
+use sp_room::Room;
 use sp_session::session;
 use std::alloc::Global;
 
@@ -23,7 +26,7 @@ fn open_desk<I: Source, F: Shelf, S: Steps>(
     steps: &mut S,
 ) -> Result<Desk, Status>
     ensures opened { IfOk result (OpensDesk (F.state shelf.old) (F.state shelf.new) name.now) }
-    ensures refused { (sink : SinkState) → IfErr result (λ status. DeskEnds name.now (outside (I.state input.old) sink (F.state shelf.old)) (outside (I.state input.new) sink (F.state shelf.new)) status × NotDone status) }
+    ensures refused { (sink : SinkState) → IfErr result (Unopened (from_file name.now) (outside (I.state input.old) sink (F.state shelf.old)) (outside (I.state input.new) sink (F.state shelf.new))) }
     ensures source_kept { input.new ≡ input.old }
     ensures files_kept { (F.state shelf.new).files ≡ (F.state shelf.old).files }
 {
@@ -53,6 +56,31 @@ pub fn hold_session<I: Source, O: Sink, F: Shelf, S: Steps>(
         alloc,
         name,
         desk,
+        steps,
+    };
+    Status::from(session(alloc, &mut lines, input, output, shelf))
+}
+
+/// Answers the command lines of the source by a room round such a desk.
+pub fn hold_room<I: Source, O: Sink, F: Shelf, S: Steps>(
+    alloc: Global,
+    name: &str,
+    input: &mut I,
+    output: &mut O,
+    shelf: &mut F,
+    steps: &mut S,
+) -> Status
+    ensures ends { RoomEnds name.now (outside (I.state input.old) (O.state output.old) (F.state shelf.old)) (outside (I.state input.new) (O.state output.new) (F.state shelf.new)) result }
+    ensures others { Changes (F.state shelf.old).files (F.state shelf.new).files (λ old new. KeepsAllBut old new name.now (records_name name.now)) }
+{
+    let desk = match open_desk(alloc, name, input, shelf, steps) {
+        Ok(desk) => desk,
+        Err(status) => return status,
+    };
+    let mut lines = RoomLines {
+        alloc,
+        name,
+        room: Room::open(alloc, desk),
         steps,
     };
     Status::from(session(alloc, &mut lines, input, output, shelf))

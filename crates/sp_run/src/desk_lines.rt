@@ -33,21 +33,21 @@ impl<'a, 'b, S> Model for DeskLines<'a, 'b, S> {
 }
 
 /// Whether the command is `save`.
-fn is_save(command: &Command) -> bool
+pub fn is_save(command: &Command) -> bool
     ensures { result ≡ is_save (command_of command.now) }
 {
     matches!(command, Command::Save)
 }
 
 /// Whether the command is `packet`.
-fn is_packet(command: &Command) -> bool
+pub fn is_packet(command: &Command) -> bool
     ensures { result ≡ is_packet (command_of command.now) }
 {
     matches!(command, Command::Packet)
 }
 
 /// The packet of the present state, or the refusal where pages aren't locked (docs/RULES.md, "Packets").
-fn packet_reply(alloc: Global, desk: &Desk) -> Result<Reply, AllocError>
+pub fn packet_reply(alloc: Global, desk: &Desk) -> Result<Reply, AllocError>
     ensures { IfOk result (λ reply. reply_of reply ≡ packet_reply (desk.now).state) }
 {
     match packet(alloc, desk.script()) {
@@ -106,11 +106,14 @@ fn reply_to_line<F: Shelf, S: Steps>(
 }
 
 impl<'a, 'b, S: Steps> Responder for DeskLines<'a, 'b, S> {
+    ghost use Rattle.spec_session.specs.CommandLines.{command_count_limit};
     ghost use Rattle.sp_run.specs.DeskLines.{AnswersLine, StopsAtLine};
 
     ghost answers = { AnswersLine };
 
     ghost stops = { StopsAtLine };
+
+    ghost lasts = { λ d. command_count_limit };
 
     fn answer<F: Shelf>(&mut self, line: &[u8], shelf: &mut F) -> Result<Vec<u8>, AllocError> {
         let reply = reply_to_line(

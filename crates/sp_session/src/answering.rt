@@ -1,5 +1,5 @@
-ghost use Rattle.std.specs.Prelude.{◌≡◌, IfSome};
-ghost use Rattle.spec_session.specs.CommandLines.{KeepsLimits};
+ghost use Rattle.std.specs.Prelude.{◌≡◌, ◌+◌, ◌<◌, ◌≤◌, IfSome, OnOk};
+ghost use Rattle.spec_session.specs.CommandLines.{command_count_limit, KeepsLimits};
 ghost use Rattle.spec_session.specs.Runs.{at_shelf};
 ghost use Rattle.spec_session.specs.Sessions.{streams, SessionEnds, Tells, Settles, AnswersAll, FailedNothing};
 ghost use Rattle.sp_session.specs.Answering.{AnswersLine, end_of};
@@ -13,7 +13,8 @@ use std::alloc::Global;
 /// Answers the command lines of the source in order, each as soon as it is whole and with the shelf at hand, and writes
 /// each reply whole before it goes on. A session ends at the first of what `SessionEnd` tells (docs/RULES.md, "Sessions"). `ReadFault` and
 /// `WriteFault` come only where that count of faults rose in this call, `CommandLong` and `InputFull` exactly where a
-/// line or their number passes its limit, and at most one byte past a limit is read.
+/// line or their number passes its limit, and at most one byte past a limit is read. What answers has to last for as many
+/// lines as a session may have.
 pub fn session<R: Responder, I: Source, O: Sink, F: Shelf>(
     alloc: Global,
     responder: &mut R,
@@ -21,6 +22,7 @@ pub fn session<R: Responder, I: Source, O: Sink, F: Shelf>(
     output: &mut O,
     shelf: &mut F,
 ) -> SessionEnd
+    requires lasts { command_count_limit ≤ R.lasts responder.old }
     ensures ends { SessionEnds R.answers R.stops (streams (I.state input.old) (O.state output.old)) (streams (I.state input.new) (O.state output.new))
         (at_shelf responder.old (F.state shelf.old)) (at_shelf responder.new (F.state shelf.new)) result }
 
@@ -44,6 +46,7 @@ fn answer_lines<R: Responder, I: Source, O: Sink, F: Shelf>(
     output: &mut O,
     shelf: &mut F,
 ) -> SessionEnd
+    requires lasts { command_count_limit ≤ R.lasts responder.old }
     ensures { SessionEnds R.answers R.stops (streams (I.state input.old) (O.state output.old)) (streams (I.state input.new) (O.state output.new))
         (at_shelf responder.old (F.state shelf.old)) (at_shelf responder.new (F.state shelf.new)) result }
 {
@@ -77,7 +80,9 @@ fn answer_line<R: Responder, O: Sink, F: Shelf>(
     output: &mut O,
     shelf: &mut F,
 ) -> Result<(), SessionEnd>
-    ensures { AnswersLine R.answers R.stops (O.state output.old) (O.state output.new) (at_shelf responder.old (F.state shelf.old)) (at_shelf responder.new (F.state shelf.new)) line.now result }
+    requires can { 0 < R.lasts responder.old }
+    ensures answers { AnswersLine R.answers R.stops (O.state output.old) (O.state output.new) (at_shelf responder.old (F.state shelf.old)) (at_shelf responder.new (F.state shelf.new)) line.now result }
+    ensures lasts_on { OnOk result (R.lasts responder.old ≤ R.lasts responder.new + 1) }
 {
     let reply = match responder.answer(line, shelf) {
         Ok(reply) => reply,

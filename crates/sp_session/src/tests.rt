@@ -19,6 +19,8 @@ impl Responder for Echo {
 
     ghost stops = { λ old line new. new ≡ old };
 
+    ghost lasts = { λ echo. 1000000 };
+
     fn answer<F: Shelf>(&mut self, line: &[u8], _shelf: &mut F) -> Result<Vec<u8>, AllocError> {
         if self.seen == self.without {
             return Err(AllocError);

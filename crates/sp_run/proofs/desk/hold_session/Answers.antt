@@ -7,13 +7,17 @@ use Rattle.sp_kit.specs.Outside.{SourceState}
 use Rattle.sp_run.specs.DeskLines.{AnswersLine, StopsAtLine, desk_at}
 use Rattle.sp_run.specs.Records.{records_name}
 use Rattle.sp_run.specs.Saving.{Changes, KeepsAllBut}
-use Rattle.sp_run.specs.Ending.{DeskEnds, outside}
+use Rattle.sp_run.specs.Ending.{DeskEnds, HeldSession, outside}
 use Rattle.sp_run.proofs.DeskSessions.{session-held, held-ends, held-others}
 use Rattle.sp_run.proofs.Saves.{changes-none}
+use Rattle.sp_run.proofs.ShowEnds.{unopened-ends}
 use Rattle.sp_run.proofs.desk.hold_session.Goals as goal
 
 pub returns-in-Err-clause-ends : goal.returns-in-Err-clause-ends
-returns-in-Err-clause-ends g c = (c.in-Err.ensures.refused (g.O.Sink.state c.args.output.now)).0
+returns-in-Err-clause-ends g c =
+    let old = outside (g.I.Source.state c.args.input.now) (g.O.Sink.state c.args.output.now) (g.F.Shelf.state c.args.shelf.now) in
+    let new = outside (g.I.Source.state c.open_desk.new.input) (g.O.Sink.state c.args.output.now) (g.F.Shelf.state c.open_desk.new.shelf) in
+    (unopened-ends (HeldSession c.args.name.now old new) c.args.name.now old new c.in-Err.status (c.in-Err.ensures.refused (g.O.Sink.state c.args.output.now))).0
 
 pub returns-in-Err-clause-others : goal.returns-in-Err-clause-others
 returns-in-Err-clause-others g c =
@@ -29,7 +33,7 @@ returns-clause-ends g c =
     let ends = subst (λ (source : SourceState). SessionEnds AnswersLine StopsAtLine (streams source old.sink) (streams new.source new.sink) (desk_at c.args.name.now c.in-Ok.desk between) after c.session.result)
     (ap g.I.Source.state c.open_desk.ensures.source_kept) c.session.ensures.ends in
     let held = session-held c.args.name.now old new between c.in-Ok.desk after c.session.result c.in-Ok.ensures.opened ends refl in
-    subst (DeskEnds c.args.name.now old new) (sym c.from.ensures) (held-ends c.args.name.now old new c.session.result held)
+    subst (DeskEnds c.args.name.now old new) (sym c.from.ensures) (held-ends (HeldSession c.args.name.now old new) c.args.name.now old new c.session.result held)
 
 pub returns-clause-others : goal.returns-clause-others
 returns-clause-others g c =

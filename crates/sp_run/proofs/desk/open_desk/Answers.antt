@@ -1,24 +1,22 @@
-use Rattle.sp_run.specs.Ending.{DeskEnds, NotDone, outside}
-use Rattle.sp_run.specs.declared.status.Status.{Status}
+use Rattle.sp_run.specs.Forms.{from_file}
+use Rattle.sp_run.specs.Ending.{Unopened, outside}
 use Rattle.sp_run.specs.declared.status.Status.TheVariants as statuses
 use Rattle.sp_run.proofs.OpenedStates.{err-is}
 use Rattle.sp_run.proofs.Opened.{had-unopened, has-state}
-use Rattle.sp_run.proofs.ShowEnds.{unopened-desk}
 use Rattle.sp_run.proofs.desk.open_desk.Goals as goal
 
 pub returns-in_err-opened-clause-refused : goal.returns-in_err-opened-clause-refused
 returns-in_err-opened-clause-refused g c = λ sink.
     let old = outside (g.I.Source.state c.args.input.now) sink (g.F.Shelf.state c.args.shelf.now) in
     let new = outside (g.I.Source.state c.open_state.new.input) sink (g.F.Shelf.state c.open_state.new.shelf) in
-    err-is (λ (status : Status). DeskEnds c.args.name.now old new status × NotDone status) c.in_err-opened.field-0.0 c.from_residual.result c.from_residual.ensures.1
-    (unopened-desk c.args.name.now old new c.in_err-opened.field-0.0 (c.in_err-opened.ensures.refused sink))
+    err-is (Unopened (from_file c.args.name.now) old new) c.in_err-opened.field-0.0 c.from_residual.result c.from_residual.ensures.1 (c.in_err-opened.ensures.refused sink)
 
 pub returns-in_err-desk-clause-refused : goal.returns-in_err-desk-clause-refused
 returns-in_err-desk-clause-refused g c = λ sink.
     let old = outside (g.I.Source.state c.args.input.now) sink (g.F.Shelf.state c.args.shelf.now) in
     let new = outside (g.I.Source.state c.open_state.new.input) sink (g.F.Shelf.state c.open_state.new.shelf) in
-    err-is (λ (status : Status). DeskEnds c.args.name.now old new status × NotDone status) statuses.NoMemory c.from_residual-in_err-desk.result c.from_residual-in_err-desk.ensures.1
-    (unopened-desk c.args.name.now old new statuses.NoMemory (had-unopened _ _ _ sink _ _ _ c.in_ok-opened.ensures.had))
+    err-is (Unopened (from_file c.args.name.now) old new) statuses.NoMemory c.from_residual-in_err-desk.result c.from_residual-in_err-desk.ensures.1
+    (had-unopened _ _ _ sink _ _ _ c.in_ok-opened.ensures.had)
 
 pub returns-clause-opened : goal.returns-clause-opened
 returns-clause-opened g c =

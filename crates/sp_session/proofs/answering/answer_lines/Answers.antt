@@ -1,4 +1,4 @@
-use Rattle.std.proofs.Common.{[], ◌∷◌, ◌++◌}
+use Rattle.std.proofs.Common.{[], ◌∷◌, ◌++◌, arith}
 use Rattle.spec_session.specs.Runs.{at_shelf}
 use Rattle.spec_session.specs.Sessions.{streams}
 use Rattle.sp_session.proofs.HandedLaws.{handed-more, all-handed, last-handed}
@@ -11,7 +11,7 @@ returns-in-Err g c =
 
 pub returns-in-Ok-End : goal.returns-in-Ok-End
 returns-in-Ok-End g c =
-    let (lines, handed, done) = c.loop-responder.invariant in
+    let (lines, handed, done, lasts) = c.loop-responder.invariant in
     let asks = rw c.in-Ok-End.field-0-is at c.in-Ok-End.ensures.next in
     ends-done g.R.Responder.answers g.R.Responder.stops (g.I.Source.state c.args.input.now) (g.I.Source.state c.next.new.input) (g.O.Sink.state c.args.output.now) (g.O.Sink.state c.loop-responder.output)
     (at_shelf c.args.responder.now (g.F.Shelf.state c.args.shelf.now)) (at_shelf c.loop-responder.responder (g.F.Shelf.state c.loop-responder.shelf)) lines
@@ -21,7 +21,7 @@ returns-in-Ok-End g c =
 
 pub returns-in-Err-next : goal.returns-in-Err-next
 returns-in-Err-next g c =
-    let (lines, handed, done) = c.loop-responder.invariant in
+    let (lines, handed, done, lasts) = c.loop-responder.invariant in
     rw c.end_of.ensures
     (ends-stop g.R.Responder.answers g.R.Responder.stops (g.I.Source.state c.args.input.now) (g.I.Source.state c.loop-responder.input) (g.I.Source.state c.next.new.input)
     (g.O.Sink.state c.args.output.now) (g.O.Sink.state c.loop-responder.output) (at_shelf c.args.responder.now (g.F.Shelf.state c.args.shelf.now)) (at_shelf c.loop-responder.responder (g.F.Shelf.state c.loop-responder.shelf)) lines c.loop-responder.lines c.next.new.self c.in-Err-next.stop handed
@@ -29,19 +29,20 @@ returns-in-Err-next g c =
 
 pub loop-responder-preserved : goal.loop-responder-preserved
 loop-responder-preserved g c =
-    let (lines, handed, done) = c.loop-responder.invariant in
+    let (lines, handed, done, lasts) = c.loop-responder.invariant in
     let asks = rw c.in-Ok-Whole.field-0-is at c.in-Ok-Whole.ensures.next in
-    let reply = rw c.line.ensures at c.in_default.ensures in (
+    let reply = rw c.line.ensures at c.in_default.ensures.answers in (
       lines ++ c.next.new.self.line ∷ [],
       handed-more (g.I.Source.state c.args.input.now) (g.I.Source.state c.loop-responder.input) (g.I.Source.state c.next.new.input) lines c.loop-responder.lines c.next.new.self asks.read handed asks.gave
           asks.comes.1 asks.comes.0 asks.budget,
       answered g.R.Responder.answers g.R.Responder.stops (g.O.Sink.state c.args.output.now) (g.O.Sink.state c.loop-responder.output) (g.O.Sink.state c.answer_line.new.output)
           (at_shelf c.args.responder.now (g.F.Shelf.state c.args.shelf.now)) (at_shelf c.loop-responder.responder (g.F.Shelf.state c.loop-responder.shelf)) (at_shelf c.answer_line.new.responder (g.F.Shelf.state c.answer_line.new.shelf)) lines c.next.new.self.line c.in_default.field-0 done reply,
+      omega (arith, asks.comes.0.line.count, c.in_default.ensures.lasts_on, lasts),
     )
 
 pub returns-in-Err-answer_line : goal.returns-in-Err-answer_line
 returns-in-Err-answer_line g c =
-    let (lines, handed, done) = c.loop-responder.invariant in
+    let (lines, handed, done, lasts) = c.loop-responder.invariant in
     let asks = rw c.in-Ok-Whole.field-0-is at c.in-Ok-Whole.ensures.next in
     ends-lent g.R.Responder.answers g.R.Responder.stops (g.I.Source.state c.args.input.now) (g.I.Source.state c.next.new.input) (g.O.Sink.state c.args.output.now)
     (g.O.Sink.state c.loop-responder.output) (g.O.Sink.state c.answer_line.new.output) (at_shelf c.args.responder.now (g.F.Shelf.state c.args.shelf.now)) (at_shelf c.loop-responder.responder (g.F.Shelf.state c.loop-responder.shelf)) (at_shelf c.answer_line.new.responder (g.F.Shelf.state c.answer_line.new.shelf)) lines c.next.new.self.line
@@ -49,11 +50,11 @@ returns-in-Err-answer_line g c =
     (whole-comes (g.I.Source.state c.args.input.now) (g.I.Source.state c.next.new.input) lines c.next.new.self.line c.next.new.self
     (handed-more (g.I.Source.state c.args.input.now) (g.I.Source.state c.loop-responder.input) (g.I.Source.state c.next.new.input) lines c.loop-responder.lines c.next.new.self asks.read handed asks.gave
     asks.comes.1 asks.comes.0 asks.budget))
-    done c.in-Err-answer_line.ensures
+    done c.in-Err-answer_line.ensures.answers
 
 pub returns-in-Err-answer_line-2 : goal.returns-in-Err-answer_line-2
 returns-in-Err-answer_line-2 g c =
-    let (lines, handed, done) = c.loop-responder.invariant in
+    let (lines, handed, done, lasts) = c.loop-responder.invariant in
     let asks = rw c.in-Ok-Last.field-0-is at c.in-Ok-Last.ensures.next in
     ends-lent g.R.Responder.answers g.R.Responder.stops (g.I.Source.state c.args.input.now) (g.I.Source.state c.next.new.input) (g.O.Sink.state c.args.output.now)
     (g.O.Sink.state c.loop-responder.output) (g.O.Sink.state c.answer_line-in-Ok-Last.new.output) (at_shelf c.args.responder.now (g.F.Shelf.state c.args.shelf.now)) (at_shelf c.loop-responder.responder (g.F.Shelf.state c.loop-responder.shelf)) (at_shelf c.answer_line-in-Ok-Last.new.responder (g.F.Shelf.state c.answer_line-in-Ok-Last.new.shelf)) lines
@@ -61,13 +62,13 @@ returns-in-Err-answer_line-2 g c =
     (last-comes (g.I.Source.state c.args.input.now) (g.I.Source.state c.next.new.input) lines c.next.new.self.line
     (last-handed (g.I.Source.state c.args.input.now) (g.I.Source.state c.loop-responder.input) (g.I.Source.state c.next.new.input) lines c.loop-responder.lines c.next.new.self asks.read handed asks.gave
     asks.comes.1 asks.comes.0))
-    done c.in-Err-answer_line-2.ensures
+    done c.in-Err-answer_line-2.ensures.answers
 
 pub returns-in-Ok-Last : goal.returns-in-Ok-Last
 returns-in-Ok-Last g c =
-    let (lines, handed, done) = c.loop-responder.invariant in
+    let (lines, handed, done, lasts) = c.loop-responder.invariant in
     let asks = rw c.in-Ok-Last.field-0-is at c.in-Ok-Last.ensures.next in
-    let reply = rw c.line-in-Ok-Last.ensures at c.in_default-answer_line.ensures in
+    let reply = rw c.line-in-Ok-Last.ensures at c.in_default-answer_line.ensures.answers in
     ends-done g.R.Responder.answers g.R.Responder.stops (g.I.Source.state c.args.input.now) (g.I.Source.state c.next.new.input) (g.O.Sink.state c.args.output.now)
     (g.O.Sink.state c.answer_line-in-Ok-Last.new.output) (at_shelf c.args.responder.now (g.F.Shelf.state c.args.shelf.now)) (at_shelf c.answer_line-in-Ok-Last.new.responder (g.F.Shelf.state c.answer_line-in-Ok-Last.new.shelf)) (lines ++ c.next.new.self.line ∷ [])
     (last-handed (g.I.Source.state c.args.input.now) (g.I.Source.state c.loop-responder.input) (g.I.Source.state c.next.new.input) lines c.loop-responder.lines c.next.new.self asks.read handed asks.gave

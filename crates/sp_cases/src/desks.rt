@@ -1,6 +1,6 @@
 //! Sessions of a desk.
-use crate::tests::case::case_of;
-use crate::tests::ran::{come_out, ran};
+use crate::case::case_of;
+use crate::ran::{come_out, ran};
 use std::test::Fail;
 
 /// Edits, undos, settings and views, and what refuses them.

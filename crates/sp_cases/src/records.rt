@@ -1,5 +1,5 @@
 //! Record files and saves.
-use crate::tests::ran::come_out;
+use crate::ran::come_out;
 use std::test::Fail;
 
 /// Record files that are none, or of another text.

@@ -1,8 +1,8 @@
 //! Failures of streams and files, and input that is none.
-use crate::Status;
-use crate::tests::case::{Case, case_of};
-use crate::tests::ran::{Outcome, come_out, comes_out, kept, ran, told};
+use crate::case::{Case, case_of};
+use crate::ran::{Outcome, come_out, comes_out, kept, ran, told};
 use sp_records::RecordsFault;
+use sp_run::Status;
 use sp_text::TextFault;
 use std::alloc::Global;
 use std::process::Abort;
@@ -446,7 +446,7 @@ fn each_status_has_its_number_and_line(rt: HostRuntime) -> Result<(), Fail> {
         (
             Status::Usage,
             2,
-            "fountain: usage: print [FILE], outline FILE, desk FILE, sample N, collate OLD NEW, html FILE, cast FILE\n",
+            "fountain: usage: print [FILE], outline FILE, desk FILE, sample N, packet FILE, collate OLD NEW, html FILE, cast FILE, room FILE\n",
         ),
         (
             Status::NoFile(String::from_str(alloc, "a b")?),
@@ -496,6 +496,7 @@ fn each_status_has_its_number_and_line(rt: HostRuntime) -> Result<(), Fail> {
             13,
             "fountain: not printed sheets, file 1 sheet 2\n",
         ),
+        (Status::NotLocked, 14, "fountain: pages are not locked\n"),
     ];
     for (status, code, line) in cases {
         assert_eq!(rt; status.code(), code);

@@ -1,5 +1,5 @@
 //! Scripts and their sheets.
-use crate::tests::ran::come_out;
+use crate::ran::come_out;
 use std::test::Fail;
 
 /// Action as it stands.

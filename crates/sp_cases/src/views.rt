@@ -1,5 +1,5 @@
 //! Other views of a script, the sample, and words that are no form.
-use crate::tests::ran::come_out;
+use crate::ran::come_out;
 use std::test::Fail;
 
 /// The outline, a page for a browser and the sides of the cast.

@@ -1,7 +1,7 @@
 //! A case that is run.
-use crate::tests::case::{Case, MOST, case_of};
-use crate::{Status, fault_line, run};
+use crate::case::{Case, MOST, case_of};
 use sp_kit::{Counter, Fetched, MemoryShelf, MemorySink, MemorySource, Shelf};
+use sp_run::{Status, fault_line, run};
 use std::alloc::{AllocError, Global};
 use std::process::Abort;
 use std::test::Fail;
@@ -29,7 +29,7 @@ pub fn told(alloc: Global, status: &Status) -> Result<String, AllocError> {
 }
 
 /// Stores bytes that a run may ask for.
-fn store(shelf: &mut MemoryShelf, name: &str, bytes: &[u8]) -> Result<(), AllocError> {
+pub fn store(shelf: &mut MemoryShelf, name: &str, bytes: &[u8]) -> Result<(), AllocError> {
     match shelf.store(name, bytes) {
         Ok(()) => Ok(()),
         Err(_) => Err(AllocError),
@@ -65,27 +65,42 @@ pub struct Outcome {
     pub shelf: MemoryShelf,
 }
 
-/// Runs the program on a case.
-pub fn ran(alloc: Global, case: &Case) -> Result<Outcome, AllocError> {
+/// Runs the program on a case, over a shelf that stands already, and answers what it told and what it wrote.
+pub fn ran_over(
+    alloc: Global,
+    case: &Case,
+    shelf: &mut MemoryShelf,
+) -> Result<(String, String), AllocError> {
     let bytes = if case.commands.is_empty() {
         case.script.to_vec(alloc)?
     } else {
         case.commands.to_vec(alloc)?
     };
-    let mut input = MemorySource::new(bytes, case.piece, case.input_fails.to_vec(alloc)?);
-    let mut output = MemorySink::new(alloc, 1 << 20, case.piece, case.output_fails.to_vec(alloc)?)?;
-    let mut shelf = shelf_of(alloc, case)?;
+    let mut input = MemorySource::new(bytes, case.piece.max(1), case.input_fails.to_vec(alloc)?);
+    let mut output = MemorySink::new(
+        alloc,
+        1 << 20,
+        case.piece.max(1),
+        case.output_fails.to_vec(alloc)?,
+    )?;
     let status = run(
         alloc,
         &case.words,
         &mut input,
         &mut output,
-        &mut shelf,
+        shelf,
         &mut Counter::new(),
     );
+    Ok((told(alloc, &status)?, shown(alloc, output.taken())?))
+}
+
+/// Runs the program on a case.
+pub fn ran(alloc: Global, case: &Case) -> Result<Outcome, AllocError> {
+    let mut shelf = shelf_of(alloc, case)?;
+    let (told, written) = ran_over(alloc, case, &mut shelf)?;
     Ok(Outcome {
-        told: told(alloc, &status)?,
-        written: shown(alloc, output.taken())?,
+        told,
+        written,
         shelf,
     })
 }
