@@ -33,12 +33,14 @@ fn brings(
     let kept = shelf.store("old", &old).is_ok() && shelf.store("new", &new).is_ok();
     let (done, collated) = ended(alloc, &["collate", "old", "new"], "", &mut shelf)?;
     let (_, now) = ended(alloc, &["print", "f"], "", &mut shelf)?;
-    Ok(stored
-        && kept
-        && packed == Status::Done
-        && done == Status::Done
-        && replies.as_slice().ends_with(reply.as_bytes())
-        && collated.as_slice() == now.as_slice())
+    Ok(
+        stored
+            && kept
+            && packed == Status::Done
+            && done == Status::Done
+            && replies.as_slice().ends_with(reply.as_bytes())
+            && collated.as_slice() == now.as_slice(),
+    )
 }
 
 /// A script whose first line is a cue of so many words of twenty letters, and this behind them.
@@ -96,7 +98,10 @@ fn packets_bring_sheets_up_to_date(rt: HostRuntime) -> Result<(), Fail> {
     ];
     for (script, before, command, places) in cases {
         let reply = format!(in alloc; "{{\"ok\":true,\"sheets\":{places}}}\n")?;
-        assert!(rt; brings(alloc, script, before, command, reply.as_str())?, "{command}");
+        assert!(rt;
+            brings(alloc, script, before, command, reply.as_str())?,
+            "{command}"
+        );
     }
     Ok(())
 }
@@ -110,7 +115,10 @@ fn there_is_no_packet_of_pages_that_are_not_locked(rt: HostRuntime) -> Result<()
     assert_eq!(rt; status, Status::NotLocked);
     assert_eq!(rt; bytes.len(), 0);
     let (_, replies) = ended(alloc, &["desk", "f"], "{\"do\":\"packet\"}\n", &mut shelf)?;
-    assert_eq!(rt; replies.as_slice(), b"{\"no\":\"PagesNotLocked\"}\n".as_slice());
+    assert_eq!(rt;
+        replies.as_slice(),
+        b"{\"no\":\"PagesNotLocked\"}\n".as_slice()
+    );
     let (status, _) = ended(alloc, &["collate", "f", "f"], "", &mut shelf)?;
     assert_eq!(rt; status, Status::BadSheets { file: 0, sheet: 0 });
     Ok(())
