@@ -19,4 +19,4 @@ pub returns-clause-ends : goal.returns-clause-ends
 returns-clause-ends g c =
     let had = subst (HadState (origin_of c.args.origin) (g.I.Source.state c.args.input.now) (g.I.Source.state c.open_state.new.input) (g.F.Shelf.state c.args.shelf.now) (g.F.Shelf.state c.open_state.new.shelf))
     (sym c.in_ok-script.ensures.state) c.in_ok-opened.ensures.had in
-    show-ends c.args.view (origin_of c.args.origin) _ _ c.in_ok-script.script c.write_view.result had c.write_view.ensures
+    show-ends c.args.view (origin_of c.args.origin) _ _ c.in_ok-script.script c.write_view.result had (c.lacks_view.ensures.has c.if-lacks_view.false) c.write_view.ensures
