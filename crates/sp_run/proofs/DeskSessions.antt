@@ -25,13 +25,13 @@ use Rattle.spec_locked_pages.specs.Chains.{AreLinked}
 use Rattle.sp_kit.specs.Files.{Files, ShelfState}
 use Rattle.sp_run.specs.Records.{records_name}
 use Rattle.sp_run.specs.Saving.{Changes, KeepsAllBut}
-use Rattle.sp_run.specs.DeskLines.{NamedDesk, AnswersLine, RepliesTo, StopsAtLine, asks_save, answered_line, answered_lines, desk_at, desk_itself, is_save, line_step_by, saved_step, saves}
+use Rattle.sp_run.specs.DeskLines.{NamedDesk, AnswersLine, RepliesTo, StopsAtLine, asks_save, answered_line, answered_lines, desk_at, desk_itself, line_step_by, saved_step, saves}
 use Rattle.sp_run.specs.Forms.{desk, room}
 use Rattle.sp_run.specs.Opening.{SameShelf}
 use Rattle.sp_run.specs.Ending.{Outside, AnsweredAll, AnsweredCalmly, CommandsEnd, CountsUnsaved, HeldSession, OpensDesk}
 use Rattle.sp_run.specs.Statuses.{status_of_end}
 use Rattle.sp_run.proofs.Answering.{not-risen}
-use Rattle.sp_run.proofs.Touches.{Stored, Failed, Touches, Halts, Way, unsaved_line, other-line, session-counted, runs-promised, runs-last, runs-calm, session-others}
+use Rattle.sp_run.proofs.Touches.{Touches, Halts, Way, unsaved_line, other-line, session-counted, runs-promised, runs-last, runs-calm, session-others}
 
 -- ---- what an answer of a desk does
 

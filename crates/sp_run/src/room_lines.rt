@@ -36,11 +36,7 @@ impl<'a, 'b, S> Model for RoomLines<'a, 'b, S> {
 }
 
 /// Does a seat's command by the room. A refusal and want of memory leave it as it was.
-fn ask_room<S: Steps>(
-    room: &mut Room,
-    asked: RoomLine,
-    steps: &mut S,
-) -> Result<Reply, DeskFault>
+fn ask_room<S: Steps>(room: &mut Room, asked: RoomLine, steps: &mut S) -> Result<Reply, DeskFault>
     requires version { (room.old).version + 1 < 2 ^ 64 }
     ensures step { IsRoomAnswer room.old (room_line_of asked) room.new result }
     ensures same { OnErr result (room.new ≡ room.old) }

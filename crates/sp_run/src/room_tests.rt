@@ -25,7 +25,10 @@ fn seats_are_answered(rt: HostRuntime) -> Result<(), Fail> {
                     r#"{"do":"splice","line":0,"from":1,"to":1,"text":"w","seat":"q","seen":0}"#,
                     r#"{"no":"Overlap","version":1}"#,
                 ),
-                (r#"{"do":"undo","seat":"p"}"#, r#"{"no":"NotYours","seat":"q"}"#),
+                (
+                    r#"{"do":"undo","seat":"p"}"#,
+                    r#"{"no":"NotYours","seat":"q"}"#,
+                ),
                 (
                     r#"{"do":"blocks","seat":"p"}"#,
                     r#"{"blocks":[{"dual":false,"first":0,"kind":"action","last":3,"lines":["x","y","b","cz"],"number":null}],"ok":true,"version":2}"#,
@@ -95,7 +98,10 @@ fn seats_are_answered(rt: HostRuntime) -> Result<(), Fail> {
 
 /// A splice of line 0 that changes nothing, by a seat that saw this version.
 fn splice_seen(alloc: Global, seen: u64) -> Result<String, AllocError> {
-    format!(in alloc; "{{\"do\":\"splice\",\"line\":0,\"from\":1,\"to\":1,\"text\":\"\",\"seat\":\"q\",\"seen\":{}}}\n", seen)
+    format!(in alloc;
+        "{{\"do\":\"splice\",\"line\":0,\"from\":1,\"to\":1,\"text\":\"\",\"seat\":\"q\",\"seen\":{}}}\n",
+        seen
+    )
 }
 
 #[test]
@@ -105,7 +111,10 @@ fn old_versions_are_stale(rt: HostRuntime) -> Result<(), Fail> {
     let mut replies = Vec::new(alloc);
     for seen in 0..1001_u64 {
         commands.extend_from_slice(splice_seen(alloc, seen)?.as_bytes())?;
-        let reply = format!(in alloc; "{{\"lines\":1,\"ok\":true,\"sheets\":1,\"version\":{}}}\n", seen + 1)?;
+        let reply = format!(in alloc;
+            "{{\"lines\":1,\"ok\":true,\"sheets\":1,\"version\":{}}}\n",
+            seen + 1
+        )?;
         replies.extend_from_slice(reply.as_bytes())?;
     }
     commands.extend_from_slice(splice_seen(alloc, 0)?.as_bytes())?;
