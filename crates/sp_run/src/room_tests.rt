@@ -74,7 +74,7 @@ fn seats_are_answered(rt: HostRuntime) -> Result<(), Fail> {
                 ),
                 (
                     r#"{"do":"labels","seat":"p","seen":"x"}"#,
-                    r#"{"labels":["1."],"ok":true,"version":0}"#,
+                    r#"{"labels":["1"],"ok":true,"version":0}"#,
                 ),
                 (
                     r#"{"do":"splice","line":1,"from":0,"to":0,"text":"","seat":"p","seen":0}"#,
