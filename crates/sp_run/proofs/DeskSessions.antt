@@ -31,7 +31,7 @@ use Rattle.sp_run.specs.Opening.{SameShelf}
 use Rattle.sp_run.specs.Ending.{Outside, AnsweredAll, AnsweredCalmly, CommandsEnd, CountsUnsaved, HeldSession, OpensDesk}
 use Rattle.sp_run.specs.Statuses.{status_of_end}
 use Rattle.sp_run.proofs.Answering.{not-risen}
-use Rattle.sp_run.proofs.Touches.{Stored, Failed, Touches, Halts, Way, unsaved_line, other-line, session-counted, runs-promised, runs-last, runs-calm, session-others}
+use Rattle.sp_run.proofs.Touches.{Touches, Halts, Way, unsaved_line, other-line, session-counted, runs-promised, runs-last, runs-calm, session-others}
 
 -- ---- what an answer of a desk does
 

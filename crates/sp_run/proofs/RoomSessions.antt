@@ -23,7 +23,7 @@ use Rattle.spec_machine.specs.Machine.{Memory, opened_memory}
 use Rattle.spec_machine.specs.KeptMemories.{IsWholeMemory}
 use Rattle.spec_locked_pages.specs.Chains.{AreLinked}
 use Rattle.spec_room.specs.Changes.{Text}
-use Rattle.spec_room.specs.Rooms.{RoomState, RoomStep, opened_room, room_step_to, room_step_of}
+use Rattle.spec_room.specs.Rooms.{RoomState, RoomStep, opened_room, room_step_of}
 use Rattle.spec_room.specs.Sessions.{Session, opens}
 use Rattle.sp_kit.specs.Files.{ShelfState}
 use Rattle.sp_run.specs.Records.{records_name}
@@ -35,7 +35,7 @@ use Rattle.sp_run.specs.Ending.{Outside, RoomAnsweredAll, RoomAnsweredCalmly, Co
 use Rattle.sp_run.proofs.Answering.{not-risen}
 use Rattle.sp_run.proofs.DeskSessions.{same-shelf}
 use Rattle.sp_run.proofs.Seats.{Goes, goes-on, stays-on}
-use Rattle.sp_run.proofs.Touches.{Stored, Failed, Touches, Halts, Way, unsaved_line, other-line, session-counted, runs-promised, runs-last, runs-calm, session-others}
+use Rattle.sp_run.proofs.Touches.{Touches, Halts, Way, unsaved_line, other-line, session-counted, runs-promised, runs-last, runs-calm, session-others}
 
 -- ---- what an answer of a room does
 

@@ -1,17 +1,17 @@
 -- What becomes of a room by a line of one of its seats.
-use Rattle.std.proofs.Common.{◌≡◌, ℕ, Bool, true, false, cond, List, [], ◌∷◌, ◌++◌, ◌⊎◌, inl, inr, refl, sym, ap, ◌∙◌, subst}
-use Rattle.std.specs.Prelude.{if◌then◌else◌, IfOk, OnErr}
+use Rattle.std.proofs.Common.{◌≡◌, ℕ, Bool, true, false, cond, List, [], ◌∷◌, ◌++◌, inl, inr, refl, sym, ap, ◌∙◌, subst}
+use Rattle.std.specs.Prelude.{if◌then◌else◌, OnErr}
 use Rattle.std.specs.declared.option.Option.{Option}
 use Rattle.std.specs.declared.option.Option.TheVariants.{Some, None}
 use Rattle.std.specs.declared.result.Result.{Result}
 use Rattle.std.specs.declared.result.Result.TheVariants.{Ok, Err}
 use Rattle.spec_wire.specs.Commands.{CommandOf, FaultOf, RoomLineOf, edit, undo, redo, lock_scenes, lock_pages, next_round, sheet, labels, blocks, outline, save, speakers, paper, packet}
-use Rattle.spec_wire.specs.Replies.{RefusalOf, ReplyOf, refused, is_refused}
+use Rattle.spec_wire.specs.Replies.{RefusalOf, ReplyOf, is_refused}
 use Rattle.spec_state.specs.State.{State}
 use Rattle.spec_state.specs.Keeping.{IsWhole}
-use Rattle.spec_machine.specs.Machine.{Memory, memory_after}
+use Rattle.spec_machine.specs.Machine.{memory_after}
 use Rattle.spec_machine.specs.Refusals.{refusal_to}
-use Rattle.spec_machine.specs.Answers.{Step, step_by, step_of}
+use Rattle.spec_machine.specs.Answers.{step_by, step_of}
 use Rattle.spec_machine.specs.KeptMemories.{IsWholeMemory}
 use Rattle.spec_machine.specs.LabelPromises.{LosesNone}
 use Rattle.spec_machine.proofs.MachineLaws.{all-stay, step-lost}
