@@ -5,3 +5,4 @@ pub mod ElementMarks
 pub mod MovedMarks
 pub mod EditMarks
 pub mod EditExchange
+pub mod LockedStarts
