@@ -15,6 +15,7 @@ use Rattle.spec_state.specs.StateSheets.{layout_in, rows_in, keys_in, locked_sta
 use Rattle.spec_locked_pages.specs.Segments.{pages_of}
 use Rattle.spec_reflow.specs.Windows.{AreStops}
 use Rattle.spec_refill.specs.Exchanges.{stops_in}
+use Rattle.spec_refill.proofs.SortedStops.{in-order}
 use Rattle.sp_layout.specs.Bodies.{row_count, shapes_in}
 use Rattle.sp_reflow.specs.Starts.{many_more}
 use Rattle.sp_reflow.specs.Filling.{FilledAtMost}
@@ -58,3 +59,17 @@ starts-of state body shapes items stops are limit same is =
 pub filled-most : {V E : Type 0} (result : Result V E) (before now n : ℕ) → OnOk result (now ≡ many_more before n) → OnErr result (FilledAtMost before now n) → FilledAtMost before now n
 filled-most (Ok v) before now n exact few = record { count = n; within = omega arith; is = exact }
 filled-most (Err error) before now n exact few = few
+
+-- Every state has its stops in order.
+pub stops-in_order : (state : State) → IsWhole state → (stops : List ℕ) × AreStopsOf state stops
+stops-in_order state whole =
+    let found = in-order (stops_in state) in (
+      found.0,
+      record {
+        same = found.1;
+        are = record {
+          ordered = found.2;
+          within = All-permutation (λ (stop : ℕ). stop ≤ length (rows_in state)) (stops_in state) found.0 found.1 (stops-within state whole);
+        };
+      },
+    )

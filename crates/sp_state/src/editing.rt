@@ -19,7 +19,7 @@ use crate::entry::{Entry, Unturned};
 use crate::text_entry::{TextEntry, UnturnedText, edit_entry, redo_entry, undo_entry};
 use crate::turning::{refilled, turned};
 use sp_kit::Steps;
-use sp_made::{Made, make};
+use sp_made::{Made, lay, make, make_of};
 use sp_records::Records;
 use sp_reflow::{Pages, UnswappedPages};
 use sp_reread::Stanzas;
@@ -28,28 +28,44 @@ use spec_pages::Paper;
 use std::alloc::{AllocError, Global};
 use std::mem;
 
-/// Sets whether a cue says that its speaker goes on.
-pub(crate) fn made_with_speakers<S: Steps>(
+/// What is made of a state, with the first rows of its pages.
+fn remade(
+    alloc: Global,
+    lines: &Lines,
+    stanzas: &Stanzas,
+    records: &Records,
+    pages: &Pages,
+) -> Result<Made, AllocError>
+    requires whole { IsWhole (state_of (text_of lines.now) records.now) }
+    requires stanzas { stanzas.now.stanzas ≡ text_stanzas (text_of lines.now) }
+    requires pages { pages.now.starts ≡ pages_of (state_of (text_of lines.now) records.now) }
+    ensures { IfOk result (IsMadeOf (state_of (text_of lines.now) records.now)) }
+{
+    let laid = lay(alloc, lines, stanzas, records)?;
+    make_of(alloc, lines, records, laid, pages)
+}
+
+/// Sets whether a cue says that its speaker goes on. It fills no page.
+pub(crate) fn made_with_speakers(
     alloc: Global,
     lines: &Lines,
     stanzas: &Stanzas,
     records: &mut Records,
+    pages: &Pages,
     on: bool,
-    steps: &mut S,
-) -> Result<(Made, Pages), AllocError>
+) -> Result<Made, AllocError>
     requires whole { IsWhole (state_of (text_of lines.now) records.old) }
     requires stanzas { stanzas.now.stanzas ≡ text_stanzas (text_of lines.now) }
+    requires pages { pages.now.starts ≡ pages_of (state_of (text_of lines.now) records.old) }
     ensures records { OnOk result (records.new ≡ record records.old { speakers = on }) }
     ensures whole { OnOk result (IsWhole (state_of (text_of lines.now) records.new)) }
-    ensures made { IfOk result (λ it. IsMadeOf (state_of (text_of lines.now) records.new) it.0) }
-    ensures pages { IfOk result (λ it. it.1.starts ≡ pages_of (state_of (text_of lines.now) records.new)) }
-    ensures at_most { FilledAtMost (S.fills steps.old) (S.fills steps.new) (length (pages_of (state_of (text_of lines.now) (record records.old { speakers = on })))) }
+    ensures made { IfOk result (IsMadeOf (state_of (text_of lines.now) records.new)) }
+    ensures pages { OnOk result (pages.now.starts ≡ pages_of (state_of (text_of lines.now) records.new)) }
     ensures same { OnErr result (records.new ≡ records.old) }
-    ensures reads { S.reads steps.new ≡ S.reads steps.old }
 {
     let before = mem::replace(&mut records.speakers, on);
-    match make(alloc, lines, stanzas, records, steps) {
-        Ok(it) => Ok(it),
+    match remade(alloc, lines, stanzas, records, pages) {
+        Ok(made) => Ok(made),
         Err(error) => {
             records.speakers = before;
             Err(error)
@@ -157,7 +173,8 @@ pub(crate) fn edit_made<S: Steps>(
 {
     let olds = before.body.rows();
     let (text, laid) = edit_entry(alloc, lines, stanzas, records, &before.body, edit, steps)?;
-    let news = laid.layout.body.rows();
+    let layout = &laid.layout;
+    let news = layout.body.rows();
     match refilled(alloc, lines, records, laid, pages, 0, olds, news, steps) {
         Ok((swapped, made)) => Ok((
             Entry {

@@ -244,28 +244,21 @@ impl Script {
         Ok(other)
     }
 
-    /// Sets whether a cue says that its speaker goes on. No stanza is read; all else is made anew. On an error there was no memory, and nothing
-    /// is changed (docs/RULES.md, "The desk").
-    pub fn set_speakers<S: Steps>(
-        &mut self,
-        alloc: Global,
-        on: bool,
-        steps: &mut S,
-    ) -> Result<(), AllocError>
+    /// Sets whether a cue says that its speaker goes on. No stanza is read and no page filled; rows and sheets are made anew.
+    /// On an error there was no memory, and nothing is changed (docs/RULES.md, "The desk").
+    pub fn set_speakers(&mut self, alloc: Global, on: bool) -> Result<(), AllocError>
         ensures state { OnOk result (self.new ≡ record self.old { speakers = on }) }
         ensures same { OnErr result (self.new ≡ self.old) }
-        ensures reads { S.reads steps.new ≡ S.reads steps.old }
     {
-        let (made, pages) = made_with_speakers(
+        let made = made_with_speakers(
             alloc,
             &self.lines,
             &self.stanzas,
             &mut self.records,
+            &self.pages,
             on,
-            steps,
         )?;
         self.made = made;
-        self.pages = pages;
         Ok(())
     }
 
@@ -280,6 +273,7 @@ impl Script {
         ensures state { OnOk result (self.new ≡ record self.old { paper = paper }) }
         ensures same { OnErr result (self.new ≡ self.old) }
         ensures reads { S.reads steps.new ≡ S.reads steps.old }
+        ensures fills { FilledAtMost (S.fills steps.old) (S.fills steps.new) (length (pages_of (record self.old { paper = paper }))) }
     {
         let (made, pages) = made_on(
             alloc,

@@ -12,6 +12,7 @@ use Rattle.spec_script.specs.LongestRuns.{Group}
 use Rattle.spec_script.specs.Stanzas.{PlacedBlock}
 use Rattle.spec_script.specs.Elements.{elements_in}
 use Rattle.spec_pages.specs.declared.Shape.{Shape}
+use Rattle.spec_pages.specs.Pages.{page_starts, rows_on}
 use Rattle.spec_labels.specs.PageRecords.{PageRecordOf, record_starts, carried_records}
 use Rattle.spec_labels.specs.Spots.{Spot, anchor_after, Follows}
 use Rattle.spec_labels.specs.Anchors.{spot_of, spots_of}
@@ -30,6 +31,7 @@ use Rattle.spec_relayout.specs.Items.{starts_of_spots, start_of, Item}
 use Rattle.spec_relayout.specs.Touched.{EditBlocks}
 use Rattle.spec_relayout.proofs.FairElements.{ElementSound, IsKnown, all-known}
 use Rattle.spec_relayout.proofs.WindowPartners.{Around}
+use Rattle.spec_locked_pages.specs.Segments.{pages_of}
 use Rattle.spec_locked_pages.specs.LockedPages.{IsWindowOf, edit_blocks}
 use Rattle.spec_locked_pages.proofs.StateScripts.{script_of, texts_of, blocks_in, items_of, spoken-blocks, breaks-scripted}
 use Rattle.spec_locked_pages.proofs.StateStarts.{state-rising, same-shapes, starts-bridge, whole-Anchored}
@@ -50,6 +52,11 @@ state_marks state = marks_of state.lines (blocks_in state)
 items-are : (state : State) → map mark_of (items_of state) ≡ state_marks state
 items-are state = text-marks (script_of state) (blocks_in state)
 
+-- The first rows of page records by marks; none where pages aren't locked.
+abbrev starts_by : List Mark → List LineState → Option (List PageRecordOf) → List ℕ
+starts_by marks lines None = []
+starts_by marks lines (Some records) = map (start marks) (spots_of lines records)
+
 module _ (state : State) (whole : IsWhole state) where
   state-shapes : map shape_of (rows_in state) ≡ shapes (state_marks state)
   state-shapes = same-shapes state whole.text ∙ marks-shapes (items_of state) ∙ ap shapes (items-are state)
@@ -69,6 +76,20 @@ module _ (state : State) (whole : IsWhole state) where
 
   records-start : (records : List PageRecordOf) → record_starts state.lines (keys_in state) records ≡ map (start (state_marks state)) (spots_of state.lines records)
   records-start records = starts-bridge state whole.text records ∙ each-start (spots_of state.lines records)
+
+  marks-start-of : (o : Option (List PageRecordOf)) → locked_starts state.lines (rows_in state) o ≡ starts_by (state_marks state) state.lines o
+  marks-start-of None = refl
+  marks-start-of (Some records) = records-start records
+
+  -- The first rows of its pages turn on its marks, its page records and its paper alone.
+  pages-marked : pages_of state ≡ page_starts (rows_on state.paper) (shapes (state_marks state)) (breaks 0 (state_marks state) ++ starts_by (state_marks state) state.lines state.pages)
+  pages-marked =
+      ap (λ (l : List Shape). page_starts (rows_on state.paper) l (stops_in state)) state-shapes
+      ∙ ap₂ (λ (a b : List ℕ). page_starts (rows_on state.paper) (shapes (state_marks state)) (a ++ b)) state-breaks (marks-start-of state.pages)
+
+-- Whether cues say that their speakers go on moves no page.
+pub speakers-starts : (state : State) (on : Bool) → IsWhole state → IsWhole (record state { speakers = on }) → pages_of (record state { speakers = on }) ≡ pages_of state
+speakers-starts state on whole other = pages-marked (record state { speakers = on }) other ∙ sym (pages-marked state whole)
 
 anchors-follow : (it : Replacement) (spots : List Spot) → AllFollow (range_of it) spots (map (anchor_after (range_of it)) spots)
 anchors-follow it [] = tt

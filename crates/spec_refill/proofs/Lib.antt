@@ -6,3 +6,4 @@ pub mod MovedMarks
 pub mod EditMarks
 pub mod EditExchange
 pub mod LockedStarts
+pub mod SortedStops
