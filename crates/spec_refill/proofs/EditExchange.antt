@@ -1,11 +1,9 @@
 -- An edit of a whole state exchanges the rows of its relaid elements, and no others.
-use Rattle.std.proofs.Common.{◌≡◌, ℕ, ◌+◌, ◌-◌, Bool, false, Option, Some, None, List, [], ◌∷◌, ◌++◌, length, map, refl, sym, ap, ap₂, subst, ◌∙◌, arith}
-use Rattle.std.specs.Prelude.{All, AllPairs, IsPermutation, min, option_map}
-use Rattle.std.proofs.lemmas.List.{length-map, append-nil}
-use Rattle.std.proofs.lemmas.List.Elements.{All-tail}
-use Rattle.spec_text.specs.Lines.{LineState, line_texts}
+use Rattle.std.proofs.Common.{◌≡◌, ℕ, ◌+◌, Bool, false, Option, Some, None, List, [], ◌∷◌, ◌++◌, length, map, refl, sym, ap, ap₂, subst, ◌∙◌, arith}
+use Rattle.std.specs.Prelude.{All, IsPermutation, min, option_map}
+use Rattle.std.proofs.lemmas.List.{length-map}
+use Rattle.spec_text.specs.Lines.{LineState}
 use Rattle.spec_text.specs.Edits.{Replacement}
-use Rattle.spec_text.specs.EditedLines.{IsEdited}
 use Rattle.spec_text.specs.Ranges.{range_of}
 use Rattle.spec_text.proofs.EditedLaws.{changed-IsEdited, text-HasIds}
 use Rattle.spec_script.specs.LongestRuns.{Group}
@@ -14,7 +12,7 @@ use Rattle.spec_script.specs.Elements.{elements_in}
 use Rattle.spec_pages.specs.declared.Shape.{Shape}
 use Rattle.spec_pages.specs.Pages.{page_starts, rows_on}
 use Rattle.spec_labels.specs.PageRecords.{PageRecordOf, record_starts, carried_records}
-use Rattle.spec_labels.specs.Spots.{Spot, anchor_after, Follows}
+use Rattle.spec_labels.specs.Spots.{Spot, anchor_after}
 use Rattle.spec_labels.specs.Anchors.{spot_of, spots_of}
 use Rattle.spec_labels.proofs.SpotLaws.{anchor-follows, first-follows}
 use Rattle.spec_labels.proofs.AnchorLaws.{first_spot, carried-spots}
@@ -24,16 +22,16 @@ use Rattle.spec_layout.proofs.RowLaws.{IsText-texts}
 use Rattle.spec_state.specs.State.{State, text_of}
 use Rattle.spec_state.specs.Keeping.{IsWhole}
 use Rattle.spec_state.specs.StateSheets.{rows_in, keys_in, layout_in, locked_starts}
-use Rattle.spec_state.specs.Changes.{carried_state, rows_by_record, raised_records, pages_raised, edited_state, CanEdit}
+use Rattle.spec_state.specs.Changes.{carried_state, rows_by_record, pages_raised, CanEdit}
 use Rattle.spec_reread.specs.Touched.{WindowBlocks, old_blocks, new_blocks, old_relaid, new_relaid}
 use Rattle.spec_reflow.specs.Windows.{AreStops, AreExchanged}
-use Rattle.spec_relayout.specs.Items.{starts_of_spots, start_of, Item}
+use Rattle.spec_relayout.specs.Items.{starts_of_spots}
 use Rattle.spec_relayout.specs.Touched.{EditBlocks}
 use Rattle.spec_relayout.proofs.FairElements.{ElementSound, IsKnown, all-known}
 use Rattle.spec_relayout.proofs.WindowPartners.{Around}
 use Rattle.spec_locked_pages.specs.Segments.{pages_of}
 use Rattle.spec_locked_pages.specs.LockedPages.{IsWindowOf, edit_blocks}
-use Rattle.spec_locked_pages.proofs.StateScripts.{script_of, texts_of, blocks_in, items_of, spoken-blocks, breaks-scripted}
+use Rattle.spec_locked_pages.proofs.StateScripts.{script_of, blocks_in, items_of, spoken-blocks, breaks-scripted}
 use Rattle.spec_locked_pages.proofs.StateStarts.{state-rising, same-shapes, starts-bridge, whole-Anchored}
 use Rattle.spec_locked_pages.proofs.SameRows.{starts-raised}
 use Rattle.spec_locked_pages.proofs.EditedStates.{new, new-whole, lines-moved, blocks-around}

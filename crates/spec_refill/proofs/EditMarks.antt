@@ -1,5 +1,5 @@
 -- The marks of both texts of an edit: those before the relaid elements, their own, and those behind them.
-use Rattle.std.proofs.Common.{◌≡◌, ℕ, ◌+◌, Bool, true, false, ◌&&◌, ◌||◌, cond, List, [], ◌∷◌, ◌++◌, length, map, take, drop, inl, inr, refl, sym, ap, ap₂, subst, ◌∙◌, arith, take-append-drop}
+use Rattle.std.proofs.Common.{◌≡◌, ℕ, true, false, ◌||◌, cond, List, [], ◌∷◌, ◌++◌, map, take, drop, inl, inr, refl, sym, ap, ap₂, subst, ◌∙◌, take-append-drop}
 use Rattle.std.specs.Prelude.{All}
 use Rattle.std.specs.List.{prefix_len, take_while}
 use Rattle.std.proofs.lemmas.Bool.{cases_Bool, and_parts}
@@ -22,7 +22,7 @@ use Rattle.spec_relayout.proofs.FairElements.{ElementSound, AllIn, elements-all}
 use Rattle.spec_relayout.proofs.AsideBlocks.{IsAside, front-aside, pushed-aside, kept-aside, fronts-same, rests-same, rests-moved, fronts-moved, front-before, kept-before}
 use Rattle.spec_relayout.proofs.WindowPartners.{Around}
 use Rattle.spec_refill.specs.Exchanges.{count_rows, begins_before, relays_none, elements_before}
-use Rattle.spec_refill.proofs.Marks.{Mark, rows, mark_after}
+use Rattle.spec_refill.proofs.Marks.{Mark, rows}
 use Rattle.spec_refill.proofs.MarkStarts.{AreRising}
 use Rattle.spec_refill.proofs.MarkStops.{Sides}
 use Rattle.spec_refill.proofs.ElementMarks.{marks_of, count-marks, marks-append}

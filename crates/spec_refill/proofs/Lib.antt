@@ -7,3 +7,4 @@ pub mod EditMarks
 pub mod EditExchange
 pub mod LockedStarts
 pub mod SortedStops
+pub mod WorkedRows

@@ -1,14 +1,13 @@
 -- How many rows stand before a spot, before an edit and after it.
-use Rattle.std.proofs.Common.{◌≡◌, ℕ, suc, ◌+◌, ◌<◌, ◌≤◌, Bool, true, false, cond, List, [], ◌∷◌, ◌++◌, length, map, inl, inr, refl, sym, ap, ap₂, ◌∙◌, arith}
+use Rattle.std.proofs.Common.{◌≡◌, suc, ◌<◌, ◌≤◌, Bool, true, false, cond, List, [], ◌∷◌, ◌++◌, map, inl, inr, refl, sym, ap, ◌∙◌, arith}
 use Rattle.std.specs.Prelude.{All, AllPairs, filter}
 use Rattle.std.proofs.lemmas.Bool.{cases_Bool}
 use Rattle.std.proofs.lemmas.List.Elements.{All-head, All-tail, filter-append}
 use Rattle.spec_text.specs.Ranges.{RangeOf, IsOutside}
-use Rattle.spec_pages.specs.declared.Shape.{Shape}
 use Rattle.spec_labels.specs.Spots.{Spot, is_ahead, spot_after, Follows}
 use Rattle.spec_labels.proofs.SpotLaws.{ahead-then}
 use Rattle.spec_relayout.proofs.SplitLaws.{none-behind}
-use Rattle.spec_refill.proofs.Marks.{Mark, page_break, row as shown_row, spot_in, is_before, shapes, rows, start, mark_after, spot-after, rows-append}
+use Rattle.spec_refill.proofs.Marks.{Mark, page_break, row as shown_row, spot_in, is_before, rows, start, mark_after, rows-append}
 
 -- The edit leaves the line that it stands at.
 abbrev pub IsLeft : RangeOf → Mark → Type 0

@@ -1,11 +1,11 @@
 -- The stops of a state in order.
-use Rattle.std.proofs.Common.{◌≡◌, ℕ, ◌≤◌, ◌<◌, Bool, true, false, cond, leb, List, [], ◌∷◌, ◌++◌, length, refl, sym, subst, inl, inr, arith}
-use Rattle.std.specs.Prelude.{All, AllPairs, IsPermutation}
+use Rattle.std.proofs.Common.{ℕ, ◌≤◌, Bool, true, false, cond, leb, List, [], ◌∷◌, refl, sym, subst, inl, inr, arith}
+use Rattle.std.specs.Prelude.{AllPairs, IsPermutation}
 use Rattle.std.proofs.lemmas.Bool.{cases_Bool, leb-true, leb-false}
 use Rattle.std.proofs.lemmas.List.{append-nil}
 use Rattle.std.proofs.lemmas.List.Elements.{All-nil, All-cons}
 use Rattle.std.proofs.lemmas.List.Kept.{AllPairs-cons}
-use Rattle.std.proofs.lemmas.List.Sorted.{All-permutation, IsPermutation-append_comm, IsPermutation-cons, IsPermutation-sym, IsPermutation-swap, IsPermutation-trans}
+use Rattle.std.proofs.lemmas.List.Sorted.{All-permutation, IsPermutation-append_comm, IsPermutation-cons, IsPermutation-swap, IsPermutation-trans}
 use Rattle.spec_text.proofs.ListLaws.{pairs-none, pairs-head, pairs-tail}
 
 abbrev pub InOrder : List ℕ → Type 0
