@@ -1,3 +1,4 @@
 pub mod Memories
 pub mod Answers
 pub mod Reads
+pub mod Fills

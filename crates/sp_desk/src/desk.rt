@@ -19,6 +19,10 @@ ghost use Rattle.sp_wire.specs.Values.{command_of, reply_of};
 ghost use Rattle.sp_reread.specs.Cache.{RisesWithin, counted_on};
 ghost use Rattle.sp_desk.specs.Answers.{IsAnswer};
 ghost use Rattle.sp_desk.specs.Reads.{CommandReads};
+ghost use Rattle.sp_desk.specs.Fills.{CommandFills};
+ghost use Rattle.spec_locked_pages.specs.Segments.{pages_of};
+ghost use Rattle.sp_reflow.specs.Filling.{FilledAtMost};
+ghost use Rattle.sp_reflow.specs.Starts.{many_more};
 
 use crate::DeskFault;
 use crate::replies::{edited_reply, next_after, page_count, scene_count, sheet_labels};
@@ -62,6 +66,8 @@ impl Desk {
         ensures memory { IfOk result (λ desk. desk ≡ opened_memory (opened_state (line_texts lines.lines))) }
         ensures reads { OnOk result (S.reads steps.new ≡ counted_on (length (stanzas_of (line_texts lines.lines))) (S.reads steps.old)) }
         ensures at_most { RisesWithin (length (stanzas_of (line_texts lines.lines))) (S.reads steps.old) (S.reads steps.new) }
+        ensures fills { OnOk result (S.fills steps.new ≡ many_more (S.fills steps.old) (length (pages_of (opened_state (line_texts lines.lines))))) }
+        ensures fills_at_most { FilledAtMost (S.fills steps.old) (S.fills steps.new) (length (pages_of (opened_state (line_texts lines.lines)))) }
     {
         let _count = lines.len();
         let script = Script::new(alloc, lines, steps)?;
@@ -83,6 +89,8 @@ impl Desk {
         ensures memory { IfOk result (λ desk. desk ≡ opened_memory (state_of (lines_text lines) records)) }
         ensures reads { OnOk result (S.reads steps.new ≡ counted_on (length (stanzas_of (line_texts lines.lines))) (S.reads steps.old)) }
         ensures at_most { RisesWithin (length (stanzas_of (line_texts lines.lines))) (S.reads steps.old) (S.reads steps.new) }
+        ensures fills { OnOk result (S.fills steps.new ≡ many_more (S.fills steps.old) (length (pages_of (state_of (lines_text lines) records)))) }
+        ensures fills_at_most { FilledAtMost (S.fills steps.old) (S.fills steps.new) (length (pages_of (state_of (lines_text lines) records))) }
     {
         let script = Script::open(alloc, lines, records, steps)?;
         Ok(Desk {
@@ -93,8 +101,8 @@ impl Desk {
 
     /// Answers a command, as the machine does: what it makes of the memory, and the reply; a refusal is a fault and never
     /// `Reply::Refused`. NoMemory may come in place of any answer, and then nothing is changed. An edit, an undo, a redo and
-    /// a setting lay out the whole text and fill each page of the body once; the other commands, locks and rounds among
-    /// them, lay out nothing (docs/RULES.md, "The desk"). An edit reads each stanza of its window once, and no other command
+    /// a setting lay out the whole text; the other commands, locks and rounds among them, lay out nothing (docs/RULES.md,
+    /// "The desk"). An edit and a change of the paper fill each page of the body once, and no other command fills one. An edit reads each stanza of its window once, and no other command
     /// reads one (docs/RULES.md, "Windows"). No command loses a locked label, and an accepted lock of pages or
     /// a new round leaves the bytes of every sheet as they were (docs/RULES.md, "Page records" and "Scene numbers"). An edit
     /// keeps the bytes of each locked page that it leaves alone, and so do all edits that can be undone, from each of them
@@ -112,6 +120,7 @@ impl Desk {
         ensures locked { KeepsPages self.old (command_of command) (self.new).state }
         ensures chain { (i k : ℕ) → KeepsAlong i (drop k (self.new).done) (self.new).state }
         ensures reads { CommandReads (self.old).state (command_of command) result (S.reads steps.old) (S.reads steps.new) }
+        ensures fills { CommandFills (self.old).state (command_of command) (S.fills steps.old) (S.fills steps.new) }
     {
         let _before = self.sheets();
         let answer = self.answer(alloc, command, steps);
@@ -128,18 +137,19 @@ impl Desk {
         ensures step { IsAnswer self.old (command_of command) self.new result }
         ensures unrefused { IfOk result (λ reply. is_refused (reply_of reply) ≡ false) }
         ensures reads { CommandReads (self.old).state (command_of command) result (S.reads steps.old) (S.reads steps.new) }
+        ensures fills { CommandFills (self.old).state (command_of command) (S.fills steps.old) (S.fills steps.new) }
     {
         match command {
             Command::Edit(edit) => self.edit(alloc, edit, steps),
-            Command::Undo => self.undo(alloc, steps),
-            Command::Redo => self.redo(alloc, steps),
+            Command::Undo => self.undo(alloc),
+            Command::Redo => self.redo(alloc),
             Command::LockScenes => self.lock_scenes(alloc),
             Command::LockPages => self.lock_pages(alloc),
             Command::NextRound => self.next_round(alloc),
             Command::Sheet(index) => self.sheet_answer(alloc, index),
             Command::Labels => self.labels_answer(alloc),
             Command::Blocks => self.blocks_answer(alloc),
-            Command::Speakers(on) => self.set_speakers(alloc, on, steps),
+            Command::Speakers(on) => self.set_speakers(alloc, on),
             Command::Paper(paper) => self.set_paper(alloc, paper, steps),
             Command::Outline => self.outline_answer(alloc),
             Command::Save | Command::Packet => { Err(DeskFault::Refused(Refusal::UnknownCommand)) }
@@ -162,16 +172,15 @@ impl Desk {
         Ok(edited_reply(&self.script))
     }
 
-    fn undo<S: Steps>(&mut self, alloc: Global, steps: &mut S) -> Result<Reply, DeskFault>
+    fn undo(&mut self, alloc: Global) -> Result<Reply, DeskFault>
         ensures step { IsAnswer self.old commands.undo self.new result }
         ensures unrefused { IfOk result (λ reply. is_refused (reply_of reply) ≡ false) }
-        ensures reads { S.reads steps.new ≡ S.reads steps.old }
     {
         self.journal.reserve_one()?;
         let Some(entry) = self.journal.take_done() else {
             return Err(DeskFault::Refused(Refusal::NothingToUndo));
         };
-        match self.script.undo(alloc, entry, steps) {
+        match self.script.undo(alloc, entry) {
             Ok(again) => {
                 self.journal.keep_undone(again);
                 Ok(edited_reply(&self.script))
@@ -183,16 +192,15 @@ impl Desk {
         }
     }
 
-    fn redo<S: Steps>(&mut self, alloc: Global, steps: &mut S) -> Result<Reply, DeskFault>
+    fn redo(&mut self, alloc: Global) -> Result<Reply, DeskFault>
         ensures step { IsAnswer self.old commands.redo self.new result }
         ensures unrefused { IfOk result (λ reply. is_refused (reply_of reply) ≡ false) }
-        ensures reads { S.reads steps.new ≡ S.reads steps.old }
     {
         self.journal.reserve_one()?;
         let Some(entry) = self.journal.take_undone() else {
             return Err(DeskFault::Refused(Refusal::NothingToRedo));
         };
-        match self.script.redo(alloc, entry, steps) {
+        match self.script.redo(alloc, entry) {
             Ok(again) => {
                 self.journal.keep_done(again);
                 Ok(edited_reply(&self.script))
@@ -233,20 +241,14 @@ impl Desk {
         Ok(Reply::Round { name, round })
     }
 
-    fn set_speakers<S: Steps>(
-        &mut self,
-        alloc: Global,
-        on: bool,
-        steps: &mut S,
-    ) -> Result<Reply, DeskFault>
+    fn set_speakers(&mut self, alloc: Global, on: bool) -> Result<Reply, DeskFault>
         ensures step { IsAnswer self.old (commands.speakers on) self.new result }
         ensures unrefused { IfOk result (λ reply. is_refused (reply_of reply) ≡ false) }
-        ensures reads { S.reads steps.new ≡ S.reads steps.old }
     {
         if self.script.records().pages.is_some() {
             return Err(DeskFault::Refused(Refusal::PagesLocked));
         }
-        self.script.set_speakers(alloc, on, steps)?;
+        self.script.set_speakers(alloc, on)?;
         self.journal.clear();
         Ok(Reply::Set {
             sheets: self.script.sheets() as u64,
@@ -262,6 +264,7 @@ impl Desk {
         ensures step { IsAnswer self.old (commands.paper paper) self.new result }
         ensures unrefused { IfOk result (λ reply. is_refused (reply_of reply) ≡ false) }
         ensures reads { S.reads steps.new ≡ S.reads steps.old }
+        ensures fills { CommandFills (self.old).state (commands.paper paper) (S.fills steps.old) (S.fills steps.new) }
     {
         if self.script.records().pages.is_some() {
             return Err(DeskFault::Refused(Refusal::PagesLocked));

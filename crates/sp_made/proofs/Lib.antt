@@ -4,3 +4,4 @@ mod HeadingMade
 mod PageRows
 pub mod SheetPlaces
 pub mod MadeLaws
+pub mod StopsMade

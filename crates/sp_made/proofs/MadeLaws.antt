@@ -19,7 +19,8 @@ use Rattle.spec_layout.proofs.RowLaws.{IsText-texts}
 use Rattle.spec_layout.proofs.ShownLaws.{length-shown_rows, shown_rows-shapes, shown_rows-marks}
 use Rattle.spec_state.specs.State.{State, opened_state, text_of}
 use Rattle.spec_state.specs.Headings.{headings_of, heading_labels}
-use Rattle.spec_state.specs.StateSheets.{layout_in, rows_in, keys_in, pages_in, numbered_sheets, sheets_in, body_sheets}
+use Rattle.spec_state.specs.StateSheets.{layout_in, rows_in, keys_in, locked_starts, pages_in, numbered_sheets, sheets_in, body_sheets}
+use Rattle.spec_locked_pages.specs.Segments.{pages_of}
 use Rattle.spec_state.specs.Keeping.{IsWhole, records_of, state_of}
 use Rattle.spec_state.proofs.OpenedLaws.{opening-whole}
 use Rattle.spec_state.proofs.StateLaws.{state-AreKeptPages, state-ArePageRecords, state-AreAnchored, state-AreStarts, state-ArePages, state-few, rising-few}
@@ -161,3 +162,17 @@ pub opened-whole : (text : TextState) → IsText text → text.lines ≡ read_li
 opened-whole text is read next =
     let same = opened-is text read next in
     subst IsWhole (sym same) (opening-whole (line_texts text.lines) (subst (λ (state : State). IsText (text_of state)) same is))
+
+-- The first rows of page records, by rows and by keys.
+pub locked-keys : (state : State) (o : Option (List PageRecordOf)) → locked_starts state.lines (rows_in state) o ≡ key_starts state.lines (keys_in state) o
+locked-keys state None = refl
+locked-keys state (Some records) = refl
+
+-- The page starts of a state, by its body, its page breaks and the first rows of its page records.
+pub pages-are : (state : State) (body : List ElementOf) (o : Option (List PageRecordOf)) (breaks firsts : List ℕ) → body ≡ (layout_in state).body → state.pages ≡ o → breaks ≡ (layout_in state).breaks
+    → firsts ≡ key_starts state.lines (keys_in state) o → pages_of state ≡ page_starts (rows_on state.paper) (shapes_in body) (breaks ++ firsts)
+pages-are state body o breaks firsts elements records stops first =
+    let limit = rows_on state.paper in
+    ap (λ (shapes : List Shape). page_starts limit shapes ((layout_in state).breaks ++ locked_starts state.lines (rows_in state) state.pages)) (same-shapes state ∙ sym (ap shapes_in elements))
+    ∙ ap (λ (bs : List ℕ). page_starts limit (shapes_in body) (bs ++ locked_starts state.lines (rows_in state) state.pages)) (sym stops)
+    ∙ ap (λ (fs : List ℕ). page_starts limit (shapes_in body) (breaks ++ fs)) (ap (locked_starts state.lines (rows_in state)) records ∙ locked-keys state o ∙ sym first)

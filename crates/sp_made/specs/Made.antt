@@ -1,5 +1,5 @@
 -- What is made of a state.
-use Rattle.std.specs.Prelude.{◌≡◌, ℕ, ◌<◌, ◌≤◌, All, AllPairs, IfSome, List, [], length, Option, Some, None}
+use Rattle.std.specs.Prelude.{◌≡◌, ℕ, ◌<◌, ◌≤◌, All, AllPairs, IsPermutation, IfSome, List, [], length, Option, Some, None}
 use Rattle.spec_text.specs.Lines.{LineState}
 use Rattle.spec_pages.specs.Rows.{ElementOf}
 use Rattle.spec_labels.specs.declared.RowKey.{RowKey}
@@ -10,7 +10,9 @@ use Rattle.sp_layout.specs.Bodies.{row_count, marks_in}
 use Rattle.sp_layout.specs.LaidOut.{LayoutOf, keyed}
 use Rattle.sp_made.specs.Numbered.{marked_sheets}
 use Rattle.spec_state.specs.Headings.{heading_labels}
-use Rattle.spec_state.specs.StateSheets.{layout_in, keys_in, title_starts, body_sheets}
+use Rattle.spec_state.specs.StateSheets.{layout_in, rows_in, keys_in, title_starts, body_sheets}
+use Rattle.spec_reflow.specs.Windows.{AreStops}
+use Rattle.spec_refill.specs.Exchanges.{stops_in}
 
 -- Its elements laid out, the keys of its body's rows, the labels of its headings, the first rows of its title sheets, and its
 -- other sheets.
@@ -68,3 +70,8 @@ pub record AskedOfPages {V : Type 0} (items : V → List PageRecordOf) (elements
 abbrev pub marked_or_locked : List ElementOf → Option (List PageRecordOf) → List ℕ → List ℕ → List SheetOf
 marked_or_locked elements None starts pages = marked_sheets (marks_in elements) 1 pages
 marked_or_locked elements (Some records) starts pages = sheets_of_records (row_count elements) records starts pages
+
+-- Stops of a state, in order: its page breaks and the first rows of its page records.
+pub record AreStopsOf (state : State) (stops : List ℕ) : Type 0 where
+  pub same : IsPermutation (stops_in state) stops
+  pub are : AreStops (length (rows_in state)) stops

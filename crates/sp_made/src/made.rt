@@ -1,5 +1,5 @@
 //! What is made of a state and its stanzas: its elements in rows, the labels of its headings, and its sheets.
-ghost use Rattle.std.specs.Prelude.{◌≡◌, ℕ, ◌≤◌, ◌++◌, [], option_map, All, IfOk, IfSome};
+ghost use Rattle.std.specs.Prelude.{◌≡◌, [], length, option_map, IfOk, IfSome, OnOk};
 ghost use Rattle.spec_text.specs.Lines.{line_texts};
 ghost use Rattle.spec_script.specs.Stanzas.{stanzas_of};
 ghost use Rattle.spec_pages.specs.Pages.{page_starts, rows_on};
@@ -9,9 +9,12 @@ ghost use Rattle.spec_state.specs.StateSheets.{body_sheets, layout_in, locked_st
 ghost use Rattle.spec_state.specs.Keeping.{IsWhole, state_of};
 ghost use Rattle.sp_text.specs.Gap.{text_of};
 ghost use Rattle.sp_exchange.specs.Restoring.{text_stanzas};
-ghost use Rattle.sp_layout.specs.Bodies.{row_count, shapes_in};
+ghost use Rattle.sp_layout.specs.Bodies.{shapes_in};
+ghost use Rattle.spec_locked_pages.specs.Segments.{pages_of};
+ghost use Rattle.sp_reflow.specs.Starts.{many_more};
+ghost use Rattle.sp_reflow.specs.Filling.{FilledAtMost};
 ghost use Rattle.sp_layout.specs.LaidOut.{keyed};
-ghost use Rattle.sp_made.specs.Made.{AskedOfPages, IsLaidOf, IsMadeOf, key_starts, marked_or_locked};
+ghost use Rattle.sp_made.specs.Made.{AreStopsOf, AskedOfPages, IsLaidOf, IsMadeOf, key_starts, marked_or_locked};
 
 use crate::headings::{headings_among, scene_labels};
 use crate::numbered::marked_sheets;
@@ -56,7 +59,7 @@ impl Model for Made {
 }
 
 /// How many body rows a page of the paper has.
-fn rows_on(paper: Paper) -> u32
+pub fn rows_on(paper: Paper) -> u32
     ensures { result ≡ rows_on paper }
 {
     match paper {
@@ -91,24 +94,6 @@ fn title_pages(alloc: Global, titles: &Body, paper: Paper) -> Result<Pages, Allo
     let mut fills = Counter::new();
     let none: &[usize] = &[];
     Pages::new(alloc, titles.shapes(), none, rows_on(paper), &mut fills)
-}
-
-/// The first rows of the pages of a body with these page breaks and these first rows of page records.
-fn body_pages<S: Steps>(
-    alloc: Global,
-    body: &Body,
-    breaks: &[usize],
-    starts: &[usize],
-    paper: Paper,
-    steps: &mut S,
-) -> Result<Pages, AllocError>
-    requires breaks { All (λ (stop : ℕ). stop ≤ row_count body.now.elements) breaks.now }
-    requires starts { All (λ (stop : ℕ). stop ≤ row_count body.now.elements) starts.now }
-    ensures starts { IfOk result (λ pages. pages.starts ≡ page_starts (rows_on paper) (shapes_in body.now.elements) (breaks.now ++ starts.now)) }
-    ensures reads { S.reads steps.new ≡ S.reads steps.old }
-{
-    let stops = merged_stops(alloc, breaks, starts)?;
-    Pages::new(alloc, body.shapes(), &stops, rows_on(paper), steps)
 }
 
 /// The first rows of page records; none where pages aren't locked.
@@ -158,23 +143,22 @@ fn sheets_of_pages(
     }
 }
 
-/// The sheets of a body laid out.
-fn made_sheets<S: Steps>(
+/// The sheets of a body laid out, on these pages.
+fn made_sheets(
     alloc: Global,
     lines: &Lines,
     records: &Records,
     layout: &Layout,
-    steps: &mut S,
+    pages: &[usize],
 ) -> Result<Vec<Sheet>, AllocError>
     requires whole { IsWhole (state_of (text_of lines.now) records.now) }
     requires layout { layout.now ≡ keyed lines.now.lines (layout_in (state_of (text_of lines.now) records.now)) }
-    ensures sheets { IfOk result (λ made. made.items ≡ body_sheets (state_of (text_of lines.now) records.now)) }
-    ensures reads { S.reads steps.new ≡ S.reads steps.old }
+    requires pages { pages.now ≡ pages_of (state_of (text_of lines.now) records.now) }
+    ensures { IfOk result (λ made. made.items ≡ body_sheets (state_of (text_of lines.now) records.now)) }
 {
     let body = &layout.body;
     let firsts = record_starts(alloc, lines, body.keys(), &records.pages)?;
-    let pages = body_pages(alloc, body, &layout.breaks, &firsts, records.paper, steps)?;
-    sheets_of_pages(alloc, body, &records.pages, &firsts, pages.starts())
+    sheets_of_pages(alloc, body, &records.pages, &firsts, pages)
 }
 
 /// The elements of a state laid out, and the labels of its headings where scenes are locked.
@@ -208,23 +192,66 @@ pub fn lay(
     Ok(Laid { layout, labels })
 }
 
-/// What is made of a state whose text is laid out. Each page of the body is filled once. `AllocError` comes for want of
-/// memory alone.
-pub fn make_of<S: Steps>(
+/// The stops of a state whose text is laid out (docs/RULES.md, "Pages"). `AllocError` comes for want of memory alone.
+pub fn laid_stops(
+    alloc: Global,
+    lines: &Lines,
+    records: &Records,
+    laid: &Laid,
+) -> Result<Vec<usize>, AllocError>
+    requires whole { IsWhole (state_of (text_of lines.now) records.now) }
+    requires laid { IsLaidOf (state_of (text_of lines.now) records.now) laid.now }
+    ensures { IfOk result (λ stops. AreStopsOf (state_of (text_of lines.now) records.now) stops.items) }
+{
+    let layout = &laid.layout;
+    let firsts = record_starts(alloc, lines, layout.body.keys(), &records.pages)?;
+    merged_stops(alloc, &layout.breaks, &firsts)
+}
+
+/// The first rows of the pages of a state whose text is laid out. Each page of the body is filled once. `AllocError` comes
+/// for want of memory alone.
+pub fn make_pages<S: Steps>(
+    alloc: Global,
+    lines: &Lines,
+    records: &Records,
+    laid: &Laid,
+    steps: &mut S,
+) -> Result<Pages, AllocError>
+    requires whole { IsWhole (state_of (text_of lines.now) records.now) }
+    requires laid { IsLaidOf (state_of (text_of lines.now) records.now) laid.now }
+    ensures pages { IfOk result (λ pages. pages.starts ≡ pages_of (state_of (text_of lines.now) records.now)) }
+    ensures fills { OnOk result (S.fills steps.new ≡ many_more (S.fills steps.old) (length (pages_of (state_of (text_of lines.now) records.now)))) }
+    ensures at_most { FilledAtMost (S.fills steps.old) (S.fills steps.new) (length (pages_of (state_of (text_of lines.now) records.now))) }
+    ensures reads { S.reads steps.new ≡ S.reads steps.old }
+{
+    let stops = laid_stops(alloc, lines, records, laid)?;
+    let layout = &laid.layout;
+    Pages::new(
+        alloc,
+        layout.body.shapes(),
+        &stops,
+        rows_on(records.paper),
+        steps,
+    )
+}
+
+/// What is made of a state whose text is laid out, with the first rows of its pages. It fills no page of the body.
+/// `AllocError` comes for want of memory alone.
+pub fn make_of(
     alloc: Global,
     lines: &Lines,
     records: &Records,
     laid: Laid,
-    steps: &mut S,
+    pages: &Pages,
 ) -> Result<Made, AllocError>
     requires whole { IsWhole (state_of (text_of lines.now) records.now) }
     requires laid { IsLaidOf (state_of (text_of lines.now) records.now) laid }
-    ensures made { IfOk result (IsMadeOf (state_of (text_of lines.now) records.now)) }
-    ensures reads { S.reads steps.new ≡ S.reads steps.old }
+    requires pages { pages.now.starts ≡ pages_of (state_of (text_of lines.now) records.now) }
+    ensures { IfOk result (IsMadeOf (state_of (text_of lines.now) records.now)) }
 {
     let Laid { layout, labels } = laid;
     let title_pages = title_pages(alloc, &layout.titles, records.paper)?;
-    let sheets = made_sheets(alloc, lines, records, &layout, steps)?;
+    let sheets = made_sheets(alloc, lines, records, &layout, pages.starts())?;
     let Layout { titles, body, .. } = layout;
     Ok(Made {
         titles,
@@ -235,20 +262,25 @@ pub fn make_of<S: Steps>(
     })
 }
 
-/// What is made of a state and its stanzas. Each page of the body is filled once. `AllocError` comes for want of memory
-/// alone.
+/// What is made of a state and its stanzas, and the first rows of its pages. Each page of the body is filled once.
+/// `AllocError` comes for want of memory alone.
 pub fn make<S: Steps>(
     alloc: Global,
     lines: &Lines,
     stanzas: &Stanzas,
     records: &Records,
     steps: &mut S,
-) -> Result<Made, AllocError>
+) -> Result<(Made, Pages), AllocError>
     requires stanzas { stanzas.now.stanzas ≡ text_stanzas (text_of lines.now) }
     requires whole { IsWhole (state_of (text_of lines.now) records.now) }
-    ensures made { IfOk result (IsMadeOf (state_of (text_of lines.now) records.now)) }
+    ensures made { IfOk result (λ it. IsMadeOf (state_of (text_of lines.now) records.now) it.0) }
+    ensures pages { IfOk result (λ it. it.1.starts ≡ pages_of (state_of (text_of lines.now) records.now)) }
+    ensures fills { OnOk result (S.fills steps.new ≡ many_more (S.fills steps.old) (length (pages_of (state_of (text_of lines.now) records.now)))) }
+    ensures at_most { FilledAtMost (S.fills steps.old) (S.fills steps.new) (length (pages_of (state_of (text_of lines.now) records.now))) }
     ensures reads { S.reads steps.new ≡ S.reads steps.old }
 {
     let laid = lay(alloc, lines, stanzas, records)?;
-    make_of(alloc, lines, records, laid, steps)
+    let pages = make_pages(alloc, lines, records, &laid, steps)?;
+    let made = make_of(alloc, lines, records, laid, &pages)?;
+    Ok((made, pages))
 }

@@ -38,7 +38,7 @@ use Rattle.spec_state.proofs.StateLaws.{state-AreAnchored, state-AreStarts}
 use Rattle.sp_layout.specs.Bodies.{BodyOf, row_count}
 use Rattle.sp_compare.specs.BareRows.{AreLaid, Both}
 use Rattle.sp_exchange.specs.Restoring.{CanRestoreText}
-use Rattle.sp_state.specs.Entries.{EntryState, FitRecords, LeadsBack, displaced, undone_records, with_text}
+use Rattle.sp_state.specs.TextEntries.{TextEntryState, FitRecords, LeadsTextBack, displaced, undone_records, with_text}
 use Rattle.sp_made.specs.Made.{key_starts}
 use Rattle.sp_state.specs.Raised.{AreCarried, AreSegments, CanCarry, FitPages, put_back_in, raises, raises_in, records_carried, records_raised, state_before, with_pages}
 use Rattle.sp_made.proofs.MadeLaws.{count-rows}
@@ -330,9 +330,9 @@ second-fits : (raised moved : List Moved) (pages : Option (List PageRecordOf)) �
 second-fits raised moved None fits = tt
 second-fits raised moved (Some records) fits = fits
 
-pub leads-back : (old text : TextState) (records after : RecordsOf) (entry : EntryState) → CanRestoreText text entry.lines entry.stanzas → restored text (displaced entry) ≡ old
+pub leads-back : (old text : TextState) (records after : RecordsOf) (entry : TextEntryState) → CanRestoreText text entry.lines entry.stanzas → restored text (displaced entry) ≡ old
     → FitPages after entry.raised → FitPages (put_back_in entry.raised after) entry.moved → put_back_in entry.moved (put_back_in entry.raised after) ≡ records
-    → LeadsBack (state_of old records) (state_of text after) entry
+    → LeadsTextBack (state_of old records) (state_of text after) entry
 leads-back old text records after entry can leads fit_raised fit_moved back = record {
   can = record { text = can; first_fits = fit_raised; second_fits = second-fits entry.raised entry.moved after.pages fit_moved };
   back = ap (λ (t : TextState). with_text (state_of text after) t (option_map (undone_records entry) after.pages)) leads

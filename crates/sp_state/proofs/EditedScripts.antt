@@ -5,11 +5,11 @@ use Rattle.spec_text.specs.Edits.{EditOf, Displacement, displaced_by, refusal_of
 use Rattle.spec_text.specs.Ranges.{RangeOf, range_of}
 use Rattle.spec_text.proofs.ExchangeLaws.{length-stretch}
 use Rattle.spec_text.proofs.TakenEdits.{taken-inside}
-use Rattle.sp_state.specs.Entries.{EntryState, displaced, done_range}
+use Rattle.sp_state.specs.TextEntries.{TextEntryState, displaced, done_lines}
 
 -- The range of an entry is that of its edit.
-pub edited-range : (text : TextState) (edit : EditOf) (entry : EntryState) → refusal_of text edit ≡ None → displaced entry ≡ displaced_by text (replacement_of text.lines edit)
-    → done_range entry ≡ range_of (replacement_of text.lines edit)
+pub edited-range : (text : TextState) (edit : EditOf) (entry : TextEntryState) → refusal_of text edit ≡ None → displaced entry ≡ displaced_by text (replacement_of text.lines edit)
+    → done_lines entry ≡ range_of (replacement_of text.lines edit)
 edited-range text edit entry taken is =
     let it = replacement_of text.lines edit in
     ap (λ (d : Displacement). let range : RangeOf = record { first = d.first; old = length d.lines; new = d.stands } in range) is

@@ -1,5 +1,8 @@
 mod RaisedLaws
 mod CarriedLaws
-pub mod EntryLaws
+pub mod TextEntryLaws
 mod EditedScripts
 mod OpeningMade
+pub mod EntryLaws
+mod RefilledLaws
+mod OpeningPages

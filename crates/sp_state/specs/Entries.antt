@@ -1,67 +1,43 @@
--- What an edit displaced, and the states that it leads to (docs/RULES.md, "The desk").
-use Rattle.std.specs.Prelude.{◌≡◌, ◌≢◌, ◌<◌, List, length, map, All, AllPairs, Option, Some, None, option_map, IfSome}
-use Rattle.spec_text.specs.Lines.{TextState}
-use Rattle.spec_text.specs.Edits.{Displacement, restored}
+-- The entry of an edit, and the states that it leads to (docs/RULES.md, "The desk").
+use Rattle.std.specs.Prelude.{◌≡◌}
 use Rattle.spec_text.specs.Ranges.{RangeOf}
-use Rattle.spec_labels.specs.declared.Moved.{Moved}
-use Rattle.spec_labels.specs.PageRecords.{PageRecordOf, put_back_records, taken_back}
-use Rattle.spec_state.specs.State.{State, text_of}
-use Rattle.sp_text.specs.DisplacedLines.{DisplacedState, displaced_of}
-use Rattle.sp_text.specs.Gap.{LinesState}
-use Rattle.sp_reread.specs.Cache.{StanzasState, SwappedState}
-use Rattle.sp_exchange.specs.Restoring.{CanRestoreText, HasRoomFor, IsSameText, IsTurned}
+use Rattle.spec_state.specs.State.{State}
+use Rattle.spec_locked_pages.specs.Segments.{pages_of}
+use Rattle.sp_reflow.specs.Starts.{Taken}
+use Rattle.sp_reflow.specs.Updates.{CanPutBack, taken_of, with_taken}
+use Rattle.sp_state.specs.TextEntries.{TextEntryState, CanRedoText, CanUndoText, IsSameTextEntry, done_lines, redone_text, undone_lines, undone_text}
 
--- What an edit displaced: lines, stanzas, the anchors of page records that it carried, and the rounds of those that it raised.
--- Carrying comes first, so it is undone last.
+-- What an edit displaced of the text and of the page records, and first rows of pages.
 pub record EntryState : Type 0 where
-  pub lines : DisplacedState
-  pub stanzas : SwappedState
-  pub moved : List Moved
-  pub raised : List Moved
-
-abbrev pub displaced : EntryState → Displacement
-displaced entry = displaced_of entry.lines
-
-abbrev pub undone_records : EntryState → List PageRecordOf → List PageRecordOf
-undone_records entry records = put_back_records entry.moved (put_back_records entry.raised records)
-
-abbrev pub redone_records : EntryState → List PageRecordOf → List PageRecordOf
-redone_records entry records = put_back_records entry.raised (put_back_records entry.moved records)
-
--- A state with other lines and page records.
-abbrev pub with_text : State → TextState → Option (List PageRecordOf) → State
-with_text state text pages = record state { lines = text.lines; next = text.next; pages = pages }
+  pub text : TextEntryState
+  pub pages : Taken
 
 -- The state that undoing an entry, or redoing it, leads to.
 abbrev pub undone_state : State → EntryState → State
-undone_state state entry = with_text state (restored (text_of state) (displaced entry)) (option_map (undone_records entry) state.pages)
+undone_state state entry = undone_text state entry.text
 
 abbrev pub redone_state : State → EntryState → State
-redone_state state entry = with_text state (restored (text_of state) (displaced entry)) (option_map (redone_records entry) state.pages)
+redone_state state entry = redone_text state entry.text
 
 -- The range of the edit whose entry this is, where it can be undone, or redone.
 abbrev pub done_range : EntryState → RangeOf
-done_range entry = record { first = entry.lines.first; old = length entry.lines.lines; new = entry.lines.stands }
+done_range entry = done_lines entry.text
 
 abbrev pub undone_range : EntryState → RangeOf
-undone_range entry = record { first = entry.lines.first; old = entry.lines.stands; new = length entry.lines.lines }
+undone_range entry = undone_lines entry.text
 
--- Anchors and rounds are kept for records that are there, one for each at most.
-pub record FitRecords (moved : List Moved) (records : List PageRecordOf) : Type 0 where
-  pub within : All (λ (it : Moved). it.index < length records) moved
-  pub distinct : AllPairs (λ (one other : Moved). one.index ≢ other.index) moved
+-- The first rows of pages of one state can be put back, and then they are those of the other.
+pub record PagesLead (state other : State) (pages : Taken) : Type 0 where
+  pub can : CanPutBack (pages_of state) pages
+  pub are : with_taken (pages_of state) pages ≡ pages_of other
 
--- The lines and their stanzas can be put back, and so can two lists of anchors and rounds, one after the other.
-pub record CanRestore (state : State) (entry : EntryState) (first second : List Moved) : Type 0 where
-  pub text : CanRestoreText (text_of state) entry.lines entry.stanzas
-  pub first_fits : IfSome state.pages (FitRecords first)
-  pub second_fits : IfSome state.pages (λ records. FitRecords second (put_back_records first records))
+pub record CanUndo (state : State) (entry : EntryState) : Type 0 where
+  pub text : CanUndoText state entry.text
+  pub pages : PagesLead state (undone_state state entry) entry.pages
 
-abbrev pub CanUndo : State → EntryState → Type 0
-CanUndo state entry = CanRestore state entry entry.raised entry.moved
-
-abbrev pub CanRedo : State → EntryState → Type 0
-CanRedo state entry = CanRestore state entry entry.moved entry.raised
+pub record CanRedo (state : State) (entry : EntryState) : Type 0 where
+  pub text : CanRedoText state entry.text
+  pub pages : PagesLead state (redone_state state entry) entry.pages
 
 -- The entry of an edit that led from one state to another: it can be undone, and that leads back.
 pub record LeadsBack (before after : State) (entry : EntryState) : Type 0 where
@@ -73,29 +49,7 @@ pub record LeadsForth (before after : State) (entry : EntryState) : Type 0 where
   pub can : CanRedo after entry
   pub forth : redone_state after entry ≡ before
 
--- What page records had for which something was kept. Where pages aren't locked nothing is put back.
-abbrev pub had_by : Option (List PageRecordOf) → List Moved → List Moved
-had_by None moved = moved
-had_by (Some records) moved = map (taken_back records) moved
-
--- The entry that undoing another leaves: what stood in the place of what it put back.
-pub record IsUndone (state : State) (entry other : EntryState) : Type 0 where
-  pub text : IsTurned (text_of state) entry.lines entry.stanzas other.lines other.stanzas
-  pub raised : other.raised ≡ had_by state.pages entry.raised
-  pub moved : other.moved ≡ had_by (option_map (put_back_records entry.raised) state.pages) entry.moved
-
--- The entry that redoing another leaves.
-pub record IsRedone (state : State) (entry other : EntryState) : Type 0 where
-  pub text : IsTurned (text_of state) entry.lines entry.stanzas other.lines other.stanzas
-  pub moved : other.moved ≡ had_by state.pages entry.moved
-  pub raised : other.raised ≡ had_by (option_map (put_back_records entry.moved) state.pages) entry.raised
-
--- Lines, stanzas and an entry have room for what its turning puts into them.
-abbrev pub HasRoom : LinesState → StanzasState → EntryState → Type 0
-HasRoom lines stanzas entry = HasRoomFor lines stanzas entry.lines entry.stanzas
-
 -- The same entry; its vectors may have other room.
 pub record IsSameEntry (one other : EntryState) : Type 0 where
-  pub text : IsSameText one.lines one.stanzas other.lines other.stanzas
-  pub moved : one.moved ≡ other.moved
-  pub raised : one.raised ≡ other.raised
+  pub text : IsSameTextEntry one.text other.text
+  pub pages : taken_of one.pages ≡ taken_of other.pages

@@ -1,3 +1,4 @@
+pub mod TextEntries
 pub mod Entries
 pub mod Raised
 pub mod Openings

@@ -9,7 +9,9 @@ mod fault;
 mod locking;
 mod raising;
 mod script;
+mod text_entry;
+mod turning;
 
-pub use entry::{Entry, Unturned, redo_entry, undo_entry};
+pub use entry::{Entry, Unturned};
 pub use fault::OpeningFault;
 pub use script::Script;

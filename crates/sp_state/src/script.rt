@@ -8,6 +8,9 @@ ghost use Rattle.spec_state.specs.State.{opened_state, text_of as state_text};
 ghost use Rattle.spec_state.specs.Changes.{edited_state};
 ghost use Rattle.spec_state.specs.Openings.{pages_locked, round_begun, scenes_locked};
 ghost use Rattle.spec_machine.specs.Refusals.{pages_refusal, round_refusal, scenes_refusal};
+ghost use Rattle.spec_locked_pages.specs.Segments.{pages_of};
+ghost use Rattle.sp_reflow.specs.Filling.{FilledAtMost};
+ghost use Rattle.sp_reflow.specs.Starts.{many_more};
 ghost use Rattle.sp_text.specs.Changing.{Refuses, edit_of};
 ghost use Rattle.spec_state.specs.Keeping.{IsWhole, records_of, state_of};
 ghost use Rattle.sp_text.specs.Gap.{text_of};
@@ -30,6 +33,7 @@ use sp_made::{
 };
 use sp_print::PageView;
 use sp_records::Records;
+use sp_reflow::Pages;
 use sp_reread::Stanzas;
 use sp_text::{Edit, EditFault, Lines};
 use spec_pages::{Paper, Shape};
@@ -43,6 +47,7 @@ pub struct Script {
     lines: Lines,
     stanzas: Stanzas,
     records: Records,
+    pages: Pages,
     made: Made,
 }
 
@@ -52,13 +57,14 @@ impl Model for Script {
     ghost use Rattle.spec_state.specs.State.{State};
     ghost use Rattle.spec_state.specs.Keeping.{IsWhole, state_of};
     ghost use Rattle.sp_exchange.specs.Restoring.{text_stanzas};
+    ghost use Rattle.spec_locked_pages.specs.Segments.{pages_of};
     ghost use Rattle.sp_made.specs.Made.{IsMadeOf};
 
     ghost Value = { State };
 
     ghost view = { λ s. state_of (text_of s.lines) s.records };
 
-    ghost invariant = { λ s. IsWhole (state_of (text_of s.lines) s.records) × IsMadeOf (state_of (text_of s.lines) s.records) s.made × (s.stanzas.stanzas ≡ text_stanzas (text_of s.lines)) };
+    ghost invariant = { λ s. IsWhole (state_of (text_of s.lines) s.records) × IsMadeOf (state_of (text_of s.lines) s.records) s.made × (s.stanzas.stanzas ≡ text_stanzas (text_of s.lines)) × (s.pages.starts ≡ pages_of (state_of (text_of s.lines) s.records)) };
 }
 
 impl Script {
@@ -70,6 +76,8 @@ impl Script {
         ensures state { IfOk result (λ script. script ≡ opened_state (line_texts lines.lines)) }
         ensures reads { OnOk result (S.reads steps.new ≡ counted_on (length (stanzas_of (line_texts lines.lines))) (S.reads steps.old)) }
         ensures at_most { RisesWithin (length (stanzas_of (line_texts lines.lines))) (S.reads steps.old) (S.reads steps.new) }
+        ensures fills { OnOk result (S.fills steps.new ≡ many_more (S.fills steps.old) (length (pages_of (opened_state (line_texts lines.lines))))) }
+        ensures fills_at_most { FilledAtMost (S.fills steps.old) (S.fills steps.new) (length (pages_of (opened_state (line_texts lines.lines)))) }
     {
         let _count = lines.len();
         Script::open(alloc, lines, Records::none(), steps)
@@ -87,13 +95,16 @@ impl Script {
         ensures state { IfOk result (λ script. script ≡ state_of (text_of lines) records) }
         ensures reads { OnOk result (S.reads steps.new ≡ counted_on (length (stanzas_of (line_texts lines.lines))) (S.reads steps.old)) }
         ensures at_most { RisesWithin (length (stanzas_of (line_texts lines.lines))) (S.reads steps.old) (S.reads steps.new) }
+        ensures fills { OnOk result (S.fills steps.new ≡ many_more (S.fills steps.old) (length (pages_of (state_of (text_of lines) records)))) }
+        ensures fills_at_most { FilledAtMost (S.fills steps.old) (S.fills steps.new) (length (pages_of (state_of (text_of lines) records))) }
     {
         let stanzas = Stanzas::new(alloc, &lines, steps)?;
-        let made = make(alloc, &lines, &stanzas, &records, steps)?;
+        let (made, pages) = make(alloc, &lines, &stanzas, &records, steps)?;
         Ok(Script {
             lines,
             stanzas,
             records,
+            pages,
             made,
         })
     }
@@ -186,6 +197,7 @@ impl Script {
             &mut self.lines,
             &mut self.stanzas,
             &mut self.records,
+            &mut self.pages,
             &self.made,
             edit,
             steps,
@@ -194,14 +206,9 @@ impl Script {
         Ok(entry)
     }
 
-    /// Undoes an edit by its entry, and answers the entry that does it again. No stanza is read; all else is made anew. On an
+    /// Undoes an edit by its entry, and answers the entry that does it again. No stanza is read and no page filled; rows and sheets are made anew. On an
     /// error there was no memory, nothing is changed, and the entry is handed back (docs/RULES.md, "The desk").
-    pub fn undo<S: Steps>(
-        &mut self,
-        alloc: Global,
-        entry: Entry,
-        steps: &mut S,
-    ) -> Result<Entry, Unturned>
+    pub fn undo(&mut self, alloc: Global, entry: Entry) -> Result<Entry, Unturned>
         requires can { CanUndo self.old entry }
         requires whole { IsWhole (undone_state self.old entry) }
         ensures whole { IsWhole self.old }
@@ -210,28 +217,22 @@ impl Script {
         ensures range { IfOk result (λ it. undone_range it ≡ done_range entry) }
         ensures same { OnErr result (self.new ≡ self.old) }
         ensures handed_back { IfErr result (λ error. IsSameEntry error.back entry) }
-        ensures reads { S.reads steps.new ≡ S.reads steps.old }
     {
         let (other, made) = undo_made(
             alloc,
             &mut self.lines,
             &mut self.stanzas,
             &mut self.records,
+            &mut self.pages,
             entry,
-            steps,
         )?;
         self.made = made;
         Ok(other)
     }
 
-    /// Does an edit again by the entry that undoing it left, and answers the entry that undoes it. No stanza is read;
-    /// all else is made anew. On an error there was no memory, nothing is changed, and the entry is handed back (docs/RULES.md, "The desk").
-    pub fn redo<S: Steps>(
-        &mut self,
-        alloc: Global,
-        entry: Entry,
-        steps: &mut S,
-    ) -> Result<Entry, Unturned>
+    /// Does an edit again by the entry that undoing it left, and answers the entry that undoes it. No stanza is read
+    /// and no page filled; rows and sheets are made anew. On an error there was no memory, nothing is changed, and the entry is handed back (docs/RULES.md, "The desk").
+    pub fn redo(&mut self, alloc: Global, entry: Entry) -> Result<Entry, Unturned>
         requires can { CanRedo self.old entry }
         requires whole { IsWhole (redone_state self.old entry) }
         ensures whole { IsWhole self.old }
@@ -240,39 +241,32 @@ impl Script {
         ensures range { IfOk result (λ it. done_range it ≡ undone_range entry) }
         ensures same { OnErr result (self.new ≡ self.old) }
         ensures handed_back { IfErr result (λ error. IsSameEntry error.back entry) }
-        ensures reads { S.reads steps.new ≡ S.reads steps.old }
     {
         let (other, made) = redo_made(
             alloc,
             &mut self.lines,
             &mut self.stanzas,
             &mut self.records,
+            &mut self.pages,
             entry,
-            steps,
         )?;
         self.made = made;
         Ok(other)
     }
 
-    /// Sets whether a cue says that its speaker goes on. No stanza is read; all else is made anew. On an error there was no memory, and nothing
-    /// is changed (docs/RULES.md, "The desk").
-    pub fn set_speakers<S: Steps>(
-        &mut self,
-        alloc: Global,
-        on: bool,
-        steps: &mut S,
-    ) -> Result<(), AllocError>
+    /// Sets whether a cue says that its speaker goes on. No stanza is read and no page filled; rows and sheets are made anew.
+    /// On an error there was no memory, and nothing is changed (docs/RULES.md, "The desk").
+    pub fn set_speakers(&mut self, alloc: Global, on: bool) -> Result<(), AllocError>
         ensures state { OnOk result (self.new ≡ record self.old { speakers = on }) }
         ensures same { OnErr result (self.new ≡ self.old) }
-        ensures reads { S.reads steps.new ≡ S.reads steps.old }
     {
         let made = made_with_speakers(
             alloc,
             &self.lines,
             &self.stanzas,
             &mut self.records,
+            &self.pages,
             on,
-            steps,
         )?;
         self.made = made;
         Ok(())
@@ -289,8 +283,9 @@ impl Script {
         ensures state { OnOk result (self.new ≡ record self.old { paper = paper }) }
         ensures same { OnErr result (self.new ≡ self.old) }
         ensures reads { S.reads steps.new ≡ S.reads steps.old }
+        ensures fills { FilledAtMost (S.fills steps.old) (S.fills steps.new) (length (pages_of (record self.old { paper = paper }))) }
     {
-        let made = made_on(
+        let (made, pages) = made_on(
             alloc,
             &self.lines,
             &self.stanzas,
@@ -299,6 +294,7 @@ impl Script {
             steps,
         )?;
         self.made = made;
+        self.pages = pages;
         Ok(())
     }
 

@@ -15,8 +15,8 @@ use Rattle.sp_layout.specs.LaidOut.{LayoutOf}
 use Rattle.sp_made.specs.Made.{LaidOf}
 use Rattle.sp_made.proofs.made.make_of.Goals as goal
 
-pub returns-clause-made : goal.returns-clause-made
-returns-clause-made g c =
+pub returns : goal.returns
+returns c =
     let state : State = state_of (text_of c.args.lines.now) c.args.records.now in
     let laid = c.layout.view_is ∙ ap (λ (l : LaidOf). l.layout) c.laid.view_is ∙ c.requires.laid.layout in
     let titles : c.layout.inside.titles.elements ≡ (layout_in state).titles = ap (λ (l : LayoutOf). l.titles.elements) laid in
@@ -29,5 +29,5 @@ returns-clause-made g c =
           ∙ ap (λ (paper : Paper). page_starts (rows_on paper) (shapes_in c.layout.inside.titles.elements) []) (ap (λ (records : RecordsOf). records.paper) c.records.view_is)
           ∙ ap (λ (elements : List ElementOf). page_starts (rows_on state.paper) (shapes_in elements) []) titles
           ∙ ap (λ (shapes : List Shape). page_starts (rows_on state.paper) shapes []) (sym (shown_rows-shapes state.lines None (layout_in state).titles));
-      sheets = c.in_ok-sheets.ensures.sheets;
+      sheets = c.in_ok-sheets.ensures;
     }

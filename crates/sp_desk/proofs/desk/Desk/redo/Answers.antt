@@ -8,22 +8,21 @@ use Rattle.sp_desk.specs.Memories.{memory_by}
 use Rattle.sp_desk.specs.Answers.{step_to}
 use Rattle.sp_desk.proofs.DeskSteps.{IsStep, IsSameDesk, CanTurn, can-redo, redone-step, redo-back}
 use Rattle.sp_state.proofs.EntryLaws.{same-redone_state, same-undone_range, same-CanRedo}
-use Rattle.sp_desk.proofs.desk.Desk.redo.Given.{Over}
 use Rattle.sp_desk.proofs.desk.Desk.redo.Goals as goal
 
-can : (g : Over) (c : goal.After-redo-arg-2-1 g) → CanTurn CanRedo redone_state c.self.inside.script c.in-Some.entry
-can g c =
+can : (c : goal.After-redo-arg-1) → CanTurn CanRedo redone_state c.self.inside.script c.in-Some.entry
+can c =
     can-redo c.self.inside.script c.self.inside.journal.done c.self.inside.journal.undone c.take_undone.new.self.undone c.in-Some.entry c.self.invariant
     (sym (ap (λ (j : Entries EntryState). j.undone) c.reserve_one.ensures.entries) ∙ c.in-Some.ensures.some)
 
 pub redo-requires-clause-can : goal.redo-requires-clause-can
-redo-requires-clause-can g c = (can g c).can
+redo-requires-clause-can c = (can c).can
 
 pub redo-requires-clause-whole : goal.redo-requires-clause-whole
-redo-requires-clause-whole g c = (can g c).whole
+redo-requires-clause-whole c = (can c).whole
 
-stepped : (g : Over) (c : goal.After-edited_reply g) → IsStep (memory_by c.self.inside.script c.self.inside.journal.done c.self.inside.journal.undone) commands.redo c.redo.new.self c.keep_done.new.self.done c.keep_done.new.self.undone
-stepped g c =
+stepped : (c : goal.After-edited_reply) → IsStep (memory_by c.self.inside.script c.self.inside.journal.done c.self.inside.journal.undone) commands.redo c.redo.new.self c.keep_done.new.self.done c.keep_done.new.self.undone
+stepped c =
     let done : c.take_undone.new.self.done ≡ c.self.inside.journal.done =
     ap (λ (j : Entries EntryState). j.done) c.in-Some.ensures.some_leaves ∙ ap (λ (j : Entries EntryState). j.done) c.reserve_one.ensures.entries in
     redone-step c.self.inside.script c.redo.new.self c.self.inside.journal.done c.self.inside.journal.undone c.take_undone.new.self.undone c.keep_done.new.self.done c.keep_done.new.self.undone c.in-Some.entry c.in-Ok.again
@@ -33,15 +32,15 @@ stepped g c =
     (ap (λ (j : Entries EntryState). j.done) c.keep_done.ensures ∙ ap (λ es. es ++ c.in-Ok.again ∷ []) done)
 
 pub invariant_of-self-in-Ok : goal.invariant_of-self-in-Ok
-invariant_of-self-in-Ok g c = (stepped g c).desk
+invariant_of-self-in-Ok c = (stepped c).desk
 
 pub returns-in-Ok-clause-step : goal.returns-in-Ok-clause-step
-returns-in-Ok-clause-step g c =
-    ap (step_to (memory_by c.redo.new.self c.keep_done.new.self.done c.keep_done.new.self.undone)) c.edited_reply.ensures.reply ∙ (stepped g c).step
+returns-in-Ok-clause-step c =
+    ap (step_to (memory_by c.redo.new.self c.keep_done.new.self.done c.keep_done.new.self.undone)) c.edited_reply.ensures.reply ∙ (stepped c).step
     ∙ ap (λ (m : Memory). step_of m commands.redo) c.self.view_is
 
-back : (g : Over) (c : goal.After-keep_undone g) → IsSameDesk (memory_by c.self.inside.script c.self.inside.journal.done c.self.inside.journal.undone) c.redo.new.self c.keep_undone.new.self.done c.keep_undone.new.self.undone
-back g c =
+back : (c : goal.After-keep_undone) → IsSameDesk (memory_by c.self.inside.script c.self.inside.journal.done c.self.inside.journal.undone) c.redo.new.self c.keep_undone.new.self.done c.keep_undone.new.self.undone
+back c =
     let last = sym (ap (λ (j : Entries EntryState). j.undone) c.reserve_one.ensures.entries) ∙ c.in-Some.ensures.some in
     let done : c.take_undone.new.self.done ≡ c.self.inside.journal.done =
     ap (λ (j : Entries EntryState). j.done) c.in-Some.ensures.some_leaves ∙ ap (λ (j : Entries EntryState). j.done) c.reserve_one.ensures.entries in
@@ -53,7 +52,7 @@ back g c =
     (ap (λ (j : Entries EntryState). j.done) c.keep_undone.ensures ∙ done)
 
 pub invariant_of-self-in-Err : goal.invariant_of-self-in-Err
-invariant_of-self-in-Err g c = (back g c).desk
+invariant_of-self-in-Err c = (back c).desk
 
 pub returns-in-Err-clause-step : goal.returns-in-Err-clause-step
-returns-in-Err-clause-step g c = (back g c).same ∙ c.self.view_is
+returns-in-Err-clause-step c = (back c).same ∙ c.self.view_is

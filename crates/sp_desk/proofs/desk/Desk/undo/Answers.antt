@@ -8,22 +8,21 @@ use Rattle.sp_desk.specs.Memories.{memory_by}
 use Rattle.sp_desk.specs.Answers.{step_to}
 use Rattle.sp_desk.proofs.DeskSteps.{IsStep, IsSameDesk, CanTurn, can-undo, undone-step, undo-back}
 use Rattle.sp_state.proofs.EntryLaws.{same-undone_state, same-done_range, same-CanUndo}
-use Rattle.sp_desk.proofs.desk.Desk.undo.Given.{Over}
 use Rattle.sp_desk.proofs.desk.Desk.undo.Goals as goal
 
-can : (g : Over) (c : goal.After-undo-arg-2-1 g) → CanTurn CanUndo undone_state c.self.inside.script c.in-Some.entry
-can g c =
+can : (c : goal.After-undo-arg-1) → CanTurn CanUndo undone_state c.self.inside.script c.in-Some.entry
+can c =
     can-undo c.self.inside.script c.self.inside.journal.done c.self.inside.journal.undone c.take_done.new.self.done c.in-Some.entry c.self.invariant
     (sym (ap (λ (j : Entries EntryState). j.done) c.reserve_one.ensures.entries) ∙ c.in-Some.ensures.some)
 
 pub undo-requires-clause-can : goal.undo-requires-clause-can
-undo-requires-clause-can g c = (can g c).can
+undo-requires-clause-can c = (can c).can
 
 pub undo-requires-clause-whole : goal.undo-requires-clause-whole
-undo-requires-clause-whole g c = (can g c).whole
+undo-requires-clause-whole c = (can c).whole
 
-stepped : (g : Over) (c : goal.After-edited_reply g) → IsStep (memory_by c.self.inside.script c.self.inside.journal.done c.self.inside.journal.undone) commands.undo c.undo.new.self c.keep_undone.new.self.done c.keep_undone.new.self.undone
-stepped g c =
+stepped : (c : goal.After-edited_reply) → IsStep (memory_by c.self.inside.script c.self.inside.journal.done c.self.inside.journal.undone) commands.undo c.undo.new.self c.keep_undone.new.self.done c.keep_undone.new.self.undone
+stepped c =
     let undone : c.take_done.new.self.undone ≡ c.self.inside.journal.undone =
     ap (λ (j : Entries EntryState). j.undone) c.in-Some.ensures.some_leaves ∙ ap (λ (j : Entries EntryState). j.undone) c.reserve_one.ensures.entries in
     undone-step c.self.inside.script c.undo.new.self c.self.inside.journal.done c.self.inside.journal.undone c.take_done.new.self.done c.keep_undone.new.self.done c.keep_undone.new.self.undone c.in-Some.entry c.in-Ok.again
@@ -33,15 +32,15 @@ stepped g c =
     (ap (λ (j : Entries EntryState). j.undone) c.keep_undone.ensures ∙ ap (λ es. es ++ c.in-Ok.again ∷ []) undone)
 
 pub invariant_of-self-in-Ok : goal.invariant_of-self-in-Ok
-invariant_of-self-in-Ok g c = (stepped g c).desk
+invariant_of-self-in-Ok c = (stepped c).desk
 
 pub returns-in-Ok-clause-step : goal.returns-in-Ok-clause-step
-returns-in-Ok-clause-step g c =
-    ap (step_to (memory_by c.undo.new.self c.keep_undone.new.self.done c.keep_undone.new.self.undone)) c.edited_reply.ensures.reply ∙ (stepped g c).step
+returns-in-Ok-clause-step c =
+    ap (step_to (memory_by c.undo.new.self c.keep_undone.new.self.done c.keep_undone.new.self.undone)) c.edited_reply.ensures.reply ∙ (stepped c).step
     ∙ ap (λ (m : Memory). step_of m commands.undo) c.self.view_is
 
-back : (g : Over) (c : goal.After-keep_done g) → IsSameDesk (memory_by c.self.inside.script c.self.inside.journal.done c.self.inside.journal.undone) c.undo.new.self c.keep_done.new.self.done c.keep_done.new.self.undone
-back g c =
+back : (c : goal.After-keep_done) → IsSameDesk (memory_by c.self.inside.script c.self.inside.journal.done c.self.inside.journal.undone) c.undo.new.self c.keep_done.new.self.done c.keep_done.new.self.undone
+back c =
     let last = sym (ap (λ (j : Entries EntryState). j.done) c.reserve_one.ensures.entries) ∙ c.in-Some.ensures.some in
     let undone : c.take_done.new.self.undone ≡ c.self.inside.journal.undone =
     ap (λ (j : Entries EntryState). j.undone) c.in-Some.ensures.some_leaves ∙ ap (λ (j : Entries EntryState). j.undone) c.reserve_one.ensures.entries in
@@ -53,7 +52,7 @@ back g c =
     (ap (λ (j : Entries EntryState). j.undone) c.keep_done.ensures ∙ undone)
 
 pub invariant_of-self-in-Err : goal.invariant_of-self-in-Err
-invariant_of-self-in-Err g c = (back g c).desk
+invariant_of-self-in-Err c = (back c).desk
 
 pub returns-in-Err-clause-step : goal.returns-in-Err-clause-step
-returns-in-Err-clause-step g c = (back g c).same ∙ c.self.view_is
+returns-in-Err-clause-step c = (back c).same ∙ c.self.view_is

@@ -9,11 +9,11 @@ use Rattle.sp_text.specs.Changing.{edit_of}
 use Rattle.sp_text.specs.DisplacedLines.{displaced_of}
 use Rattle.sp_text.specs.Gap.{text_of}
 use Rattle.sp_exchange.specs.Reads.{ReadsAtMost, ReadsWindow}
-use Rattle.sp_state.specs.Entries.{EntryState}
+use Rattle.sp_state.specs.TextEntries.{TextEntryState}
 use Rattle.sp_state.proofs.CarriedLaws.{carried-here, edited-here, edited-whole, whole-before, whole-carry}
 use Rattle.sp_state.proofs.EditedScripts.{edited-range}
 use Rattle.sp_made.proofs.MadeLaws.{anchored}
-use Rattle.sp_state.proofs.entry.edit_entry.Goals as goal
+use Rattle.sp_state.proofs.text_entry.edit_entry.Goals as goal
 
 pub record_starts-requires : goal.record_starts-requires
 record_starts-requires g c =
@@ -48,7 +48,7 @@ returns-in-Ok-clause-whole g c =
 
 pub returns-in-Ok-clause-range : goal.returns-in-Ok-clause-range
 returns-in-Ok-clause-range g c =
-    let entry : EntryState = record { lines = c.in_ok-displaced.displaced; stanzas = c.in_ok-displaced.swapped; moved = c.in-Ok.field-0.moved.items; raised = c.in-Ok.field-0.raised.items } in
+    let entry : TextEntryState = record { lines = c.in_ok-displaced.displaced; stanzas = c.in_ok-displaced.swapped; moved = c.in-Ok.field-0.moved.items; raised = c.in-Ok.field-0.raised.items } in
     edited-range (text_of c.args.lines.now) (edit_of c.args.edit) entry c.in_ok-displaced.ensures.refuses c.in_ok-displaced.ensures.displaced
 
 pub returns-in-Ok-clause-reads : goal.returns-in-Ok-clause-reads

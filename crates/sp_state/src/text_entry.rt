@@ -1,0 +1,232 @@
+//! What an edit displaced.
+ghost use Rattle.std.specs.Prelude.{◌≡◌, IfOk, IfErr, IsOk, OnOk, OnErr};
+ghost use Rattle.spec_text.specs.Edits.{refusal_of, replacement_of};
+ghost use Rattle.spec_text.specs.Ranges.{range_of};
+ghost use Rattle.spec_state.specs.Changes.{edited_state};
+ghost use Rattle.spec_state.specs.Keeping.{IsWhole, state_of};
+ghost use Rattle.spec_state.specs.StateSheets.{keys_in, layout_in};
+ghost use Rattle.sp_text.specs.Changing.{Refuses, edit_of};
+ghost use Rattle.sp_text.specs.Gap.{text_of};
+ghost use Rattle.sp_exchange.specs.Reads.{IsRefused};
+ghost use Rattle.sp_exchange.specs.Restoring.{CanRestoreText, HasRoomFor, text_before, text_stanzas};
+ghost use Rattle.sp_state.specs.TextEntries.{CanUndoText, CanRedoText, HasTextRoom, IsTextRedone, IsSameTextEntry, IsTextUndone, LeadsTextBack, LeadsTextForth, undone_text, redone_text, undone_lines, done_lines};
+ghost use Rattle.sp_made.specs.Made.{IsLaidOf};
+ghost use Rattle.sp_state.specs.Reads.{EditReads, EditReadsAtMost};
+
+use crate::carrying::{Turned, carry_and_raise};
+use sp_exchange::{UnrestoredText, change_text, restore_text};
+use sp_kit::Steps;
+use sp_layout::Body;
+use sp_locks::put_back;
+use sp_made::{Laid, record_starts};
+use sp_records::Records;
+use sp_reread::{Stanzas, Swapped};
+use sp_text::{Displaced, Edit, EditFault, Lines};
+use spec_labels::Moved;
+use std::alloc::Global;
+use std::marker::Model;
+
+/// What an edit displaced: lines, stanzas, the anchors of page records that it carried, and the rounds of those that it
+/// raised.
+#[derive(Drop)]
+pub struct TextEntry {
+    pub lines: Displaced,
+    pub stanzas: Swapped,
+    pub moved: Vec<Moved>,
+    pub raised: Vec<Moved>,
+}
+
+impl Model for TextEntry {
+    ghost use Rattle.sp_state.specs.TextEntries.{TextEntryState};
+
+    ghost Value = { TextEntryState };
+
+    ghost view = { λ e. record { lines = e.lines; stanzas = e.stanzas; moved = e.moved.items; raised = e.raised.items } };
+}
+
+/// There was no memory; what was to be put back is handed back.
+#[derive(Drop)]
+pub struct UnturnedText {
+    pub back: TextEntry,
+}
+
+/// Puts displaced lines and stanzas back where there is room.
+fn restore_in_room(lines: &mut Lines, stanzas: &mut Stanzas, back: Displaced, swapped: Swapped)
+    requires stanzas { stanzas.old.stanzas ≡ text_stanzas (text_of lines.old) }
+    requires can { CanRestoreText (text_of lines.old) back swapped }
+    requires room { HasRoomFor lines.old stanzas.old back swapped }
+    ensures text { text_of lines.new ≡ text_before (text_of lines.old) back }
+    ensures stanzas { stanzas.new.stanzas ≡ text_stanzas (text_of lines.new) }
+{
+    match restore_text(lines, stanzas, back, swapped) {
+        Ok(_) => {}
+        Err(_) => unreachable!(),
+    }
+}
+
+/// Makes an edit, and answers the entry that undoes it, and the text laid out after it. `olds` are the rows of the body
+/// before it. Each stanza of its window is read once. A refused edit changes nothing.
+pub(crate) fn edit_entry<S: Steps>(
+    alloc: Global,
+    lines: &mut Lines,
+    stanzas: &mut Stanzas,
+    records: &mut Records,
+    olds: &Body,
+    edit: Edit,
+    steps: &mut S,
+) -> Result<(TextEntry, Laid), EditFault>
+    requires whole { IsWhole (state_of (text_of lines.old) records.old) }
+    requires stanzas { stanzas.old.stanzas ≡ text_stanzas (text_of lines.old) }
+    requires olds { olds.now.elements ≡ (layout_in (state_of (text_of lines.old) records.old)).body }
+    requires keys { olds.now.keys ≡ keys_in (state_of (text_of lines.old) records.old) }
+    ensures refuses { Refuses (refusal_of (text_of lines.old) (edit_of edit)) result }
+    ensures state { OnOk result (state_of (text_of lines.new) records.new ≡ edited_state (state_of (text_of lines.old) records.old) (replacement_of lines.old.lines (edit_of edit))) }
+    ensures whole { OnOk result (IsWhole (state_of (text_of lines.new) records.new)) }
+    ensures back { IfOk result (λ it. LeadsTextBack (state_of (text_of lines.old) records.old) (state_of (text_of lines.new) records.new) it.0) }
+    ensures range { IfOk result (λ it. done_lines it.0 ≡ range_of (replacement_of lines.old.lines (edit_of edit))) }
+    ensures room { IfOk result (λ it. HasTextRoom lines.new stanzas.new it.0) }
+    ensures stanzas { stanzas.new.stanzas ≡ text_stanzas (text_of lines.new) }
+    ensures laid { IfOk result (λ it. IsLaidOf (state_of (text_of lines.new) records.new) it.1) }
+    ensures same { OnErr result (state_of (text_of lines.new) records.new ≡ state_of (text_of lines.old) records.old) }
+    ensures reads { OnOk result (EditReads (state_of (text_of lines.old) records.old) (replacement_of lines.old.lines (edit_of edit)) (S.reads steps.old) (S.reads steps.new)) }
+    ensures at_most { EditReadsAtMost (state_of (text_of lines.old) records.old) (replacement_of lines.old.lines (edit_of edit)) (S.reads steps.old) (S.reads steps.new) }
+    ensures unread { IsRefused (refusal_of (text_of lines.old) (edit_of edit)) → S.reads steps.new ≡ S.reads steps.old }
+{
+    let _count = lines.len();
+    let before = record_starts(alloc, lines, olds.keys(), &records.pages)?;
+    let (displaced, swapped) = change_text(lines, stanzas, edit, records.round, steps)?;
+    let _changed = lines.len();
+    match carry_and_raise(alloc, lines, stanzas, &displaced, records, &before, olds) {
+        Ok(
+            Turned {
+                laid,
+                moved,
+                raised,
+            },
+        ) => Ok((
+            TextEntry {
+                lines: displaced,
+                stanzas: swapped,
+                moved,
+                raised,
+            },
+            laid,
+        )),
+        Err(_) => {
+            restore_in_room(lines, stanzas, displaced, swapped);
+            Err(EditFault::NoMemory)
+        }
+    }
+}
+
+/// Undoes an edit by its entry, and answers the entry that does it again. No stanza is read.
+/// It takes memory only where the lines, the stanzas or the entry have no room for what they get. On an error there was
+/// none, nothing is changed, and the entry is handed back.
+pub fn undo_entry(
+    lines: &mut Lines,
+    stanzas: &mut Stanzas,
+    records: &mut Records,
+    entry: TextEntry,
+) -> Result<TextEntry, UnturnedText>
+    requires stanzas { stanzas.old.stanzas ≡ text_stanzas (text_of lines.old) }
+    requires can { CanUndoText (state_of (text_of lines.old) records.old) entry }
+    ensures state { OnOk result (state_of (text_of lines.new) records.new ≡ undone_text (state_of (text_of lines.old) records.old) entry) }
+    ensures forth { IfOk result (LeadsTextForth (state_of (text_of lines.old) records.old) (state_of (text_of lines.new) records.new)) }
+    ensures range { IfOk result (λ it. undone_lines it ≡ done_lines entry) }
+    ensures same { OnErr result (state_of (text_of lines.new) records.new ≡ state_of (text_of lines.old) records.old) }
+    ensures entry { IfOk result (IsTextUndone (state_of (text_of lines.old) records.old) entry) }
+    ensures handed_back { IfErr result (λ error. IsSameTextEntry error.back entry) }
+    ensures stanzas { stanzas.new.stanzas ≡ text_stanzas (text_of lines.new) }
+    ensures room { IfOk result (HasTextRoom lines.new stanzas.new) }
+    ensures succeeds { HasTextRoom lines.old stanzas.old entry → IsOk result }
+{
+    let TextEntry {
+        lines: back,
+        stanzas: swapped,
+        mut moved,
+        mut raised,
+    } = entry;
+    match restore_text(lines, stanzas, back, swapped) {
+        Ok((displaced, others)) => {
+            if let Some(pages) = &mut records.pages {
+                put_back(pages, &mut raised);
+                put_back(pages, &mut moved);
+            }
+            Ok(TextEntry {
+                lines: displaced,
+                stanzas: others,
+                moved,
+                raised,
+            })
+        }
+        Err(
+            UnrestoredText {
+                lines: back,
+                stanzas: swapped,
+            },
+        ) => Err(UnturnedText {
+            back: TextEntry {
+                lines: back,
+                stanzas: swapped,
+                moved,
+                raised,
+            },
+        }),
+    }
+}
+
+/// Does an edit again by the entry that undoing it left, and answers the entry that undoes it. No stanza is
+/// read. It takes memory only where the lines, the stanzas or the entry have no room for what they get. On an error there
+/// was none, nothing is changed, and the entry is handed back.
+pub fn redo_entry(
+    lines: &mut Lines,
+    stanzas: &mut Stanzas,
+    records: &mut Records,
+    entry: TextEntry,
+) -> Result<TextEntry, UnturnedText>
+    requires stanzas { stanzas.old.stanzas ≡ text_stanzas (text_of lines.old) }
+    requires can { CanRedoText (state_of (text_of lines.old) records.old) entry }
+    ensures state { OnOk result (state_of (text_of lines.new) records.new ≡ redone_text (state_of (text_of lines.old) records.old) entry) }
+    ensures back { IfOk result (LeadsTextBack (state_of (text_of lines.old) records.old) (state_of (text_of lines.new) records.new)) }
+    ensures range { IfOk result (λ it. done_lines it ≡ undone_lines entry) }
+    ensures same { OnErr result (state_of (text_of lines.new) records.new ≡ state_of (text_of lines.old) records.old) }
+    ensures entry { IfOk result (IsTextRedone (state_of (text_of lines.old) records.old) entry) }
+    ensures handed_back { IfErr result (λ error. IsSameTextEntry error.back entry) }
+    ensures stanzas { stanzas.new.stanzas ≡ text_stanzas (text_of lines.new) }
+    ensures room { IfOk result (HasTextRoom lines.new stanzas.new) }
+    ensures succeeds { HasTextRoom lines.old stanzas.old entry → IsOk result }
+{
+    let TextEntry {
+        lines: back,
+        stanzas: swapped,
+        mut moved,
+        mut raised,
+    } = entry;
+    match restore_text(lines, stanzas, back, swapped) {
+        Ok((displaced, others)) => {
+            if let Some(pages) = &mut records.pages {
+                put_back(pages, &mut moved);
+                put_back(pages, &mut raised);
+            }
+            Ok(TextEntry {
+                lines: displaced,
+                stanzas: others,
+                moved,
+                raised,
+            })
+        }
+        Err(
+            UnrestoredText {
+                lines: back,
+                stanzas: swapped,
+            },
+        ) => Err(UnturnedText {
+            back: TextEntry {
+                lines: back,
+                stanzas: swapped,
+                moved,
+                raised,
+            },
+        }),
+    }
+}
