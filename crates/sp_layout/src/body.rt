@@ -7,7 +7,7 @@ ghost use Rattle.spec_pages.specs.Rows.{Row as RowValue, placed_rows, shifted_ro
 ghost use Rattle.spec_labels.specs.Labels.{LabelOf};
 ghost use Rattle.spec_layout.specs.Layout.{placed_in};
 ghost use Rattle.spec_layout.specs.Shown.{heading_count, is_heading_element, labels_past, row_key, shown_rows};
-ghost use Rattle.sp_layout.specs.Bodies.{IsHeadingAt, IsPageOf, StandsIn, headings_of, marks_in, no_elements, row_count, shapes_in, with_element};
+ghost use Rattle.sp_layout.specs.Bodies.{IsHeadingAt, IsPageOf, StandsIn, headings_of, keyed_elements, marks_in, no_elements, row_count, shapes_in, with_element};
 
 use crate::page::Page;
 use crate::search::{count_below, last_start};
@@ -51,11 +51,17 @@ pub struct Body {
 }
 
 impl Model for Body {
+    ghost use Rattle.std.specs.Prelude.{min, vec_capacity};
     ghost use Rattle.sp_layout.specs.Bodies.{BodyOf, IsBody};
 
     ghost Value = { BodyOf };
 
-    ghost view = { λ b. record { elements = b.elements.items; keys = b.keys.items } };
+    ghost view = { λ b. record {
+      elements = b.elements.items;
+      keys = b.keys.items;
+      room = min (vec_capacity b.elements) (min (vec_capacity b.row_starts) (vec_capacity b.heading_starts));
+      row_room = min (vec_capacity b.shapes) (min (vec_capacity b.marks) (vec_capacity b.keys));
+    } };
 
     ghost invariant = { λ b. IsBody (record {
       elements = b.elements.items;
@@ -150,7 +156,7 @@ fn part_of(elements: &[Element], from: usize, to: usize) -> &[Element]
 impl Body {
     /// Without elements.
     pub fn new(alloc: Global) -> Body
-        ensures { result ≡ no_elements }
+        ensures { keyed_elements result ≡ no_elements }
     {
         Body {
             elements: Vec::new(alloc),
@@ -167,8 +173,8 @@ impl Body {
     pub fn push(&mut self, lines: &Lines, element: Element) -> Result<(), AllocError>
         requires low { length lines.now.lines ≤ line_count_limit }
         requires inside { All (λ (row : RowValue). element.first + row.line < length lines.now.lines) element.rows }
-        ensures ok { OnOk result (self.new ≡ with_element lines.now.lines self.old element) }
-        ensures err { OnErr result (self.new ≡ self.old) }
+        ensures ok { OnOk result (keyed_elements self.new ≡ with_element lines.now.lines (keyed_elements self.old) element) }
+        ensures err { OnErr result (keyed_elements self.new ≡ keyed_elements self.old) }
     {
         reserve_rows(
             &mut self.shapes,
