@@ -4,16 +4,16 @@ use Rattle.std.proofs.lemmas.List.{length-take-le, length-map, drop_all}
 use Rattle.sp_splice.specs.Moves.{shifted}
 use Rattle.sp_splice.proofs.RunLaws.{in-three}
 
--- One more place is moved.
-step : (f : ℕ → ℕ) (xs : List ℕ) (i : ℕ) → i < length xs
-    → set (map f (take i xs) ++ drop i xs) i (f (get_or (map f (take i xs) ++ drop i xs) i 0)) ≡ map f (take (suc i) xs) ++ drop (suc i) xs
-step f [] i inside = absurd (omega (arith, inside))
-step f (x ∷ xs) zero inside = refl
-step f (x ∷ xs) (suc i) inside = ap (λ ys. f x ∷ ys) (step f xs i (omega (arith, inside)))
+-- One more item is moved.
+step : {X : Type 0} (f : X → X) (d : X) (xs : List X) (i : ℕ) → i < length xs
+    → set (map f (take i xs) ++ drop i xs) i (f (get_or (map f (take i xs) ++ drop i xs) i d)) ≡ map f (take (suc i) xs) ++ drop (suc i) xs
+step f d [] i inside = absurd (omega (arith, inside))
+step f d (x ∷ xs) zero inside = refl
+step f d (x ∷ xs) (suc i) inside = ap (λ ys. f x ∷ ys) (step f d xs i (omega (arith, inside)))
 
-pub shift-step : (f : ℕ → ℕ) (xs ys : List ℕ) (i : ℕ) → i < length xs → ys ≡ map f (take i xs) ++ drop i xs → set ys i (f (get_or ys i 0)) ≡ map f (take (i + 1) xs) ++ drop (i + 1) xs
-shift-step f xs ys i inside is =
-    ap (λ zs. set zs i (f (get_or zs i 0))) is ∙ step f xs i inside ∙ ap (λ n. map f (take n xs) ++ drop n xs) (sym (add-one i))
+pub shift-step : {X : Type 0} (f : X → X) (d : X) (xs ys : List X) (i : ℕ) → i < length xs → ys ≡ map f (take i xs) ++ drop i xs → set ys i (f (get_or ys i d)) ≡ map f (take (i + 1) xs) ++ drop (i + 1) xs
+shift-step f d xs ys i inside is =
+    ap (λ zs. set zs i (f (get_or zs i d))) is ∙ step f d xs i inside ∙ ap (λ n. map f (take n xs) ++ drop n xs) (sym (add-one i))
 
 -- A list is in three parts by two places.
 pub record InThree (list one run rest : List ℕ) (from to : ℕ) : Type 0 where
