@@ -1,5 +1,5 @@
 -- What a body keeps, with some of its elements exchanged for others.
-use Rattle.std.proofs.Common.{◌≡◌, ℕ, ◌+◌, ◌-◌, ◌<◌, ◌≤◌, ◌^◌, Bool, true, false, cond, List, [], ◌∷◌, ◌++◌, length, map, take, drop, get_or, slice_range, All, refl, sym, ap, ap₂, subst, ◌∙◌, arith, append_assoc, length-append, take_at, drop_at, sum_by, length-drop}
+use Rattle.std.proofs.Common.{◌≡◌, ℕ, ◌+◌, ◌-◌, ◌<◌, ◌≤◌, ◌^◌, Bool, true, false, cond, List, [], ◌∷◌, ◌++◌, length, map, take, drop, slice_range, All, refl, sym, ap, ap₂, subst, ◌∙◌, arith, append_assoc, length-append, take_at, drop_at, sum_by, length-drop}
 use Rattle.std.proofs.lemmas.List.{map-append, length-map, length-take-le, take-append-drop}
 use Rattle.std.proofs.lemmas.List.Sums.{sum_by-cons}
 use Rattle.spec_pages.specs.declared.Shape.{Shape}
@@ -10,8 +10,8 @@ use Rattle.spec_layout.specs.Shown.{is_heading_element, heading_count}
 use Rattle.sp_splice.specs.Runs.{exchanged}
 use Rattle.sp_splice.specs.Moves.{shifted, CanShift}
 use Rattle.sp_splice.proofs.RunLaws.{in-three}
-use Rattle.sp_layout.specs.Bodies.{BodyParts, IsBody, KeyedElements, row_count, starts_by, rows_of, headings_of}
-use Rattle.sp_layout.specs.Exchanges.{moved_element, run_of, with_run}
+use Rattle.sp_layout.specs.Bodies.{BodyParts, IsBody, row_count, starts_by, rows_of, headings_of}
+use Rattle.sp_layout.specs.Exchanges.{moved_element}
 use Rattle.sp_layout.proofs.BodyLaws.{headings-few, placed_in-append, sum-rows, sum-headings, starts_by-get, length-starts_by}
 
 -- What is asked of rows, by something that doesn't depend on places of lines.
@@ -149,9 +149,10 @@ starts-split size elements place within =
     let zero_first : 0 + sum_by size front ≡ sum_by size front = omega arith in
     let parts : starts_by size 0 elements ≡ starts_by size 0 front ++ starts_by size (sum_by size front) behind =
     ap (starts_by size 0) (sym (take-append-drop place elements)) ∙ starts-append size 0 front behind ∙ ap (λ n. starts_by size 0 front ++ starts_by size n behind) zero_first in
-    let len : length (starts_by size 0 front) ≡ place = length-starts_by size 0 front ∙ length-take-le place elements within in
-    (ap (take place) parts ∙ take_at (starts_by size 0 front) (starts_by size (sum_by size front) behind) place len,
-      ap (drop place) parts ∙ drop_at (starts_by size 0 front) (starts_by size (sum_by size front) behind) place len)
+    let len : length (starts_by size 0 front) ≡ place = length-starts_by size 0 front ∙ length-take-le place elements within in (
+      ap (take place) parts ∙ take_at (starts_by size 0 front) (starts_by size (sum_by size front) behind) place len,
+      ap (drop place) parts ∙ drop_at (starts_by size 0 front) (starts_by size (sum_by size front) behind) place len,
+    )
 
 -- The starts of a run, before they come to count from 0.
 starts-run : (size : ElementOf → ℕ) (elements : List ElementOf) (from to : ℕ) → from ≤ to → to ≤ length elements
@@ -356,3 +357,21 @@ exchange-fits from to old others is them order within small few =
       heading_later = subst (λ xs. All (CanShift heading_end (heading + heading_count others.elements)) (drop to xs)) (sym is.heading_starts) (subst (All (CanShift heading_end (heading + heading_count others.elements))) (sym heading_later)
           (starts-can headings_of (sum_by headings_of till) heading_end (heading + heading_count others.elements) behind (omega (arith, sum-headings till)) (omega (arith, sum-headings till, sum-headings behind, heading_split, run_headings, few, all_few, others_few))));
     }
+
+-- What stands before the later elements, and those.
+pub behind-is : (elements others : List ElementOf) (from to count : ℕ) → from ≤ to → to ≤ length elements → count ≡ length others → let made = take from elements ++ (others ++ drop to elements) in
+    (take (from + count) made ≡ take from elements ++ others) × (drop (from + count) made ≡ drop to elements)
+behind-is elements others from to count order within is =
+    let front = take from elements in
+    let behind = drop to elements in
+    let len : length (front ++ others) ≡ from + count = omega (arith, length-append front others, length-take-le from elements (omega (arith, order, within)), is) in
+    let parts = sym (append_assoc front others behind) in
+    (ap (take (from + count)) parts ∙ take_at (front ++ others) behind (from + count) len, ap (drop (from + count)) parts ∙ drop_at (front ++ others) behind (from + count) len)
+
+pub moved-behind : (elements others made new : List ElementOf) (from to count less more : ℕ) → from ≤ to → to ≤ length elements → count ≡ length others → made ≡ take from elements ++ (others ++ drop to elements)
+    → new ≡ take (from + count) made ++ map (moved_element less more) (drop (from + count) made) → new ≡ take from elements ++ (others ++ map (moved_element less more) (drop to elements))
+moved-behind elements others made new from to count less more order within is made_is new_is =
+    let parts = behind-is elements others from to count order within is in
+    new_is ∙ ap (λ (those : List ElementOf). take (from + count) those ++ map (moved_element less more) (drop (from + count) those)) made_is
+    ∙ ap₂ (λ (those later : List ElementOf). those ++ map (moved_element less more) later) parts.0 parts.1
+    ∙ append_assoc (take from elements) others (map (moved_element less more) (drop to elements))

@@ -1,5 +1,5 @@
 -- Elements of a body exchanged for others (docs/RULES.md, "Windows").
-use Rattle.std.specs.Prelude.{ℕ, ◌-◌, ◌+◌, List, ◌++◌, map, take, drop, slice_range}
+use Rattle.std.specs.Prelude.{ℕ, ◌++◌, map, take, drop, slice_range}
 use Rattle.spec_pages.specs.Rows.{ElementOf}
 use Rattle.sp_splice.specs.Runs.{exchanged}
 use Rattle.sp_splice.specs.Moves.{shifted, CanShift}

@@ -8,7 +8,6 @@ ghost use Rattle.spec_labels.specs.Labels.{LabelOf};
 ghost use Rattle.spec_layout.specs.Layout.{placed_in};
 ghost use Rattle.spec_layout.specs.Shown.{heading_count, is_heading_element, labels_past, row_key, shown_rows};
 ghost use Rattle.sp_layout.specs.Bodies.{IsHeadingAt, IsPageOf, StandsIn, headings_of, keyed_elements, marks_in, no_elements, row_count, shapes_in, with_element};
-
 ghost use Rattle.sp_layout.specs.Exchanges.{CanMove, run_of, with_run};
 ghost use Rattle.sp_splice.specs.Runs.{exchanged};
 

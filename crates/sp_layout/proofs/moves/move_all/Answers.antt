@@ -1,4 +1,4 @@
-use Rattle.std.proofs.Common.{◌≡◌, ◌+◌, ◌<◌, length, set, sym, ap, ◌∙◌, arith}
+use Rattle.std.proofs.Common.{set, ap, ◌∙◌, arith}
 use Rattle.spec_pages.specs.Rows.{ElementOf}
 use Rattle.sp_splice.proofs.MoveLaws.{shift-step}
 use Rattle.sp_layout.specs.Exchanges.{moved_element}

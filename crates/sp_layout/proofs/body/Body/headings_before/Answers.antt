@@ -1,4 +1,4 @@
-use Rattle.std.proofs.Common.{◌≡◌, length, take, sym, ap, ◌∙◌, arith}
+use Rattle.std.proofs.Common.{sym, ap, ◌∙◌, arith}
 use Rattle.std.proofs.lemmas.List.{take_all}
 use Rattle.spec_layout.specs.Shown.{heading_count}
 use Rattle.sp_layout.specs.Bodies.{BodyOf, starts_by, headings_of}

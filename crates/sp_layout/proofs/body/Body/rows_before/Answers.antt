@@ -1,4 +1,4 @@
-use Rattle.std.proofs.Common.{◌≡◌, length, take, sym, ap, ◌∙◌, arith}
+use Rattle.std.proofs.Common.{sym, ap, ◌∙◌, arith}
 use Rattle.std.proofs.lemmas.List.{take_all}
 use Rattle.sp_layout.specs.Bodies.{BodyOf, row_count, starts_by, rows_of}
 use Rattle.sp_layout.proofs.Places.{row-starts}
