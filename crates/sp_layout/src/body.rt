@@ -270,6 +270,18 @@ impl Body {
         Ok(())
     }
 
+    /// How many elements there are.
+    pub fn len(&self) -> usize
+        ensures len { result ≡ length self.now.elements }
+        ensures enough { length self.now.elements ≤ self.now.room }
+        ensures row_enough { row_count self.now.elements ≤ self.now.row_room }
+        ensures keys { length self.now.keys ≡ row_count self.now.elements }
+        ensures small { self.now.room ≤ 9223372036854775807 }
+        ensures row_small { self.now.row_room ≤ 9223372036854775807 }
+    {
+        self.elements.len()
+    }
+
     /// How many rows there are.
     pub fn rows(&self) -> usize
         ensures { result ≡ row_count self.now.elements }

@@ -1,0 +1,7 @@
+//! A text laid out, kept through its edits: only what an edit changes is laid out anew (docs/RULES.md, "Windows").
+#![tactic(auto)]
+
+mod kept;
+mod runs;
+
+pub use kept::{KeptLayout, LayoutPart, UnswappedLayout};
