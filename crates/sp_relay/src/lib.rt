@@ -4,4 +4,4 @@
 mod kept;
 mod runs;
 
-pub use kept::{KeptLayout, LayoutPart, UnswappedLayout};
+pub use kept::{KeptLayout, LayoutPart, PartPlaces, UnswappedLayout};
