@@ -1,3 +1,4 @@
 pub mod Parts
 pub mod RowShifts
 pub mod MovedElements
+pub mod LayoutParts
