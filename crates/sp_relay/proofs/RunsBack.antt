@@ -50,7 +50,7 @@ places-moved less more (place ∷ places) all =
     (move-back less more place (All-head (MovesBack less more) place places all)).1 (places-moved less more places (All-tail (MovesBack less more) place places all))
 
 -- A run put in and its end.
-front-of : {X : Type 0} (front own behind : List X) (from to : ℕ) → length front ≡ from → to ≡ from + length own
+pub front-of : {X : Type 0} (front own behind : List X) (from to : ℕ) → length front ≡ from → to ≡ from + length own
     → (take from (front ++ (own ++ behind)) ≡ front) × (take to (front ++ (own ++ behind)) ≡ front ++ own) × (drop to (front ++ (own ++ behind)) ≡ behind)
 front-of front own behind from to len is =
     let both : length (front ++ own) ≡ to = omega (arith, length-append front own, len, is) in
