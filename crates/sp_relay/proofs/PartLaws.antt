@@ -1,5 +1,5 @@
 -- A part of a layout exchanged gives the layout of the text after an edit.
-use Rattle.std.proofs.Common.{◌≡◌, ℕ, ◌+◌, ◌-◌, ◌≤◌, Bool, List, [], ◌∷◌, ◌++◌, length, map, take, drop, refl, sym, ap, ap₂, ◌∙◌, arith, append_assoc, length-append, take_at, drop_at}
+use Rattle.std.proofs.Common.{◌≡◌, ℕ, ◌+◌, ◌-◌, Bool, List, [], ◌∷◌, ◌++◌, length, map, take, drop, refl, sym, ap, ap₂, ◌∙◌, arith, append_assoc, take_at}
 use Rattle.std.specs.Prelude.{All}
 use Rattle.std.proofs.lemmas.List.{map-append, length-map}
 use Rattle.spec_text.specs.Lines.{LineState}
@@ -7,19 +7,22 @@ use Rattle.spec_script.specs.LongestRuns.{Group}
 use Rattle.spec_pages.specs.Rows.{Row, ElementOf, placed_rows}
 use Rattle.spec_labels.specs.declared.RowKey.{RowKey}
 use Rattle.spec_layout.specs.Shown.{row_key}
-use Rattle.spec_layout.specs.Speakers.{Spoken}
-use Rattle.spec_layout.specs.Layout.{is_title_element, in_body, breaks_from, layout_in, placed_in}
+use Rattle.spec_script.specs.Stanzas.{PlacedBlock}
+use Rattle.spec_layout.specs.Speakers.{Spoken, spoken_elements}
+use Rattle.spec_layout.specs.Layout.{is_title_element, in_body, breaks_from, layout_in, layout_of, placed_in}
 use Rattle.spec_relay.specs.Moved.{moved_group}
 use Rattle.spec_relay.proofs.MovedElements.{GroupStays}
-use Rattle.spec_relay.proofs.LayoutParts.{laid_of, laid-three, rows_in, rows-append, breaks-append, breaks-shifted, laid-moved, keys-moved, breaks-moved, still-groups, still-laid}
+use Rattle.spec_relay.proofs.LayoutParts.{laid_of, laid-three, rows_in, breaks-append, breaks-shifted, laid-moved, keys-moved, breaks-moved, still-groups, still-laid}
 use Rattle.sp_splice.specs.Moves.{shifted}
 use Rattle.sp_layout.specs.Bodies.{KeyedElements, body_of, row_count}
 use Rattle.sp_layout.specs.Exchanges.{moved_element, with_run}
-use Rattle.sp_layout.specs.LaidOut.{LayoutOf, keyed}
+use Rattle.sp_layout.specs.Speaking.{SpeakersOf}
+use Rattle.sp_layout.specs.LaidOut.{LayoutOf, keyed, layout_behind}
 use Rattle.sp_layout.proofs.BodyExchanges.{count-append}
 use Rattle.sp_relay.specs.declared.kept.PartPlaces.{PartPlaces}
 use Rattle.sp_relay.specs.Runs.{with_breaks}
 use Rattle.sp_relay.specs.Kept.{with_part}
+use Rattle.sp_relay.specs.Relaid.{places_of, IsRelaid}
 use Rattle.sp_relay.proofs.RunsBack.{front-of}
 
 placed-append : (one other : List ElementOf) → placed_in (one ++ other) ≡ placed_in one ++ placed_in other
@@ -50,19 +53,6 @@ run-is lines later front gone come rest less more front_keys rest_keys =
     ∙ ap₂ (λ (xs ys : List RowKey). xs ++ (map (row_key later) (placed_in come) ++ ys)) (ap (take (row_count front)) key_split ∙ key_parts.0 ∙ sym front_keys) (ap (drop (row_count front + row_count gone)) key_split ∙ key_parts.2 ∙ sym rest_keys)
     ∙ ap (λ (ks : List RowKey). map (row_key later) (placed_in front) ++ ks) (sym (keys-append later come (map (moved_element less more) rest)))
     ∙ sym (keys-append later front (come ++ map (moved_element less more) rest)))
-
--- Where the elements of a text that an edit takes away stand, and how it moves those behind them.
-abbrev pub places_of : List LineState → List (Group Spoken) → List (Group Spoken) → ℕ → ℕ → PartPlaces
-places_of lines front gone less more = record {
-  title_from = length (laid_of is_title_element lines front);
-  title_to = length (laid_of is_title_element lines front) + length (laid_of is_title_element lines gone);
-  from = length (laid_of in_body lines front);
-  to = length (laid_of in_body lines front) + length (laid_of in_body lines gone);
-  break_from = length (breaks_from lines 0 front);
-  break_to = length (breaks_from lines 0 front) + length (breaks_from lines (rows_in lines front) gone);
-  less = less;
-  more = more;
-}
 
 module _ (lines later : List LineState) (less more : ℕ) (front gone come rest : List (Group Spoken)) (still : All (GroupStays 0 0 lines later) front) (moved : All (GroupStays less more lines later) rest) where
   -- Those in front are the same.
@@ -153,3 +143,13 @@ module _ (lines later : List LineState) (less more : ℕ) (front gone come rest 
       ap₂ (λ n m. record { titles = titles; body = body; breaks = with_breaks old at.break_from at.break_to come_breaks n m (n + rc) }) body-till body-end
       ∙ ap (λ (those : List ℕ). record { titles = titles; body = body; breaks = those }) breaks-part
       ∙ ap₂ (λ (t b : KeyedElements). record { titles = t; body = b; breaks = breaks_from later 0 (front ++ (come ++ map (moved_group less more) rest)) }) (elements-part is_title_element title-same) (elements-part in_body body-same)
+
+-- The layout of the text after an edit.
+pub relaid-is : (before lines : List LineState) (speakers : SpeakersOf) (blocks : List PlacedBlock) (places : PartPlaces) (layout : LayoutOf) → IsRelaid before lines speakers blocks places layout
+    → with_part layout places (layout_behind lines speakers blocks) ≡ keyed lines (layout_of speakers.on lines)
+relaid-is before lines speakers blocks places layout it =
+    let part = layout_behind lines speakers blocks in
+    let come = spoken_elements speakers.on lines speakers.last blocks in
+    ap₂ (λ (l : LayoutOf) (at : PartPlaces). with_part l at part) (it.was ∙ ap (λ (those : List (Group Spoken)). keyed before (layout_in before those)) it.old) it.at
+    ∙ part-is before lines places.less places.more it.front it.gone come it.rest it.still it.moved
+    ∙ ap (λ (those : List (Group Spoken)). keyed lines (layout_in lines those)) (sym it.new)

@@ -2,6 +2,8 @@
 #![tactic(auto)]
 
 mod kept;
+mod relaying;
 mod runs;
 
 pub use kept::{KeptLayout, LayoutPart, PartPlaces, UnswappedLayout};
+pub use relaying::relay;

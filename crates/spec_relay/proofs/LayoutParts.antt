@@ -1,16 +1,15 @@
 -- Layouts of elements, part by part.
-use Rattle.std.proofs.Common.{◌≡◌, ℕ, ◌+◌, ◌-◌, ◌<◌, ◌≤◌, Bool, true, false, not, cond, List, [], ◌∷◌, ◌++◌, length, map, filter, refl, sym, ap, ap₂, subst, ◌∙◌, arith, length-append}
+use Rattle.std.proofs.Common.{◌≡◌, ℕ, ◌+◌, ◌-◌, ◌≤◌, Bool, true, false, cond, List, [], ◌∷◌, ◌++◌, length, map, filter, refl, ap, ap₂, ◌∙◌, arith, length-append}
 use Rattle.std.specs.Prelude.{All}
 use Rattle.std.proofs.lemmas.List.{map-append, length-map}
-use Rattle.std.proofs.lemmas.List.Elements.{All-nil, All-cons, All-head, All-tail}
+use Rattle.std.proofs.lemmas.List.Elements.{All-cons, All-head, All-tail}
 use Rattle.spec_text.specs.Lines.{LineState}
 use Rattle.spec_script.specs.LongestRuns.{Group}
 use Rattle.spec_script.specs.Stanzas.{PlacedBlock}
 use Rattle.spec_pages.specs.Rows.{ElementOf, shifted_row, placed_rows}
-use Rattle.spec_labels.specs.declared.RowKey.{RowKey}
 use Rattle.spec_layout.specs.Shown.{row_key}
 use Rattle.spec_layout.specs.Speakers.{Spoken}
-use Rattle.spec_layout.specs.Layout.{laid_out, kind_of, is_title_element, in_body, is_page_break, rows_behind, breaks_from, placed_in}
+use Rattle.spec_layout.specs.Layout.{laid_out, kind_of, in_body, is_page_break, rows_behind, breaks_from, placed_in}
 use Rattle.spec_relay.specs.Moved.{moved_place, moved_block, moved_spoken, moved_group, moved_laid}
 use Rattle.spec_relay.proofs.MovedElements.{GroupStays, laid-stays, all-stay, keys-stay}
 

@@ -2,3 +2,4 @@ pub mod Parts
 pub mod RowShifts
 pub mod MovedElements
 pub mod LayoutParts
+pub mod RelaidParts
