@@ -3,3 +3,4 @@ pub mod RowShifts
 pub mod MovedElements
 pub mod LayoutParts
 pub mod RelaidParts
+pub mod StayingBlocks
