@@ -4,5 +4,5 @@
 mod places;
 mod runs;
 
-pub use places::{exchange_places, shift};
+pub use places::exchange_places;
 pub use runs::{exchange, make_room};

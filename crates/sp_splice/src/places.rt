@@ -5,7 +5,7 @@ ghost use Rattle.sp_splice.specs.Moves.{shifted, CanShift};
 use crate::runs::exchange;
 
 /// Makes each place less and more by so much.
-pub fn shift(places: &mut [usize], less: usize, more: usize)
+fn shift(places: &mut [usize], less: usize, more: usize)
     requires { All (CanShift less more) places.old }
     ensures { places.new ≡ map (shifted less more) places.old }
 {
