@@ -10,12 +10,12 @@ use Rattle.spec_labels.specs.declared.RowKey.{RowKey}
 use Rattle.spec_layout.specs.Speakers.{Spoken}
 use Rattle.spec_layout.specs.Layout.{laid_out, kind_of, is_title_element, in_body, is_page_break, breaks_from, layout_in, placed_in}
 use Rattle.spec_layout.specs.Shown.{row_key}
-use Rattle.sp_layout.specs.Bodies.{BodyOf, with_element, row_count}
+use Rattle.sp_layout.specs.Bodies.{KeyedElements, with_element, row_count}
 use Rattle.sp_layout.specs.LaidOut.{LayoutOf, no_layout, keyed, with_laid}
 use Rattle.sp_layout.proofs.BodyLaws.{placed_in-push}
 
 -- A body, with elements behind it.
-abbrev pub with_elements : List LineState → BodyOf → List ElementOf → BodyOf
+abbrev pub with_elements : List LineState → KeyedElements → List ElementOf → KeyedElements
 with_elements lines body elements = record { elements = body.elements ++ elements; keys = body.keys ++ map (row_key lines) (placed_in elements) }
 
 -- A layout followed by what these elements come to.
@@ -27,7 +27,7 @@ followed_by lines layout elements = record {
 }
 
 -- One element and those behind it.
-with_elements-push : (lines : List LineState) (body : BodyOf) (element : ElementOf) (elements : List ElementOf)
+with_elements-push : (lines : List LineState) (body : KeyedElements) (element : ElementOf) (elements : List ElementOf)
     → with_elements lines (with_element lines body element) elements ≡ with_elements lines body (element ∷ elements)
 with_elements-push lines body element elements =
     let key = row_key lines in
@@ -36,7 +36,7 @@ with_elements-push lines body element elements =
     (append_assoc body.elements (element ∷ []) elements)
     (append_assoc body.keys (map key own) (map key (placed_in elements)) ∙ ap (λ (keys : List RowKey). body.keys ++ keys) (sym (map-append key own (placed_in elements))))
 
-with_elements-none : (lines : List LineState) (body : BodyOf) → with_elements lines body [] ≡ body
+with_elements-none : (lines : List LineState) (body : KeyedElements) → with_elements lines body [] ≡ body
 with_elements-none lines body = ap₂ (λ (those : List ElementOf) (keys : List RowKey). record { elements = those; keys = keys }) (append-nil body.elements) (append-nil body.keys)
 
 -- No page break is a title page.
@@ -76,16 +76,16 @@ next-by : (lines : List LineState) (layout : LayoutOf) (laid : ElementOf) (title
     })
 next-by lines layout laid titles bodies elements true true not_both = let never : true ≡ false = not_both refl in cc
 next-by lines layout laid titles bodies elements true false not_both =
-    ap (λ (it : BodyOf). record { titles = it; body = with_elements lines layout.body bodies; breaks = layout.breaks ++ breaks_from lines (row_count layout.body.elements) elements })
+    ap (λ (it : KeyedElements). record { titles = it; body = with_elements lines layout.body bodies; breaks = layout.breaks ++ breaks_from lines (row_count layout.body.elements) elements })
     (with_elements-push lines layout.titles laid titles)
 next-by lines layout laid titles bodies elements false true not_both =
     let count = row_count layout.body.elements in
-    ap₂ (λ (it : BodyOf) (breaks : List ℕ). record { titles = with_elements lines layout.titles titles; body = it; breaks = breaks })
+    ap₂ (λ (it : KeyedElements) (breaks : List ℕ). record { titles = with_elements lines layout.titles titles; body = it; breaks = breaks })
     (with_elements-push lines layout.body laid bodies)
     (append_assoc layout.breaks (count ∷ []) (breaks_from lines (row_count (layout.body.elements ++ laid ∷ [])) elements)
     ∙ ap (λ n. layout.breaks ++ count ∷ breaks_from lines n elements) (row_count-push layout.body.elements laid))
 next-by lines layout laid titles bodies elements false false not_both =
-    ap₂ (λ (it : BodyOf) n. record { titles = with_elements lines layout.titles titles; body = it; breaks = layout.breaks ++ breaks_from lines n elements })
+    ap₂ (λ (it : KeyedElements) n. record { titles = with_elements lines layout.titles titles; body = it; breaks = layout.breaks ++ breaks_from lines n elements })
     (with_elements-push lines layout.body laid bodies) (row_count-push layout.body.elements laid)
 
 -- The elements behind, by whether the first of all is a title page.
@@ -109,7 +109,7 @@ followed-next lines layout element elements =
 
 pub followed-none : (lines : List LineState) (layout : LayoutOf) → followed_by lines layout [] ≡ layout
 followed-none lines layout =
-    ap₂ (λ (titles body : BodyOf). record { titles = titles; body = body; breaks = layout.breaks ++ [] }) (with_elements-none lines layout.titles) (with_elements-none lines layout.body)
+    ap₂ (λ (titles body : KeyedElements). record { titles = titles; body = body; breaks = layout.breaks ++ [] }) (with_elements-none lines layout.titles) (with_elements-none lines layout.body)
     ∙ ap (λ (breaks : List ℕ). record { titles = layout.titles; body = layout.body; breaks = breaks }) (append-nil layout.breaks)
 
 pub followed-first : (lines : List LineState) (elements : List (Group Spoken)) → followed_by lines no_layout elements ≡ keyed lines (layout_in lines elements)

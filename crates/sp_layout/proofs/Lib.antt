@@ -6,3 +6,4 @@ mod LastSpeakers
 mod LayoutAhead
 mod Places
 mod TextLayout
+pub mod BodyExchanges

@@ -8,19 +8,29 @@ use Rattle.spec_layout.specs.Layout.{placed_in}
 use Rattle.spec_layout.specs.Shown.{row_key, heading_count}
 
 -- Elements, and the keys of their rows.
-pub record BodyOf : Type 0 where
+pub record KeyedElements : Type 0 where
   pub elements : List ElementOf
   pub keys : List RowKey
 
-abbrev pub no_elements : BodyOf
+-- The same of a body, and for how many elements and rows it has room without taking memory.
+pub record BodyOf : Type 0 where
+  pub elements : List ElementOf
+  pub keys : List RowKey
+  pub room : ℕ
+  pub row_room : ℕ
+
+abbrev pub keyed_elements : BodyOf → KeyedElements
+keyed_elements body = record { elements = body.elements; keys = body.keys }
+
+abbrev pub no_elements : KeyedElements
 no_elements = record { elements = []; keys = [] }
 
 -- Elements of these lines.
-abbrev pub body_of : List LineState → List ElementOf → BodyOf
+abbrev pub body_of : List LineState → List ElementOf → KeyedElements
 body_of lines elements = record { elements = elements; keys = map (row_key lines) (placed_in elements) }
 
 -- One more element.
-abbrev pub with_element : List LineState → BodyOf → ElementOf → BodyOf
+abbrev pub with_element : List LineState → KeyedElements → ElementOf → KeyedElements
 with_element lines body element =
     record { elements = body.elements ++ element ∷ []; keys = body.keys ++ map (row_key lines) (placed_rows element) }
 

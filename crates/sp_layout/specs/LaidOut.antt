@@ -7,13 +7,13 @@ use Rattle.spec_script.specs.Stanzas.{PlacedBlock}
 use Rattle.spec_layout.specs.Cells.{RowShows}
 use Rattle.spec_layout.specs.Speakers.{Spoken, spoken_elements}
 use Rattle.spec_layout.specs.Layout.{Layout, kind_of, is_page_break, is_title_element, AreJoined, laid_out, layout_in, layout_of, placed_in}
-use Rattle.sp_layout.specs.Bodies.{BodyOf, no_elements, body_of, with_element, row_count}
+use Rattle.sp_layout.specs.Bodies.{KeyedElements, no_elements, body_of, with_element, row_count}
 use Rattle.sp_layout.specs.Speaking.{SpeakersOf}
 
 -- Its title page, its body, and the rows of the body before which its page breaks stand.
 pub record LayoutOf : Type 0 where
-  pub titles : BodyOf
-  pub body : BodyOf
+  pub titles : KeyedElements
+  pub body : KeyedElements
   pub breaks : List ℕ
 
 abbrev pub no_layout : LayoutOf

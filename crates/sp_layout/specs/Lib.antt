@@ -2,3 +2,4 @@ pub mod Speaking
 pub mod Places
 pub mod Bodies
 pub mod LaidOut
+pub mod Exchanges

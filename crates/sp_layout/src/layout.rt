@@ -30,11 +30,12 @@ pub struct Layout {
 }
 
 impl Model for Layout {
+    ghost use Rattle.sp_layout.specs.Bodies.{keyed_elements};
     ghost use Rattle.sp_layout.specs.LaidOut.{LayoutOf};
 
     ghost Value = { LayoutOf };
 
-    ghost view = { λ l. record { titles = l.titles; body = l.body; breaks = l.breaks.items } };
+    ghost view = { λ l. record { titles = keyed_elements l.titles; body = keyed_elements l.body; breaks = l.breaks.items } };
 }
 
 fn is_speech(kind: Kind) -> bool

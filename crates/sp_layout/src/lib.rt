@@ -3,6 +3,7 @@
 
 mod body;
 mod layout;
+mod moves;
 mod page;
 mod placed;
 mod search;

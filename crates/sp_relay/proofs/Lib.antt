@@ -1,0 +1,2 @@
+pub mod RunsBack
+pub mod PartLaws

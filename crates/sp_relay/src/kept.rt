@@ -1,0 +1,187 @@
+//! A text laid out that is kept, and parts of it that are exchanged.
+ghost use Rattle.std.specs.Prelude.{◌≡◌, ◌≤◌, IfErr, IfOk, IsOk, OnErr, OnOk};
+ghost use Rattle.sp_layout.specs.LaidOut.{LayoutOf};
+ghost use Rattle.sp_relay.specs.Kept.{CanSwap, HasPartRoom, KeepsRoom, laid_of, with_part};
+
+use crate::runs::{exchange_breaks, exchange_run, make_break_room, make_run_room};
+use sp_layout::{Body, Layout};
+use std::alloc::AllocError;
+use std::marker::Model;
+
+/// A text laid out (docs/RULES.md, "Elements" and "Pages"), of which parts can be exchanged.
+#[derive(Drop)]
+pub struct KeptLayout {
+    pub titles: Body,
+    pub body: Body,
+    pub breaks: Vec<usize>,
+}
+
+impl Model for KeptLayout {
+    ghost use Rattle.std.specs.Prelude.{vec_capacity};
+    ghost use Rattle.sp_relay.specs.Kept.{KeptOf};
+
+    ghost Value = { KeptOf };
+
+    ghost view = { λ k. record { titles = k.titles; body = k.body; breaks = k.breaks.items; break_room = vec_capacity k.breaks } };
+}
+
+/// From which place to before which other a part of a layout stands: among the elements of the title page, those of the
+/// body, and the page breaks. The places of lines behind it become less and more by so much when it is exchanged.
+#[derive(Clone, Copy)]
+pub struct PartPlaces {
+    pub title_from: usize,
+    pub title_to: usize,
+    pub from: usize,
+    pub to: usize,
+    pub break_from: usize,
+    pub break_to: usize,
+    pub less: u64,
+    pub more: u64,
+}
+
+/// A part of a layout, to be put in the place of what stands there now.
+#[derive(Drop)]
+pub struct LayoutPart {
+    pub places: PartPlaces,
+    pub kept: KeptLayout,
+}
+
+impl Model for LayoutPart {
+    ghost use Rattle.sp_relay.specs.Kept.{PartOf};
+
+    ghost Value = { PartOf };
+
+    ghost view = { λ p. record { places = p.places; kept = p.kept } };
+}
+
+/// What could not be exchanged for want of memory.
+#[derive(Drop)]
+pub struct UnswappedLayout {
+    pub back: LayoutPart,
+}
+
+/// Makes room for an exchange.
+fn make_part_room(
+    kept: &mut KeptLayout,
+    at: &PartPlaces,
+    part: &mut KeptLayout,
+) -> Result<(), AllocError>
+    requires { CanSwap (laid_of kept.old) at.now (laid_of part.old) }
+    ensures kept { laid_of kept.new ≡ laid_of kept.old }
+    ensures part { laid_of part.new ≡ laid_of part.old }
+    ensures ok { OnOk result (HasPartRoom kept.new at.now part.new) }
+    ensures room { KeepsRoom kept.old kept.new }
+    ensures part_room { KeepsRoom part.old part.new }
+    ensures succeeds { HasPartRoom kept.old at.now part.old → IsOk result }
+{
+    make_run_room(
+        &mut kept.titles,
+        at.title_from,
+        at.title_to,
+        &mut part.titles,
+    )?;
+    make_run_room(&mut kept.body, at.from, at.to, &mut part.body)?;
+    make_break_room(
+        &mut kept.breaks,
+        at.break_from,
+        at.break_to,
+        &mut part.breaks,
+    )
+}
+
+/// Exchanges a part where there is room, and tells where those that came stand.
+fn exchange_part(kept: &mut KeptLayout, at: &PartPlaces, part: &mut KeptLayout) -> PartPlaces
+    requires can { CanSwap (laid_of kept.old) at.now (laid_of part.old) }
+    requires room { HasPartRoom kept.old at.now part.old }
+    ensures kept { laid_of kept.new ≡ with_part (laid_of kept.old) at.now (laid_of part.old) }
+    ensures back { with_part (laid_of kept.new) result (laid_of part.new) ≡ laid_of kept.old }
+    ensures can { CanSwap (laid_of kept.new) result (laid_of part.new) }
+    ensures room { HasPartRoom kept.new result part.new }
+    ensures kept_room { KeepsRoom kept.old kept.new }
+    ensures part_room { KeepsRoom part.old part.new }
+{
+    let _len = kept.body.len();
+    let row = kept.body.rows_before(at.from);
+    let row_end = kept.body.rows_before(at.to);
+    let end = row + part.body.rows();
+    let title_to = exchange_run(
+        &mut kept.titles,
+        at.title_from,
+        at.title_to,
+        &mut part.titles,
+        at.less,
+        at.more,
+    );
+    let to = exchange_run(
+        &mut kept.body,
+        at.from,
+        at.to,
+        &mut part.body,
+        at.less,
+        at.more,
+    );
+    let break_to = exchange_breaks(
+        &mut kept.breaks,
+        at.break_from,
+        at.break_to,
+        &mut part.breaks,
+        row,
+        row_end,
+        end,
+    );
+    PartPlaces {
+        title_from: at.title_from,
+        title_to,
+        from: at.from,
+        to,
+        break_from: at.break_from,
+        break_to,
+        less: at.more,
+        more: at.less,
+    }
+}
+
+impl KeptLayout {
+    /// A layout, to be kept.
+    pub fn new(layout: Layout) -> KeptLayout
+        ensures { laid_of result ≡ layout }
+    {
+        let Layout {
+            titles,
+            body,
+            breaks,
+        } = layout;
+        KeptLayout {
+            titles,
+            body,
+            breaks,
+        }
+    }
+
+    /// Exchanges a part of the layout for what stands in its place, and moves what is behind it; no row is copied. What it
+    /// answers leads back when it is exchanged in its turn. `UnswappedLayout` comes for want of memory alone, never where
+    /// there is room; then the layout is as it was, and the part is handed back.
+    pub fn swap(&mut self, back: LayoutPart) -> Result<LayoutPart, UnswappedLayout>
+        requires { CanSwap (laid_of self.old) back.places (laid_of back.kept) }
+        ensures layout { OnOk result (laid_of self.new ≡ with_part (laid_of self.old) back.places (laid_of back.kept)) }
+        ensures back { IfOk result (λ it. with_part (laid_of self.new) it.places (laid_of it.kept) ≡ laid_of self.old) }
+        ensures can { IfOk result (λ it. CanSwap (laid_of self.new) it.places (laid_of it.kept)) }
+        ensures returns { IfOk result (λ it. HasPartRoom self.new it.places it.kept) }
+        ensures room { KeepsRoom self.old self.new }
+        ensures part_room { IfOk result (λ it. KeepsRoom back.kept it.kept) }
+        ensures never { HasPartRoom self.old back.places back.kept → IsOk result }
+        ensures same { OnErr result (laid_of self.new ≡ laid_of self.old) }
+        ensures handed_back { IfErr result (λ e. (e.back.places ≡ back.places) × (laid_of e.back.kept ≡ laid_of back.kept)) }
+    {
+        let LayoutPart { places, mut kept } = back;
+        match make_part_room(self, &places, &mut kept) {
+            Ok(()) => {
+                let places = exchange_part(self, &places, &mut kept);
+                Ok(LayoutPart { places, kept })
+            }
+            Err(_) => Err(UnswappedLayout {
+                back: LayoutPart { places, kept },
+            }),
+        }
+    }
+}

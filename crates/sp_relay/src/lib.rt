@@ -1,0 +1,9 @@
+//! A text laid out, kept through its edits: only what an edit changes is laid out anew (docs/RULES.md, "Windows").
+#![tactic(auto)]
+
+mod kept;
+mod relaying;
+mod runs;
+
+pub use kept::{KeptLayout, LayoutPart, PartPlaces, UnswappedLayout};
+pub use relaying::relay;

@@ -1,0 +1,74 @@
+//! Exchanging a run of a list.
+ghost use Rattle.std.specs.Prelude.{◌≡◌, ◌+◌, ◌-◌, ◌<◌, ◌≤◌, ◌++◌, [], length, take, drop, reverse, slice_range, vec_len, vec_capacity, IsOk, OnOk, OnErr};
+ghost use Rattle.sp_splice.specs.Runs.{Poured, exchanged};
+
+use std::alloc::AllocError;
+
+/// Makes room for so many items in all. On an error the list has the room that it had.
+pub fn make_room<T>(list: &mut Vec<T>, total: usize) -> Result<(), AllocError>
+    ensures items { list.new.items ≡ list.old.items }
+    ensures len { vec_len list.new ≡ vec_len list.old }
+    ensures ok { OnOk result (total ≤ vec_capacity list.new) }
+    ensures room { vec_capacity list.old ≤ vec_capacity list.new }
+    ensures succeeds { total ≤ vec_capacity list.old → IsOk result }
+    ensures err { OnErr result (vec_capacity list.new ≡ vec_capacity list.old) }
+{
+    list.reserve(total.saturating_sub(list.len()))
+}
+
+/// Takes so many items off the end of a list and puts them behind another, the last first.
+fn pour<T>(from: &mut Vec<T>, to: &mut Vec<T>, count: usize)
+    requires there { count ≤ vec_len from.old }
+    requires room { vec_len to.old + count ≤ vec_capacity to.old }
+    ensures poured { Poured from.old.items to.old.items from.new.items to.new.items count }
+    ensures from_len { vec_len from.new + count ≡ vec_len from.old }
+    ensures to_len { vec_len to.new ≡ vec_len to.old + count }
+    ensures from_room { vec_capacity from.new ≡ vec_capacity from.old }
+    ensures to_room { vec_capacity to.new ≡ vec_capacity to.old }
+{
+    for _ in 0..count {
+        to.push_reserved(from.take_last());
+    }
+}
+
+/// Moves the last items of a list to a place of it.
+fn bring_back<T>(list: &mut Vec<T>, place: usize, count: usize)
+    requires { place + count ≤ vec_len list.old }
+    ensures items { list.new.items ≡ take place list.old.items ++ (drop (length list.old.items - count) list.old.items ++ slice_range list.old.items place (length list.old.items - count)) }
+    ensures len { vec_len list.new ≡ vec_len list.old }
+    ensures room { vec_capacity list.new ≡ vec_capacity list.old }
+{
+    list[place..].rotate_right(count);
+}
+
+/// Moves items at a place of a list to its end.
+fn send_off<T>(list: &mut Vec<T>, place: usize, count: usize)
+    requires { place + count ≤ vec_len list.old }
+    ensures items { list.new.items ≡ take place list.old.items ++ (drop (place + count) list.old.items ++ slice_range list.old.items place (place + count)) }
+    ensures len { vec_len list.new ≡ vec_len list.old }
+    ensures room { vec_capacity list.new ≡ vec_capacity list.old }
+{
+    list[place..].rotate_left(count);
+}
+
+/// Exchanges the items of a list from one place to before another for others. The later ones are moved, none is copied, and
+/// no memory is taken.
+pub fn exchange<T>(list: &mut Vec<T>, from: usize, to: usize, items: &mut Vec<T>)
+    requires order { from ≤ to }
+    requires within { to ≤ vec_len list.old }
+    requires room { vec_len list.old + vec_len items.old ≤ vec_capacity list.old }
+    requires items_room { to - from ≤ vec_capacity items.old }
+    ensures list { list.new.items ≡ exchanged list.old.items from to items.old.items }
+    ensures items { items.new.items ≡ slice_range list.old.items from to }
+    ensures list_room { vec_capacity list.new ≡ vec_capacity list.old }
+    ensures items_room { vec_capacity items.new ≡ vec_capacity items.old }
+{
+    let count = items.len();
+    let stands = to - from;
+    items.reverse();
+    pour(items, list, count);
+    bring_back(list, from, count);
+    send_off(list, from + count, stands);
+    pour(list, items, stands);
+    items.reverse();
+}

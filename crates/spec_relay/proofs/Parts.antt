@@ -1,0 +1,74 @@
+-- Elements of blocks, part by part.
+use Rattle.std.proofs.Common.{◌≡◌, ℕ, Bool, true, false, ◌&&◌, not, List, [], ◌∷◌, ◌++◌, map, Option, inl, inr, refl, sym, ap, ◌∙◌}
+use Rattle.std.proofs.lemmas.List.{append-nil, map-append}
+use Rattle.std.specs.List.{list_any}
+use Rattle.std.proofs.lemmas.Bool.{or_cases}
+use Rattle.spec_text.specs.Lines.{LineState, line_texts}
+use Rattle.spec_script.specs.declared.Kind.{Kind}
+use Rattle.spec_script.specs.declared.Kind.TheVariants as kinds
+use Rattle.spec_script.specs.LongestRuns.{longest_runs}
+use Rattle.spec_script.specs.Stanzas.{PlacedBlock}
+use Rattle.spec_script.specs.Elements.{is_speech_kind, is_dual}
+use Rattle.spec_reread.proofs.Splits.{Parted, runs-append}
+use Rattle.spec_layout.specs.Speakers.{Spoken, named_block, named_from, speaker_after, speaker_by, is_pair, settled_element, spoken_elements}
+use Rattle.spec_relay.specs.Moved.{speaker_behind, BeginsApart, settles, settles_kind}
+
+-- A block without a caret is joined with none before it.
+and-none : (b : Bool) → (b && false) ≡ false
+and-none true = refl
+and-none false = refl
+
+dual-none : (left right : PlacedBlock) → right.block.caret ≡ false → is_dual left right ≡ false
+dual-none left right none =
+    let before = is_speech_kind left.block.kind && not left.block.caret && is_speech_kind right.block.kind in
+    ap (λ b. before && b) none ∙ and-none before
+
+parted : (those : List Spoken) (it : Spoken) → it.placed.block.caret ≡ false → Parted is_pair those it
+parted [] it none = tt
+parted (one ∷ []) it none = dual-none one.placed it.placed none
+parted (one ∷ other ∷ those) it none = parted (other ∷ those) it none
+
+named-append : (on : Bool) (texts : List (List ℕ)) (last : Option (List ℕ)) (xs ys : List PlacedBlock)
+    → named_from on texts last (xs ++ ys) ≡ named_from on texts last xs ++ named_from on texts (speaker_behind texts last xs) ys
+named-append on texts last [] ys = refl
+named-append on texts last (x ∷ xs) ys = ap (λ (those : List Spoken). named_block on texts last x ∷ those) (named-append on texts (speaker_after texts last x) xs ys)
+
+-- The elements of blocks, and of those behind them.
+pub spoken-append : (on : Bool) (lines : List LineState) (last : Option (List ℕ)) (xs ys : List PlacedBlock) → BeginsApart ys
+    → spoken_elements on lines last (xs ++ ys) ≡ spoken_elements on lines last xs ++ spoken_elements on lines (speaker_behind (line_texts lines) last xs) ys
+spoken-append on lines last xs [] apart =
+    ap (spoken_elements on lines last) (append-nil xs) ∙ sym (append-nil (spoken_elements on lines last xs))
+spoken-append on lines last xs (y ∷ ys) apart =
+    let texts = line_texts lines in
+    let behind = speaker_behind texts last xs in
+    let front = named_from on texts last xs in
+    let own = named_block on texts behind y in
+    let later = named_from on texts (speaker_after texts behind y) ys in
+    ap (λ (those : List Spoken). map (settled_element lines) (longest_runs is_pair those)) (named-append on texts last xs (y ∷ ys))
+    ∙ ap (map (settled_element lines)) (runs-append is_pair front own later (parted front own apart))
+    ∙ map-append (settled_element lines) (longest_runs is_pair front) (longest_runs is_pair (own ∷ later))
+
+-- The last speaker behind two parts.
+pub behind-append : (texts : List (List ℕ)) (last : Option (List ℕ)) (xs ys : List PlacedBlock) → speaker_behind texts last (xs ++ ys) ≡ speaker_behind texts (speaker_behind texts last xs) ys
+behind-append texts last [] ys = refl
+behind-append texts last (x ∷ xs) ys = behind-append texts (speaker_after texts last x) xs ys
+
+-- Behind a heading or a speech it doesn't matter who spoke before.
+settled-by : (kind : Kind) (name : List ℕ) (one other : Option (List ℕ)) → settles_kind kind ≡ true → speaker_by kind name one ≡ speaker_by kind name other
+settled-by kinds.Heading name one other is = refl
+settled-by kinds.Speech name one other is = refl
+settled-by kinds.Title name one other is = cc
+settled-by kinds.PageBreak name one other is = cc
+settled-by kinds.Action name one other is = cc
+settled-by kinds.Lyric name one other is = cc
+settled-by kinds.Transition name one other is = cc
+settled-by kinds.Centred name one other is = cc
+settled-by kinds.Section name one other is = cc
+settled-by kinds.Synopsis name one other is = cc
+
+pub behind-settled : (texts : List (List ℕ)) (one other : Option (List ℕ)) (blocks : List PlacedBlock) → list_any settles blocks ≡ true → speaker_behind texts one blocks ≡ speaker_behind texts other blocks
+behind-settled texts one other [] some = cc
+behind-settled texts one other (block ∷ blocks) some = elim (or_cases (settles block) (list_any settles blocks) some) [
+  | inl here ↦ ap (λ last. speaker_behind texts last blocks) (settled-by block.block.kind _ one other here)
+  | inr later ↦ behind-settled texts (speaker_after texts one block) (speaker_after texts other block) blocks later
+]
