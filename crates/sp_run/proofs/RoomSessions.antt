@@ -23,13 +23,13 @@ use Rattle.spec_machine.specs.Machine.{Memory, opened_memory}
 use Rattle.spec_machine.specs.KeptMemories.{IsWholeMemory}
 use Rattle.spec_locked_pages.specs.Chains.{AreLinked}
 use Rattle.spec_room.specs.Changes.{Text}
-use Rattle.spec_room.specs.Rooms.{RoomState, RoomStep, opened_room, room_step_of}
+use Rattle.spec_room.specs.Rooms.{RoomState, RoomStep, opened_room}
 use Rattle.spec_room.specs.Sessions.{Session, opens}
 use Rattle.sp_kit.specs.Files.{ShelfState}
 use Rattle.sp_run.specs.Records.{records_name}
 use Rattle.sp_run.specs.Saving.{Changes, KeepsAllBut}
 use Rattle.sp_run.specs.DeskLines.{asks_save}
-use Rattle.sp_run.specs.RoomLines.{NamedRoom, AnswersRoomLine, SeatReplies, StopsAtRoomLine, answered_room_line, answered_room_lines, desk_in, desk_of_room, room_at, room_line_step_by, saved_room, seat_saves, seatless, step_line}
+use Rattle.sp_run.specs.RoomLines.{NamedRoom, AnswersRoomLine, SeatReplies, StopsAtRoomLine, answered_room_line, answered_room_lines, desk_in, desk_of_room, other_room, room_at, room_line_step_by, saved_room, seat_saves, seatless, step_line}
 use Rattle.sp_run.specs.Seats.{AreTakenSeen}
 use Rattle.sp_run.specs.Ending.{Outside, RoomAnsweredAll, RoomAnsweredCalmly, CountsUnsaved, HeldRoom, OpensDesk}
 use Rattle.sp_run.proofs.Answering.{not-risen}
@@ -47,7 +47,7 @@ done-letter digest version = refl
 saved-told : (room : RoomState) (asked : Result RoomLineOf FaultOf) (reply : ReplyOf) (version : ℕ) → reply ≡ (room_line_step_by room asked).reply → asks_save (seatless asked) ≡ true
     → bytes_eq (room_reply_line reply version) unsaved_line ≡ false
 saved-told room (Ok it) reply version is asks =
-    let told : reply ≡ saved (digest_of room.desk.state.lines) = is ∙ ap (λ (b : Bool). (if b then saved_room room else room_step_of room it).reply) asks in
+    let told : reply ≡ saved (digest_of room.desk.state.lines) = is ∙ ap (λ (b : Bool). (if b then saved_room room else other_room room it).reply) asks in
     other-line (room_reply_line reply version) (ap (λ (r : ReplyOf). slice_index_or (room_reply_line r version) 2 0) told ∙ done-letter (digest_of room.desk.state.lines) version)
 saved-told room (Err fault) reply version is asks = absurd (let bad : ⊥ = cc in bad)
 

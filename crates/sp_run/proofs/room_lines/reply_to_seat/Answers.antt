@@ -7,3 +7,12 @@ use Rattle.sp_run.proofs.room_lines.reply_to_seat.Goals as goal
 pub returns-then-is_save-clause-follows : goal.returns-then-is_save-clause-follows
 returns-then-is_save-clause-follows g c =
     same-follows c.args.room.now c.args.room.now refl (subst IsWholeMemory c.desk.ensures c.sheets-sheets.ensures.whole) (subst AreLinked c.desk.ensures c.sheets-sheets.ensures.linked)
+
+pub returns-then-is_packet-clause-follows : goal.returns-then-is_packet-clause-follows
+returns-then-is_packet-clause-follows g c =
+    same-follows
+    c.args.room.now
+    c.args.room.now
+    refl
+    (subst IsWholeMemory c.desk-then-is_packet.ensures c.sheets-sheets-then-is_packet.ensures.whole)
+    (subst AreLinked c.desk-then-is_packet.ensures c.sheets-sheets-then-is_packet.ensures.linked)
