@@ -102,11 +102,11 @@ impl Desk {
     /// Answers a command, as the machine does: what it makes of the memory, and the reply; a refusal is a fault and never
     /// `Reply::Refused`. NoMemory may come in place of any answer, and then nothing is changed. An edit, an undo, a redo and
     /// a setting lay out the whole text; the other commands, locks and rounds among them, lay out nothing (docs/RULES.md,
-    /// "The desk"). An edit and a change of the paper fill each page of the body once, and no other command fills one. An edit reads each stanza of its window once, and no other command
-    /// reads one (docs/RULES.md, "Windows"). No command loses a locked label, and an accepted lock of pages or
-    /// a new round leaves the bytes of every sheet as they were (docs/RULES.md, "Page records" and "Scene numbers"). An edit
-    /// keeps the bytes of each locked page that it leaves alone, and so do all edits that can be undone, from each of them
-    /// on (docs/RULES.md, "Windows").
+    /// "The desk"). A change of the paper counts at most one fill for each page on the new one, and no command but it and an
+    /// edit counts one. An edit reads each stanza of its window once, and no other command reads one (docs/RULES.md,
+    /// "Windows"). No command loses a locked label, and an accepted lock of pages or a new round leaves the bytes of every
+    /// sheet as they were (docs/RULES.md, "Page records" and "Scene numbers"). An edit keeps the bytes of each locked page
+    /// that it leaves alone, and so do all edits that can be undone, from each of them on (docs/RULES.md, "Windows").
     pub fn apply<S: Steps>(
         &mut self,
         alloc: Global,
