@@ -19,7 +19,8 @@ pub const MOST: usize = 1 << 30;
 /// - `?` the number of the status, and its line, where it isn't 0;
 /// - `=` a line of what stands under `f` at the end, `~` one of what stands under `f.desk`, where that is asked for.
 ///
-/// Any other line is a remark. A number with `*` before a line stands for so many of it. In what is written `[n]` stands for n spaces.
+/// Any other line is a remark. A number with `*` before a line stands for so many of it. In what is written `[n]` stands for n spaces, but
+/// `[0]` for itself.
 #[derive(Drop)]
 pub struct Case {
     pub words: Vec<String>,
@@ -38,13 +39,17 @@ pub struct Case {
     pub records_kept: Vec<u8>,
 }
 
-/// A text in which `[n]` stands for n spaces.
+/// A text in which `[n]` stands for n spaces, but `[0]` for itself.
 pub fn spaced(alloc: Global, row: &str) -> Result<Vec<u8>, AllocError> {
     let text = row.as_bytes();
     let mut bytes = Vec::new(alloc);
     let mut count: Option<usize> = None;
     for (place, byte) in text.iter().enumerate() {
         match count {
+            Some(0) if *byte == b']' => {
+                bytes.extend_from_slice(b"[0]")?;
+                count = None;
+            }
             Some(spaces) if *byte == b']' => {
                 bytes.extend_from_slice(vec![in alloc; b' '; spaces.min(100)]?.as_slice())?;
                 count = None;

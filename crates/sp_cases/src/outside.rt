@@ -78,8 +78,8 @@ $print f
 #1
 :[15]Hello.
 #2
-:[37]BOB
-:[25]Hi."##;
+:[15]BOB
+:[15]Hi."##;
 
 /// A session whose files fail.
 const FILES: &str = r##"fetching the script fails
