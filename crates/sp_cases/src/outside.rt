@@ -53,6 +53,16 @@ $print f
 |
 ?4 fountain: the text is too long
 
+a file of sheets is missing, and one is none
+$collate f g
+|!a
+?3 fountain: no file g
+
+$collate g f
+&
+|!a
+?13 fountain: not printed sheets, file 0 sheet 0
+
 the sink takes ten bytes, and then fails
 |!Hello.
 %10
@@ -299,6 +309,36 @@ const PRINTED: &str = r##"%7
 |
 |EXT. STREET - NIGHT"##;
 
+/// Its outline.
+const OUTLINED: &str = r##"$outline f
+%7
+|Title: The Lamp
+|Author: A. Writer
+|
+|FADE IN:
+|
+|INT. KITCHEN - DAY #1#
+|
+|ANNA (30) lights a lamp. [[check prop]]
+|
+|ANNA
+|(softly)
+|It is *late*.
+|
+|BERT
+|Go.
+|
+|ANNA ^
+|Stay.
+|
+|~La la la
+|
+|> CUT TO:
+|
+|= Anna leaves.
+|
+|EXT. STREET - NIGHT"##;
+
 /// A session that locks, edits and saves, twice.
 const HELD: &str = r##"%7
 $desk f
@@ -394,14 +434,17 @@ fn fail_in_turn(
 
 #[test]
 fn each_call_fails_in_turn(rt: HostRuntime) -> Result<(), Fail> {
-    for (text, kind, status) in [
-        (PRINTED, b'i', "5"),
-        (PRINTED, b'o', "6"),
-        (HELD, b'i', "5"),
-        (HELD, b'o', "6"),
+    // A case, which calls fail, the status that tells of it, and how many such calls there are at least.
+    for (text, kind, status, least) in [
+        (PRINTED, b'i', "5", 20),
+        (PRINTED, b'o', "6", 20),
+        (OUTLINED, b'o', "6", 1),
+        (OUTLINED, b's', "7", 2),
+        (HELD, b'i', "5", 20),
+        (HELD, b'o', "6", 20),
     ] {
         assert!(rt;
-            fail_in_turn(&rt, rt.alloc(), text, kind, status)? > 20,
+            fail_in_turn(&rt, rt.alloc(), text, kind, status)? >= least,
             "{status}"
         );
     }

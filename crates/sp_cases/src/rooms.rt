@@ -66,7 +66,19 @@ $room f
 >{"do":"splice","line":0,"from":2,"to":2,"text":"b","seat":"p","seen":0}
 <{"lines":1,"ok":true,"sheets":1,"version":1}
 >{"do":"packet","seat":"q"}
-<{"ok":true,"sheets":[0],"version":1}"##;
+<{"ok":true,"sheets":[0],"version":1}
+
+a store fails
+$room f
+|!a
+!s2
+>{"do":"splice","line":0,"from":2,"to":2,"text":"b","seat":"p","seen":0}
+<{"lines":1,"ok":true,"sheets":1,"version":1}
+>{"do":"save","seat":"p"}
+<{"no":"Shelf"}
+>{"do":"save","seat":"q"}
+<{"digest":"2c2dd9037d711c76050dd21b2803c589ca2afff5807ac63d805bcdec36658594","ok":true,"version":1}
+=!ab"##;
 
 #[test]
 fn seats_are_answered(rt: HostRuntime) -> Result<(), Fail> {
