@@ -50,8 +50,8 @@ impl Model for SheetFacts {
 }
 
 /// The facts of the sheets with labels of a script whose pages are locked, in print order (docs/RULES.md, "Packets"). Each
-/// sheet, each record and each row of a cue that is repeated is looked at once. `AllocError` comes for want of memory
-/// alone.
+/// sheet and each record is looked at once, and each row of a cue once for each sheet that repeats it. `AllocError` comes
+/// for want of memory alone.
 pub fn sheet_facts(alloc: Global, script: &Script) -> Result<Vec<SheetFacts>, AllocError>
     requires { is_some (script.now).pages ≡ true }
     ensures facts { IfOk result (λ facts. facts.items ≡ laid_facts (laid_of script.now)) }
