@@ -1,6 +1,8 @@
 //! The rows that an edit exchanges, found by the stanzas and the elements round its window (docs/RULES.md, "Windows").
 #![tactic(auto)]
 
+mod blocks;
+mod elements;
 mod finder;
 
 pub use finder::{ExchangedRows, exchanged_rows};

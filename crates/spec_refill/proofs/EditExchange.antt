@@ -59,7 +59,7 @@ module _ (state : State) (whole : IsWhole state) where
   state-shapes : map shape_of (rows_in state) ≡ shapes (state_marks state)
   state-shapes = same-shapes state whole.text ∙ marks-shapes (items_of state) ∙ ap shapes (items-are state)
 
-  state-rows : length (rows_in state) ≡ rows (state_marks state)
+  pub state-rows : length (rows_in state) ≡ rows (state_marks state)
   state-rows = sym (length-map (rows_in state) shape_of) ∙ ap length state-shapes
 
   state-breaks : (layout_in state).breaks ≡ breaks 0 (state_marks state)
@@ -92,6 +92,12 @@ speakers-starts state on whole other = pages-marked (record state { speakers = o
 anchors-follow : (it : Replacement) (spots : List Spot) → AllFollow (range_of it) spots (map (anchor_after (range_of it)) spots)
 anchors-follow it [] = tt
 anchors-follow it (spot ∷ spots) = (anchor-follows (range_of it) spot, anchors-follow it spots)
+
+-- The rows of two texts: so many before the relaid elements, theirs, and as many behind them in both.
+pub record RowsParted (olds news first gone come : ℕ) : Type 0 where
+  pub behind : ℕ
+  pub old_are : olds ≡ first + gone + behind
+  pub new_are : news ≡ first + come + behind
 
 -- Page breaks and record starts of both texts by marks, with the spots that the edit moves.
 record Spots (it : Replacement) (old new : State) : Type 0 where
@@ -165,16 +171,16 @@ module _ (state : State) (it : Replacement) (whole : IsWhole state) (can : CanEd
     abbrev w : WindowBlocks
     w = blocks_round (range_of it) state after a b
 
-    around : Around both w
+    pub around : Around both w
     around = blocks-around state it whole can a b window
 
-    olds-are : blocks_in state ≡ elements_in (old_blocks w)
+    pub olds-are : blocks_in state ≡ elements_in (old_blocks w)
     olds-are = ap elements_in (sym (spoken-blocks state) ∙ around.old_are)
 
-    news-are : blocks_in after ≡ elements_in (new_blocks w)
+    pub news-are : blocks_in after ≡ elements_in (new_blocks w)
     news-are = ap elements_in (sym (spoken-blocks after) ∙ around.new_are)
 
-    sound : All ElementSound (elements_in (old_blocks w))
+    pub sound : All ElementSound (elements_in (old_blocks w))
     sound =
         let one = IsText-texts (text_of state) whole.text in
         let none : Group PlacedBlock → Bool = λ element. false in
@@ -205,6 +211,17 @@ module _ (state : State) (it : Replacement) (whole : IsWhole state) (can : CanEd
         let news : with_next (length (rows_in after)) front_rows (count_rows after.lines (elements_in (new_relaid w))) ≡ rows found.come + min 1 (rows found.back) = omega (arith, other, count_after, first, come) in
         ap₂ (λ (n m : ℕ). record { first = n; old = m; new = with_next (length (rows_in after)) front_rows (count_rows after.lines (elements_in (new_relaid w))) }) first olds
         ∙ ap (λ (n : ℕ). record { first = rows found.front; old = rows found.gone + min 1 (rows found.back); new = n }) news
+
+    pub rows-parted : RowsParted (length (rows_in state)) (length (rows_in after)) front_rows (count_rows state.lines (elements_in (old_relaid w))) (count_rows after.lines (elements_in (new_relaid w)))
+    rows-parted =
+        let one = old-rows (range_of it) found.front found.gone found.come found.back (state_marks state) (state_marks after) found.sides in
+        let other = new-rows (range_of it) found.front found.gone found.come found.back (state_marks state) (state_marks after) found.sides in
+        let count = state-rows state whole in
+        let count_after = state-rows after after_whole in
+        let first = found.first_is in
+        let old = found.old_is in
+        let come = found.new_is in
+        record { behind = rows found.back; old_are = omega (arith, one, count, first, old); new_are = omega (arith, other, count_after, first, come) }
 
     -- Apart from the exchanged rows, rows and stops of both states are the same but for the shift.
     pub edit-exchanged : (old_stops stops : List ℕ) → AreStops (length (map shape_of (rows_in state))) old_stops → AreStops (length (map shape_of (rows_in after))) stops

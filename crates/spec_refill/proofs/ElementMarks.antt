@@ -76,7 +76,7 @@ beside-marks lines c placed (right ∷ more) =
     let made = blocks_beside lines placed.first placed.block right.first right.block in
     speakers-marks lines placed.first placed.first (c placed ∷ c right ∷ []) made ∙ sym (speakers-marks lines placed.first placed.first (false ∷ false ∷ []) made)
 
-rows-marks : (script : Script) (element : Group PlacedBlock) → map row_mark (text_rows script element) ≡ map row_mark (body_rows script.lines element)
+pub rows-marks : (script : Script) (element : Group PlacedBlock) → map row_mark (text_rows script element) ≡ map row_mark (body_rows script.lines element)
 rows-marks script element = by (is_title element.first.block.kind)
   where
     by : (b : Bool) → map row_mark (cond b [] (placed_rows (laid_out script.lines (spoken_group script element)))) ≡ map row_mark (cond b [] (placed_rows (laid_out script.lines (silent_group element))))

@@ -1,0 +1,6 @@
+pub mod Blocks
+pub mod Searches
+pub mod Groups
+pub mod Bodies
+pub mod Relaid
+pub mod Found

@@ -1,0 +1,45 @@
+-- How many elements begin before a line (docs/RULES.md, "Windows").
+use Rattle.std.specs.Prelude.{◌≡◌, ℕ, ◌+◌, ◌-◌, ◌<◌, ◌≤◌, Bool, true, false, List, length, take, slice_index_or}
+use Rattle.spec_pages.specs.Rows.{ElementOf}
+use Rattle.sp_layout.specs.Bodies.{row_count}
+
+-- So many elements begin before a line, by the lines that their rows count from, and the others from it on.
+pub record CountsBefore (elements : List ElementOf) (line count : ℕ) : Type 0 where
+  pub within : count ≤ length elements
+  pub before : (i : ℕ) (d : ElementOf) → i < count → (slice_index_or elements i d).first < line
+  pub behind : (i : ℕ) (d : ElementOf) → count ≤ i → i < length elements → line ≤ (slice_index_or elements i d).first
+
+-- No element that begins from a line on stands before one that doesn't.
+pub record ArePartedAt (elements : List ElementOf) (line : ℕ) : Type 0 where
+  pub count : ℕ
+  pub is : CountsBefore elements line count
+
+abbrev pub one_if : Bool → ℕ
+one_if true = 1
+one_if false = 0
+
+-- So many elements begin before a line; where the last of them is relaid, there is one.
+pub record HasFront (elements : List ElementOf) (line : ℕ) (relaid : Bool) : Type 0 where
+  pub place : ℕ
+  pub is : CountsBefore elements line place
+  pub some : one_if relaid ≤ place
+
+-- Before these, and before the last where it is relaid, stand so many rows.
+pub record RowsBefore (elements : List ElementOf) (line : ℕ) (relaid : Bool) (count : ℕ) : Type 0 where
+  pub place : ℕ
+  pub is : CountsBefore elements line place
+  pub some : one_if relaid ≤ place
+  pub are : row_count (take (place - one_if relaid) elements) ≡ count
+
+-- So many elements begin before a line; where the first behind them is relaid, there is one.
+pub record HasRest (elements : List ElementOf) (line : ℕ) (relaid : Bool) : Type 0 where
+  pub place : ℕ
+  pub is : CountsBefore elements line place
+  pub some : place + one_if relaid ≤ length elements
+
+-- These, with the first behind them where it is relaid, have so many rows.
+pub record RowsUpTo (elements : List ElementOf) (line : ℕ) (relaid : Bool) (count : ℕ) : Type 0 where
+  pub place : ℕ
+  pub is : CountsBefore elements line place
+  pub some : place + one_if relaid ≤ length elements
+  pub are : row_count (take (place + one_if relaid) elements) ≡ count
