@@ -9,7 +9,7 @@ use Rattle.spec_text.specs.Ranges.{range_of}
 use Rattle.spec_text.proofs.EditLaws.{length-lines_put}
 use Rattle.spec_script.specs.BlockValues.{BlockOf, StanzaOf}
 use Rattle.spec_script.specs.LongestRuns.{Group}
-use Rattle.spec_script.specs.Stanzas.{stanzas_of}
+use Rattle.spec_script.specs.Stanzas.{stanzas_of, stanzas_from}
 use Rattle.spec_script.specs.Elements.{elements_in}
 use Rattle.spec_pages.specs.Rows.{ElementOf, Row}
 use Rattle.spec_layout.specs.Speakers.{Spoken}
@@ -39,7 +39,7 @@ use Rattle.sp_layout.specs.Bodies.{row_count}
 use Rattle.sp_refill.specs.Edits.{IsOfEdit, IsOfSomeEdit}
 use Rattle.sp_refill.specs.Neighbours.{nearer, first_in, last_in, relays_front, parts_rest, relays_before, parts_behind}
 use Rattle.sp_refill.specs.Counts.{RowsBefore, RowsUpTo}
-use Rattle.sp_refill.proofs.Blocks.{block_by, last-in-append, first-is, last-is, rest_parted, front-relaid, rest-parts}
+use Rattle.sp_refill.proofs.NextBlocks.{block_by, last-in-append, first-is, last-is, rest_parted, front-relaid, rest-parts}
 use Rattle.sp_refill.proofs.Bodies.{body_in, body-rows}
 use Rattle.sp_refill.proofs.Relaid.{old-found, new-found}
 
@@ -162,7 +162,7 @@ module _ (state : State) (it : Replacement) (whole : IsWhole state) (can : CanEd
         ∙ ap₂ (λ (f g : Option BlockOf). relays_front f g (block_by (first_block w.come)) (block_by (first_block w.rest)))
         (last-is 0 (stanzas_between (line_texts state.lines) 0 a) ∙ sym (ap last_in of.front)) (first-is a (stanzas_between (line_texts state.lines) a was) ∙ sym (ap first_in of.gone_are))
         ∙ ap₂ (λ (c r : Option BlockOf). relays_front (last_in (take at now)) (first_in gone) c r)
-        (first-is a (stanzas_between (line_texts after.lines) a b) ∙ sym (ap first_in of.come)) (first-is 0 _ ∙ sym (ap first_in of.rest)))
+        (first-is a (stanzas_between (line_texts after.lines) a b) ∙ sym (ap first_in of.come)) (first-is 0 (stanzas_from (line_texts after.lines) b) ∙ sym (ap first_in of.rest)))
 
     parts : parts_behind now at stands gone ≡ rest_parted w
     parts =
@@ -172,7 +172,7 @@ module _ (state : State) (it : Replacement) (whole : IsWhole state) (can : CanEd
         (ap₂ (λ (x y : Option BlockOf). nearer x y) (last-is a (stanzas_between (line_texts state.lines) a was) ∙ sym (ap last_in of.gone_are)) (front ∙ sym (ap last_in of.front)))
         (ap₂ (λ (x y : Option BlockOf). nearer x y) (last-is a (stanzas_between (line_texts after.lines) a b)) front
         ∙ sym (last-in-append (stanzas_between (line_texts state.lines) 0 a) (stanzas_between (line_texts after.lines) a b)) ∙ sym (ap last_in front-take))
-        ∙ ap (λ (r : Option BlockOf). parts_rest (nearer (last_in gone) (last_in (take at now))) (last_in (take (at + stands) now)) r) (first-is 0 _ ∙ sym (ap first_in of.rest)))
+        ∙ ap (λ (r : Option BlockOf). parts_rest (nearer (last_in gone) (last_in (take at now))) (last_in (take (at + stands) now)) r) (first-is 0 (stanzas_from (line_texts after.lines) b) ∙ sym (ap first_in of.rest)))
 
     found : WindowFound now at stands gone (layout_in state).body (layout_in after).body (edit_exchange (range_of it) state after a b)
     found =

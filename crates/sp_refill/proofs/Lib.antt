@@ -1,4 +1,4 @@
-pub mod Blocks
+pub mod NextBlocks
 pub mod Searches
 pub mod Groups
 pub mod Bodies

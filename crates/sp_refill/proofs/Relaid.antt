@@ -1,5 +1,5 @@
 -- Where the relaid elements stand among those of both texts.
-use Rattle.std.proofs.Common.{◌≡◌, ◌⊎◌, ℕ, ◌+◌, ◌-◌, ◌<◌, ◌≤◌, Bool, true, false, not, ◌&&◌, ◌||◌, cond, Option, Some, None, List, [], ◌∷◌, ◌++◌, length, map, take, drop, inl, inr, refl, sym, ap, ap₂, subst, ◌∙◌, arith, append_assoc, length-append}
+use Rattle.std.proofs.Common.{◌≡◌, ◌⊎◌, ℕ, ◌+◌, ◌-◌, ◌<◌, ◌≤◌, Bool, true, false, not, ◌&&◌, ◌||◌, cond, Option, Some, None, List, [], ◌∷◌, ◌++◌, length, map, take, drop, get_or, inl, inr, refl, sym, ap, ap₂, subst, ◌∙◌, arith, append_assoc, length-append}
 use Rattle.std.specs.Prelude.{All, option_map}
 use Rattle.std.specs.List.{flat_map, take_while}
 use Rattle.std.proofs.lemmas.Bool.{cases_Bool, and_parts, or_cases, or_parts, cond-false, true≢false, lt-ltb, le-ltb}
@@ -33,7 +33,7 @@ use Rattle.spec_refill.proofs.ElementMarks.{marks_of, count-marks}
 use Rattle.spec_refill.proofs.MovedMarks.{all-moved}
 use Rattle.sp_layout.specs.Bodies.{row_count}
 use Rattle.sp_refill.specs.Counts.{CountsBefore, RowsBefore, RowsUpTo, one_if}
-use Rattle.sp_refill.proofs.Blocks.{block_by, last-there, last-append, joins-pair, rest_parted}
+use Rattle.sp_refill.proofs.NextBlocks.{block_by, last-there, last-append, joins-pair, rest_parted}
 use Rattle.sp_refill.proofs.Groups.{Begins, all-begin, PartedElements, parted-elements, FirstElement, first-element, joined-last}
 use Rattle.sp_refill.proofs.Bodies.{body_in, Low, High, counts-groups, rows-before, one-more}
 use Rattle.sp_refill.specs.Neighbours.{is_pair, nearer}
@@ -325,8 +325,10 @@ module _ (edit : EditBlocks) (w : WindowBlocks) (it : Around edit w) (olds news 
       by false apart = each w.come refl
         where
           free : joins w.front (w.come ++ w.rest) ≡ false
-          free = (or_parts (joins w.front (w.gone ++ w.rest)) (joins w.front (w.come ++ w.rest))
-          (sym (cond-false (is_nil w.gone && is_nil w.come) false (joins w.front (w.gone ++ w.rest) || joins w.front (w.come ++ w.rest)) is) ∙ apart)).1
+          free =
+              let one = joins w.front (w.gone ++ w.rest) in
+              let other = joins w.front (w.come ++ w.rest) in
+              (or_parts one other (sym (cond-false (is_nil w.gone && is_nil w.come) false (one || other) is) ∙ apart)).1
 
           each : (xs : List PlacedBlock) → w.come ≡ xs → is_pair (nearer (block_by (last_block xs)) None) (Some c.block) ≡ is_pair (nearer (block_by (last_block xs)) (block_by (last_block w.front))) (Some c.block)
           each [] none =
@@ -368,26 +370,23 @@ module _ (edit : EditBlocks) (w : WindowBlocks) (it : Around edit w) (olds news 
             | inr new ↦ first-speech (last_block (w.front ++ w.come)) w.rest new
           ]
 
-          abbrev c : PlacedBlock
-          c = pushed w.new_end first.own
-
-          relaid : new_relaid w ≡ relaid_front ++ c ∷ []
+          relaid : new_relaid w ≡ relaid_front ++ pushed w.new_end first.own ∷ []
           relaid =
               ap (λ b. front_half w ++ (w.come ++ map (pushed w.new_end) (cond b (take 1 w.rest) []))) relays
               ∙ ap (λ (l : List PlacedBlock). front_half w ++ (w.come ++ map (pushed w.new_end) (take 1 l))) first.are
-              ∙ sym (append_assoc (front_half w) w.come (c ∷ []))
+              ∙ sym (append_assoc (front_half w) w.come (pushed w.new_end first.own ∷ []))
 
           either : (j : Bool) → new_joined ≡ j → NewFound (rest_parted w) both_rows
           either true there =
               let flag : rest_parted w ≡ false = ap (λ b. old_joined && not b) there ∙ and-false old_joined in
-              let low = joined-last (Low edit.new_to) relaid_front c (same-last is first.own first.others first.are ∙ there) relaid-low in
+              let low = joined-last (Low edit.new_to) relaid_front (pushed w.new_end first.own) (same-last is first.own first.others first.are ∙ there) relaid-low in
               subst (λ b. NewFound b both_rows) (sym flag) (new-inside is (subst (λ (l : List PlacedBlock). All (Begins (Low edit.new_to)) (elements_in l)) (sym relaid) low))
           either false apart =
               let old : old_joined ≡ true = elim joined [ inl old ↦ old | inr new ↦ absurd (true≢false (sym new ∙ apart)) ] in
               let flag : rest_parted w ≡ true = ap₂ (λ a b. a && not b) old apart in
               let x = it.new_end in
-              let are = ap elements_in relaid ∙ elements-apart relaid_front (c ∷ []) (same-last is first.own first.others first.are ∙ apart) in
-              subst (λ b. NewFound b both_rows) (sym flag) (new-behind is c first.speech (omega (arith, x)) are)
+              let are = ap elements_in relaid ∙ elements-apart relaid_front (pushed w.new_end first.own ∷ []) (same-last is first.own first.others first.are ∙ apart) in
+              subst (λ b. NewFound b both_rows) (sym flag) (new-behind is (pushed w.new_end first.own) first.speech (omega (arith, x)) are)
 
   -- ---- where none does
 
@@ -453,9 +452,9 @@ module _ (edit : EditBlocks) (w : WindowBlocks) (it : Around edit w) (olds news 
       let front_sound = all-front ElementSound p.front p.back (subst (All ElementSound) p.are sound) in
       let front_aside = all-front (AllIn (IsAside edit)) p.front p.back (subst (All (AllIn (IsAside edit))) p.are (elements-all (IsAside edit) (old_blocks w) aside)) in
       let low = All-map (Begins (Low edit.new_to)) (element_after edit.range) p.front
-      (λ k d h. let x = p.front_all k d h in let here = after-front edit.range _ (omega (arith, x, begin)) in omega (arith, here, x, order)) in
+      (λ k d h. let x = p.front_all k d h in let here = after-front edit.range (get_or p.front k d).first.first (omega (arith, x, begin)) in omega (arith, here, x, order)) in
       let high = All-map (Begins (High edit.new_to)) (element_after edit.range) p.back
-      (λ k d h. let x = p.back_all k d h in let here = after-behind edit.range _ (omega (arith, x, was_past)) in omega (arith, here, x, was_past, shift)) in
+      (λ k d h. let x = p.back_all k d h in let here = after-behind edit.range (get_or p.back k d).first.first (omega (arith, x, was_past)) in omega (arith, here, x, was_past, shift)) in
       let found = rows-before news new_elements (move p.front) (move p.back) are in
       let inside = found.within in
       let count = length (body_in news (move p.front)) in

@@ -16,7 +16,7 @@ use sp_text::Lines;
 use std::marker::Model;
 
 /// Rows from the first one on were exchanged: so many old ones for so many new ones.
-#[derive(Clone, Copy, Drop)]
+#[derive(Drop)]
 pub struct ExchangedRows {
     pub first: usize,
     pub old: usize,
