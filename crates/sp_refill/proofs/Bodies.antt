@@ -19,7 +19,7 @@ use Rattle.spec_relayout.specs.TextItems.{Script, spoken_by, spoken_group, text_
 use Rattle.spec_refill.specs.Exchanges.{body_rows, count_rows}
 use Rattle.spec_refill.proofs.ElementMarks.{row_mark, rows-marks}
 use Rattle.sp_layout.specs.Bodies.{row_count}
-use Rattle.sp_refill.specs.Counts.{CountsBefore, ArePartedAt}
+use Rattle.sp_refill.specs.Counts.{CountsBefore, HasFront, HasRest, RowsBefore, RowsUpTo, one_if}
 use Rattle.sp_refill.proofs.Groups.{Begins}
 
 -- The body of these groups, with the speakers of a script.
@@ -140,3 +140,17 @@ pub one-more : (script : Script) (xs : List (Group PlacedBlock)) (group : Group 
 one-more script xs group speech =
     ap length (body-append script xs (group ∷ [])) ∙ length-append (body_in script xs) (body_in script (group ∷ []))
     ∙ ap (λ (b : Bool). length (body_in script xs) + length (map (laid_out script.lines) (cond (not b) (spoken_group script group ∷ []) []))) (no-title group.first.block.kind speech)
+
+-- ---- rows by counts
+
+pub before-found : (elements : List ElementOf) (line place count : ℕ) (relaid : Bool) → CountsBefore elements line place → RowsBefore elements line relaid count → row_count (take (place - one_if relaid) elements) ≡ count
+before-found elements line place count relaid is found = ap (λ n. row_count (take (n - one_if relaid) elements)) (counts-one elements line place found.place is found.is) ∙ found.are
+
+pub up-to-found : (elements : List ElementOf) (line place count : ℕ) (relaid : Bool) → CountsBefore elements line place → RowsUpTo elements line relaid count → row_count (take (place + one_if relaid) elements) ≡ count
+up-to-found elements line place count relaid is found = ap (λ n. row_count (take (n + one_if relaid) elements)) (counts-one elements line place found.place is found.is) ∙ found.are
+
+pub front-some : (elements : List ElementOf) (line place : ℕ) → CountsBefore elements line place → HasFront elements line true → 1 ≤ place
+front-some elements line place is has = let same = counts-one elements line place has.place is has.is in let some = has.some in omega (arith, same, some)
+
+pub rest-some : (elements : List ElementOf) (line place : ℕ) → CountsBefore elements line place → HasRest elements line true → place + 1 ≤ length elements
+rest-some elements line place is has = let same = counts-one elements line place has.place is has.is in let some = has.some in omega (arith, same, some)

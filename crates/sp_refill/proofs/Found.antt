@@ -232,3 +232,46 @@ some-found lines stanzas swapped olds news some =
       exchange = edit_exchange (range_of it) some.state (edited_state some.state it) exists.0 exists.1;
       found = window-found some.state it lines stanzas swapped olds news exists.0 exists.1 some.is exists.2;
     }
+
+-- ---- by the numbers of a search
+
+pub has-front : (elements : List ElementOf) (line other count : ℕ) (relaid flag : Bool) → RowsBefore elements line relaid count → other ≡ line → flag ≡ relaid → RowsBefore elements other flag count
+has-front elements line other count relaid flag found line_is flag_is = subst (λ n. RowsBefore elements n flag count) (sym line_is) (subst (λ f. RowsBefore elements line f count) (sym flag_is) found)
+
+pub has-rest : (elements : List ElementOf) (line other count : ℕ) (relaid flag : Bool) → RowsUpTo elements line relaid count → other ≡ line → flag ≡ relaid → RowsUpTo elements other flag count
+has-rest elements line other count relaid flag found line_is flag_is = subst (λ n. RowsUpTo elements n flag count) (sym line_is) (subst (λ f. RowsUpTo elements line f count) (sym flag_is) found)
+
+-- A search found the first row and the row up to which rows are exchanged.
+pub record AreFound (stanzas : List StanzaOf) (swapped : SwappedState) (olds news : List ElementOf) (first past : ℕ) : Type 0 where
+  pub first_is : (n : ℕ) → RowsBefore olds (stanza_lines_in (take swapped.at stanzas)) (relays_before stanzas swapped.at swapped.stands swapped.stanzas) n → first ≡ n
+  pub past_is : (n : ℕ) → RowsUpTo news (stanza_lines_in (take (swapped.at + swapped.stands) stanzas)) (parts_behind stanzas swapped.at swapped.stands swapped.stanzas) n → past ≡ n
+
+exchange-one : (one other : Exchange) → one.first ≡ other.first → one.old ≡ other.old → one.new ≡ other.new → one ≡ other
+exchange-one one other first old new =
+    ap₂ (λ n m. record { first = n; old = m; new = one.new }) first old ∙ ap (λ n. record { first = other.first; old = other.old; new = n }) new
+
+pub same-exchange : (stanzas : List StanzaOf) (swapped : SwappedState) (olds news : List ElementOf) (first past : ℕ) (one it : Exchange) → AreFound stanzas swapped olds news first past
+    → WindowFound stanzas swapped.at swapped.stands swapped.stanzas olds news it → one.first ≡ first → one.old ≡ row_count olds - first - (row_count news - past) + min 1 (row_count news - past)
+    → one.new ≡ past - first + min 1 (row_count news - past) → one ≡ it
+same-exchange stanzas swapped olds news first past one it are found first_is old_is new_is =
+    let begin = are.first_is it.first found.first in
+    let end = are.past_is found.past found.up_to in
+    exchange-one one it (first_is ∙ begin)
+    (old_is ∙ ap₂ (λ n m. row_count olds - n - (row_count news - m) + min 1 (row_count news - m)) begin end ∙ sym found.old_is)
+    (new_is ∙ ap₂ (λ n m. m - n + min 1 (row_count news - m)) begin end ∙ sym found.new_is)
+
+-- Then rows are exchanged that there are.
+pub record InOrder (first past olds news : ℕ) : Type 0 where
+  pub order : first ≤ past
+  pub inside : past ≤ news
+  pub old_inside : first + (news - past) ≤ olds
+
+pub found-order : (stanzas : List StanzaOf) (swapped : SwappedState) (olds news : List ElementOf) (first past : ℕ) → AreFound stanzas swapped olds news first past → SomeFound stanzas swapped olds news
+    → InOrder first past (row_count olds) (row_count news)
+found-order stanzas swapped olds news first past are some =
+    let it = some.exchange in
+    let found = some.found in
+    let begin = are.first_is it.first found.first in
+    let end = are.past_is found.past found.up_to in
+    subst (λ n. InOrder n past (row_count olds) (row_count news)) (sym begin)
+    (subst (λ n. InOrder it.first n (row_count olds) (row_count news)) (sym end) (record { order = found.order; inside = found.inside; old_inside = found.old_inside }))

@@ -1,12 +1,12 @@
 -- The blocks next to a window, by its stanzas.
 use Rattle.std.proofs.Common.{◌≡◌, ℕ, zero, suc, ◌+◌, ◌-◌, ◌<◌, ◌≤◌, Bool, true, false, not, ◌&&◌, ◌||◌, cond, Option, Some, None, List, [], ◌∷◌, ◌++◌, length, map, take, drop, get_or, slice_get, refl, sym, ap, ap₂, ◌∙◌, arith}
 use Rattle.std.specs.Prelude.{option_map}
-use Rattle.std.proofs.lemmas.List.{append-nil, drop_more, take_more}
+use Rattle.std.proofs.lemmas.List.{append-nil, drop_more, take_more, take_rest}
 use Rattle.spec_script.specs.BlockValues.{BlockOf, StanzaOf}
 use Rattle.spec_script.specs.Stanzas.{PlacedBlock, blocks_from}
 use Rattle.spec_script.specs.Elements.{placed_at}
 use Rattle.spec_reread.specs.Touched.{WindowBlocks, is_nil, joined_by, last_block, first_block, joins, front_relaid, rest_relaid}
-use Rattle.sp_refill.specs.Neighbours.{is_pair, is_there, nearer, first_one, last_one, first_in, last_in, relays_front, parts_rest}
+use Rattle.sp_refill.specs.Neighbours.{is_pair, is_there, nearer, first_one, last_one, first_in, last_in, relays_front, parts_rest, relays_before}
 
 abbrev pub block_by : Option PlacedBlock → Option BlockOf
 block_by o = option_map (λ (placed : PlacedBlock). placed.block) o
@@ -127,3 +127,36 @@ first-here-to stanzas place to d inside low =
 
 pub last-here : (stanzas : List StanzaOf) (place : ℕ) (d : StanzaOf) → place < length stanzas → last_in (take (place + 1) stanzas) ≡ nearer (last_one (get_or stanzas place d)) (last_in (take place stanzas))
 last-here stanzas place d inside = ap last_in (take_more stanzas place d inside) ∙ last-push (take place stanzas) (get_or stanzas place d)
+
+-- The item at a place.
+pub got : {X : Type 0} (xs : List X) (i : ℕ) (x : X) → slice_get xs i ≡ Some x → get_or xs i x ≡ x
+got [] i x is = (let bad : ⊥ = cc (is) in absurd bad)
+got (y ∷ ys) zero x is = cc (is)
+got (y ∷ ys) (suc i) x is = got ys i x is
+
+-- A stanza with a block has the first one of those from it on; without one the next decides.
+pub first-found : (stanzas : List StanzaOf) (place to : ℕ) (s : StanzaOf) (o : Option BlockOf) → place < to → to ≤ length stanzas → slice_get stanzas place ≡ Some s → first_one s ≡ o
+    → first_in (take (to - place) (drop place stanzas)) ≡ nearer o (first_in (take (to - (place + 1)) (drop (place + 1) stanzas)))
+first-found stanzas place to s o inside low is own =
+    let later = first_in (take (to - (place + 1)) (drop (place + 1) stanzas)) in
+    first-here-to stanzas place to s inside low ∙ ap (λ (t : StanzaOf). nearer (first_one t) later) (got stanzas place s is) ∙ ap (λ p. nearer p later) own
+
+-- The same with the last one of those up to it.
+pub last-found : (stanzas : List StanzaOf) (place : ℕ) (s : StanzaOf) (o : Option BlockOf) → 0 < place → place ≤ length stanzas → get_or stanzas (place - 1) s ≡ s → last_one s ≡ o
+    → last_in (take place stanzas) ≡ nearer o (last_in (take (place - 1) stanzas))
+last-found stanzas place s o some low is own =
+    let earlier = last_in (take (place - 1) stanzas) in
+    let same : place ≡ place - 1 + 1 = omega (arith, some) in
+    ap (λ n. last_in (take n stanzas)) same ∙ last-here stanzas (place - 1) s (omega (arith, some, low))
+    ∙ ap (λ (t : StanzaOf). nearer (last_one t) earlier) is ∙ ap (λ p. nearer p earlier) own
+
+-- What stands round a window, by the places where it begins and ends.
+pub relays-found : (stanzas gone : List StanzaOf) (at stands from to : ℕ) (f g c r : Option BlockOf) → from ≡ at → to ≡ at + stands → at + stands ≤ length stanzas
+    → f ≡ last_in (take from stanzas) → g ≡ first_in gone → c ≡ first_in (take (to - from) (drop from stanzas)) → r ≡ first_in (take (length stanzas - to) (drop to stanzas))
+    → relays_front f g c r ≡ relays_before stanzas at stands gone
+relays-found stanzas gone at stands from to f g c r begin end within f_is g_is c_is r_is =
+    let count : to - from ≡ stands = omega (arith, begin, end) in
+    let one = f_is ∙ ap (λ n. last_in (take n stanzas)) begin in
+    let come = c_is ∙ ap₂ (λ n m. first_in (take n (drop m stanzas))) count begin in
+    let rest = r_is ∙ ap first_in (take_rest stanzas to) ∙ ap (λ n. first_in (drop n stanzas)) end in
+    ap₂ (λ (x y : Option BlockOf). relays_front x y c r) one g_is ∙ ap₂ (λ (x y : Option BlockOf). relays_front (last_in (take at stanzas)) (first_in gone) x y) come rest
