@@ -1,19 +1,19 @@
 -- The elements of a body, by the groups of blocks that they are of.
-use Rattle.std.proofs.Common.{◌≡◌, ℕ, suc, ◌+◌, ◌-◌, ◌<◌, ◌≤◌, Bool, true, false, not, cond, List, [], ◌∷◌, ◌++◌, length, map, take, get_or, inl, inr, refl, sym, ap, ap₂, subst, ◌∙◌, arith, length-append, append_assoc, take_at}
+use Rattle.std.proofs.Common.{◌≡◌, ℕ, ◌+◌, ◌-◌, ◌<◌, ◌≤◌, Bool, true, false, not, cond, List, [], ◌∷◌, ◌++◌, length, map, take, inl, inr, refl, sym, ap, ap₂, subst, ◌∙◌, arith, length-append, take_at}
 use Rattle.std.specs.Prelude.{All, filter}
 use Rattle.std.specs.List.{flat_map}
 use Rattle.std.proofs.lemmas.Bool.{cases_lt, true≢false}
 use Rattle.std.proofs.lemmas.List.{length-map, map-append, get_or_append_left, get_or-append_right}
-use Rattle.std.proofs.lemmas.List.Elements.{All-nil, All-cons, All-head, All-tail, All-append, filter-append}
+use Rattle.std.proofs.lemmas.List.Elements.{All-nil, All-cons, All-head, All-tail, filter-append}
 use Rattle.spec_text.specs.Lines.{LineState}
 use Rattle.spec_script.specs.declared.Kind.{Kind}
 use Rattle.spec_script.specs.declared.Kind.TheVariants as kinds
 use Rattle.spec_script.specs.LongestRuns.{Group}
 use Rattle.spec_script.specs.Stanzas.{PlacedBlock}
 use Rattle.spec_script.specs.Elements.{is_speech_kind}
-use Rattle.spec_pages.specs.Rows.{ElementOf, Row, is_title}
+use Rattle.spec_pages.specs.Rows.{ElementOf, is_title}
 use Rattle.spec_layout.specs.Speakers.{Spoken}
-use Rattle.spec_layout.specs.Layout.{laid_beside, laid_out, in_body, placed_in}
+use Rattle.spec_layout.specs.Layout.{laid_beside, laid_out, in_body}
 use Rattle.spec_layout.proofs.LaidRows.{body_rows as spoken_rows, layout-body}
 use Rattle.spec_relayout.specs.TextItems.{Script, spoken_by, spoken_group, text_rows}
 use Rattle.spec_refill.specs.Exchanges.{body_rows, count_rows}

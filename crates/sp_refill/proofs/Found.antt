@@ -1,7 +1,6 @@
 -- The rows that an edit of a state exchanges, by what is found.
-use Rattle.std.proofs.Common.{◌≡◌, ℕ, ◌+◌, ◌-◌, ◌≤◌, Bool, not, ◌&&◌, Option, List, [], ◌∷◌, ◌++◌, length, map, take, drop, refl, sym, ap, ap₂, subst, ◌∙◌, arith, length-append, take-add}
+use Rattle.std.proofs.Common.{◌≡◌, ℕ, ◌+◌, ◌-◌, ◌≤◌, Bool, Option, List, [], ◌∷◌, ◌++◌, length, map, take, drop, sym, ap, ap₂, subst, ◌∙◌, arith, take-add}
 use Rattle.std.specs.Prelude.{filter, min}
-use Rattle.std.proofs.lemmas.List.{length-map, drop-drop, take_at}
 use Rattle.std.proofs.lemmas.List.Sums.{sum_by-cons}
 use Rattle.spec_text.specs.Lines.{IsText, LineState, line_texts}
 use Rattle.spec_text.specs.Edits.{Replacement, stretch, line_ids, put_by}
@@ -11,7 +10,7 @@ use Rattle.spec_script.specs.BlockValues.{BlockOf, StanzaOf}
 use Rattle.spec_script.specs.LongestRuns.{Group}
 use Rattle.spec_script.specs.Stanzas.{stanzas_of, stanzas_from}
 use Rattle.spec_script.specs.Elements.{elements_in}
-use Rattle.spec_pages.specs.Rows.{ElementOf, Row}
+use Rattle.spec_pages.specs.Rows.{ElementOf}
 use Rattle.spec_layout.specs.Speakers.{Spoken}
 use Rattle.spec_layout.specs.Layout.{in_body, laid_out}
 use Rattle.spec_state.specs.State.{State, text_of}
@@ -20,7 +19,7 @@ use Rattle.spec_state.specs.StateSheets.{layout_in, rows_in}
 use Rattle.spec_state.specs.Changes.{CanEdit, edited_state}
 use Rattle.spec_reread.specs.Windows.{IsEdited, stanza_lines_in, stanzas_between}
 use Rattle.spec_reread.specs.Displaced.{AreOfWindow, DisplacesWindow}
-use Rattle.spec_reread.specs.Touched.{WindowBlocks, first_block, old_blocks, new_blocks, front_relaid, old_relaid, new_relaid}
+use Rattle.spec_reread.specs.Touched.{WindowBlocks, first_block, front_relaid, old_relaid, new_relaid}
 use Rattle.spec_reread.proofs.Counts.{count-between}
 use Rattle.spec_reread.proofs.Edits.{edited-lines}
 use Rattle.spec_reread.proofs.Resync.{window-cuts, old-cuts}
@@ -31,9 +30,8 @@ use Rattle.spec_locked_pages.specs.LockedPages.{IsWindowOf, edit_blocks}
 use Rattle.spec_locked_pages.proofs.StateScripts.{script_of, blocks_in, elements-scripted}
 use Rattle.spec_locked_pages.proofs.EditedStates.{new-whole, lines-moved}
 use Rattle.spec_refill.specs.Exchanges.{count_rows, blocks_round, elements_before, edit_exchange}
-use Rattle.spec_refill.proofs.Marks.{rows}
 use Rattle.spec_refill.proofs.ElementMarks.{count-marks}
-use Rattle.spec_refill.proofs.EditExchange.{state_marks, state-rows, around, olds-are, news-are, sound, RowsParted, rows-parted}
+use Rattle.spec_refill.proofs.EditExchange.{state-rows, around, olds-are, news-are, sound, rows-parted}
 use Rattle.sp_reread.specs.Cache.{SwappedState}
 use Rattle.sp_layout.specs.Bodies.{row_count}
 use Rattle.sp_refill.specs.Edits.{IsOfEdit, IsOfSomeEdit}

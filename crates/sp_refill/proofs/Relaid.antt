@@ -1,20 +1,18 @@
 -- Where the relaid elements stand among those of both texts.
-use Rattle.std.proofs.Common.{◌≡◌, ◌⊎◌, ℕ, ◌+◌, ◌-◌, ◌<◌, ◌≤◌, Bool, true, false, not, ◌&&◌, ◌||◌, cond, Option, Some, None, List, [], ◌∷◌, ◌++◌, length, map, take, drop, get_or, inl, inr, refl, sym, ap, ap₂, subst, ◌∙◌, arith, append_assoc, length-append}
-use Rattle.std.specs.Prelude.{All, option_map}
+use Rattle.std.proofs.Common.{◌≡◌, ◌⊎◌, ℕ, ◌+◌, ◌-◌, ◌<◌, ◌≤◌, Bool, true, false, not, ◌&&◌, ◌||◌, cond, Option, Some, None, List, [], ◌∷◌, ◌++◌, length, map, take, get_or, inl, inr, refl, sym, ap, ap₂, subst, ◌∙◌, arith, append_assoc, length-append}
+use Rattle.std.specs.Prelude.{All}
 use Rattle.std.specs.List.{flat_map, take_while}
 use Rattle.std.proofs.lemmas.Bool.{cases_Bool, and_parts, or_cases, or_parts, cond-false, true≢false, lt-ltb, le-ltb}
-use Rattle.std.proofs.lemmas.List.{append-nil, map-append}
+use Rattle.std.proofs.lemmas.List.{map-append}
 use Rattle.std.proofs.lemmas.List.Elements.{All-nil, All-cons, All-head, All-tail, All-append, All-map}
 use Rattle.std.proofs.lemmas.List.Sums.{take_while-cons}
 use Rattle.spec_text.specs.Lines.{LineState}
 use Rattle.spec_text.specs.Ranges.{IsOutside, place_after}
 use Rattle.spec_script.specs.BlockParts.{Rise}
-use Rattle.spec_script.specs.BlockValues.{BlockOf}
 use Rattle.spec_script.specs.LongestRuns.{Group}
 use Rattle.spec_script.specs.Stanzas.{PlacedBlock}
 use Rattle.spec_script.specs.Elements.{is_speech_kind, is_dual, alone, elements_in}
 use Rattle.spec_script.proofs.RunSteps.{longest_runs-map}
-use Rattle.spec_pages.specs.Rows.{ElementOf}
 use Rattle.spec_layout.proofs.ElementPlaces.{placed_from, placed_to}
 use Rattle.spec_reread.specs.Touched.{pushed, WindowBlocks, old_blocks, new_blocks, is_nil, joined_by, last_block, first_block, joins, front_relaid, rest_relaid, but_last, only_last, front_kept, front_half, rest_kept, rest_half, old_relaid, new_relaid}
 use Rattle.spec_reread.proofs.WindowElements.{pushed_group, elements-apart, elements-pushed}
@@ -32,9 +30,9 @@ use Rattle.spec_refill.proofs.Marks.{rows, shapes-moved}
 use Rattle.spec_refill.proofs.ElementMarks.{marks_of, count-marks}
 use Rattle.spec_refill.proofs.MovedMarks.{all-moved}
 use Rattle.sp_layout.specs.Bodies.{row_count}
-use Rattle.sp_refill.specs.Counts.{CountsBefore, RowsBefore, RowsUpTo, one_if}
+use Rattle.sp_refill.specs.Counts.{CountsBefore, RowsBefore, RowsUpTo}
 use Rattle.sp_refill.proofs.NextBlocks.{block_by, last-there, last-append, joins-pair, rest_parted}
-use Rattle.sp_refill.proofs.Groups.{Begins, all-begin, PartedElements, parted-elements, FirstElement, first-element, joined-last}
+use Rattle.sp_refill.proofs.Groups.{Begins, all-begin, PartedElements, parted-elements, first-element, joined-last}
 use Rattle.sp_refill.proofs.Bodies.{body_in, Low, High, counts-groups, rows-before, one-more}
 use Rattle.sp_refill.specs.Neighbours.{is_pair, nearer}
 
@@ -197,7 +195,7 @@ module _ (edit : EditBlocks) (w : WindowBlocks) (it : Around edit w) (olds news 
           record {
             place = count;
             is = counts-groups olds edit.from old_elements (elements_in w.front) back are (all-begin (Low edit.from) w.front (front-before edit w it))
-            (All-append (Begins (High edit.from)) (elements_in behind_front) old_back (all-begin (High edit.from) behind_front behind-high) old-back-high);
+                (All-append (Begins (High edit.from)) (elements_in behind_front) old_back (all-begin (High edit.from) behind_front behind-high) old-back-high);
             some = omega arith;
             are = ap (λ n. row_count (take n (body_in olds old_elements))) same ∙ (rows-before olds old_elements (elements_in w.front) back are).are;
           }
@@ -220,10 +218,10 @@ module _ (edit : EditBlocks) (w : WindowBlocks) (it : Around edit w) (olds news 
           record {
             place = count + 1;
             is = subst (CountsBefore (body_in olds old_elements) edit.from) (one-more olds front first.own speech)
-            (counts-groups olds edit.from old_elements (front ++ first.own ∷ []) (first.others ++ old_back) split
-            (All-append (Begins (Low edit.from)) front (first.own ∷ []) (all-begin (Low edit.from) (but_last w.front) (all-front (Low edit.from) (but_last w.front) (last.own ∷ []) low))
-            (All-cons (Begins (Low edit.from)) first.own [] own_low (All-nil (Begins (Low edit.from)))))
-            (All-append (Begins (High edit.from)) first.others old_back first.others_all old-back-high));
+                (counts-groups olds edit.from old_elements (front ++ first.own ∷ []) (first.others ++ old_back) split
+                (All-append (Begins (Low edit.from)) front (first.own ∷ []) (all-begin (Low edit.from) (but_last w.front) (all-front (Low edit.from) (but_last w.front) (last.own ∷ []) low))
+                (All-cons (Begins (Low edit.from)) first.own [] own_low (All-nil (Begins (Low edit.from)))))
+                (All-append (Begins (High edit.from)) first.others old_back first.others_all old-back-high));
             some = omega arith;
             are = ap (λ n. row_count (take n (body_in olds old_elements))) same ∙ (rows-before olds old_elements front (first.own ∷ (first.others ++ old_back)) are).are;
           }
@@ -305,8 +303,8 @@ module _ (edit : EditBlocks) (w : WindowBlocks) (it : Around edit w) (olds news 
       record {
         place = length (body_in news front);
         is = counts-groups news edit.new_to new_elements front (alone c ∷ new_back) split
-        (All-append (Begins (Low edit.new_to)) kept (elements_in relaid_front) kept-low (all-begin (Low edit.new_to) relaid_front relaid-low))
-        (All-cons (Begins (High edit.new_to)) (alone c) new_back high new-back-high);
+            (All-append (Begins (Low edit.new_to)) kept (elements_in relaid_front) kept-low (all-begin (Low edit.new_to) relaid_front relaid-low))
+            (All-cons (Begins (High edit.new_to)) (alone c) new_back high new-back-high);
         some = omega (arith, inside, size);
         are = ap (λ n. row_count (take n (body_in news new_elements))) (sym size) ∙ found.are ∙ sum-rows is;
       }

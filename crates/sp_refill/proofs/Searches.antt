@@ -1,10 +1,9 @@
 -- Elements before a line, found by halves.
-use Rattle.std.proofs.Common.{◌≡◌, ℕ, ◌<◌, ◌≤◌, Bool, true, false, ltb, List, length, inl, inr, sym, ◌∙◌, arith}
+use Rattle.std.proofs.Common.{◌≡◌, ℕ, ◌≤◌, true, false, ltb, List, length, inl, inr, sym, ◌∙◌, arith}
 use Rattle.std.proofs.lemmas.Bool.{cases_lt, ltb-true, ltb-false, lt-ltb, le-ltb, true≢false}
 use Rattle.std.specs.List.Sorted.{IsPartitionedBy, IsPartitionPoint}
 use Rattle.spec_pages.specs.Rows.{ElementOf}
 use Rattle.sp_refill.specs.Counts.{ArePartedAt, CountsBefore}
-
 
 pub are-parted : (elements : List ElementOf) (line : ℕ) → ArePartedAt elements line → IsPartitionedBy (λ (element : ElementOf). ltb element.first line) elements
 are-parted elements line parted i j d order inside low = elim (cases_lt j parted.count) [

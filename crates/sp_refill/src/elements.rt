@@ -19,7 +19,8 @@ fn elements_before(elements: &[Element], line: usize) -> usize
     elements.partition_point(|element| element.first < line)
 }
 
-/// How many rows stand before a line's elements, and before the last element that begins before the line where that is relaid.
+/// How many rows stand before the elements that begin from a line on, or where the element before these is relaid, before
+/// that one.
 pub fn rows_before(body: &Body, line: usize, relaid: bool) -> usize
     requires { HasFront body.now.elements line relaid }
     ensures { (count : ℕ) → RowsBefore body.now.elements line relaid count → result ≡ count }
@@ -32,7 +33,7 @@ pub fn rows_before(body: &Body, line: usize, relaid: bool) -> usize
     }
 }
 
-/// How many rows the elements that begin before a line have, and with them the first behind them where that is relaid.
+/// How many rows the elements have that begin before a line, together with the first behind them where that is relaid.
 pub fn rows_up_to(body: &Body, line: usize, relaid: bool) -> usize
     requires { HasRest body.now.elements line relaid }
     ensures { (count : ℕ) → RowsUpTo body.now.elements line relaid count → result ≡ count }

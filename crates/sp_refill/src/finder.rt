@@ -66,7 +66,15 @@ pub fn exchanged_rows(
     let at = swapped.at();
     let _count = stanzas.len();
     let end = at + swapped.stands();
-    let first = rows_before(olds, line_of(lines, stanzas, at), relays_before(stanzas, swapped));
-    let past = rows_up_to(news, line_of(lines, stanzas, end), parts_behind(stanzas, swapped));
+    let first = rows_before(
+        olds,
+        line_of(lines, stanzas, at),
+        relays_before(stanzas, swapped),
+    );
+    let past = rows_up_to(
+        news,
+        line_of(lines, stanzas, end),
+        parts_behind(stanzas, swapped),
+    );
     with_next(first, past, olds.rows(), news.rows())
 }

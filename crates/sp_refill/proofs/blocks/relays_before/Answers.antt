@@ -1,4 +1,4 @@
-use Rattle.std.proofs.Common.{ap₂, ◌+◌, ◌-◌, ◌∙◌, ap, sym, take, drop, arith}
+use Rattle.std.proofs.Common.{◌+◌, ◌-◌, ◌∙◌, ap, take, drop, arith}
 use Rattle.std.specs.Option.{option_copied}
 use Rattle.sp_refill.specs.Neighbours.{first_in}
 use Rattle.sp_refill.proofs.NextBlocks.{relays-found}

@@ -1,4 +1,4 @@
-use Rattle.std.proofs.Common.{◌≡◌, ◌-◌, length, take, sym, ap, ◌∙◌, arith, take_all}
+use Rattle.std.proofs.Common.{◌≡◌, length, take, ap, ◌∙◌, arith, take_all}
 use Rattle.std.proofs.lemmas.List.{length-map}
 use Rattle.spec_text.specs.Lines.{LineState, line_texts}
 use Rattle.spec_reread.specs.Windows.{stanza_lines_in}

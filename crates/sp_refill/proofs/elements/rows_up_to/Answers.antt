@@ -1,4 +1,4 @@
-use Rattle.std.proofs.Common.{◌≡◌, true, false, ℕ, ◌+◌, List, sym, ap, subst, ◌∙◌, take, arith}
+use Rattle.std.proofs.Common.{◌≡◌, true, false, ◌+◌, List, ap, subst, ◌∙◌, take, arith}
 use Rattle.spec_pages.specs.Rows.{ElementOf}
 use Rattle.sp_layout.specs.Bodies.{row_count}
 use Rattle.sp_refill.specs.Counts.{CountsBefore, HasRest, RowsUpTo}

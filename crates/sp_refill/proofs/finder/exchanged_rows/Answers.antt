@@ -1,9 +1,8 @@
-use Rattle.std.proofs.Common.{◌≡◌, ℕ, ◌+◌, ◌-◌, ◌≤◌, List, length, take, sym, ap, ap₂, subst, ◌∙◌, arith}
+use Rattle.std.proofs.Common.{◌+◌, ◌-◌, ◌≤◌, length, take, ap, ap₂, ◌∙◌, arith}
 use Rattle.std.specs.Prelude.{min}
 use Rattle.spec_reread.specs.Windows.{stanza_lines_in}
 use Rattle.sp_layout.specs.Bodies.{row_count}
-use Rattle.sp_refill.specs.Counts.{HasFront, HasRest}
-use Rattle.sp_refill.proofs.Found.{has-front, has-rest, SomeFound, some-found, window-found, AreFound, same-exchange, InOrder, found-order}
+use Rattle.sp_refill.proofs.Found.{has-front, has-rest, some-found, window-found, AreFound, same-exchange, InOrder, found-order}
 use Rattle.sp_refill.proofs.finder.exchanged_rows.Goals as goal
 
 found-within : (c : goal.After-stands) → c.at-at.result + c.stands.result ≤ length c.args.stanzas.now.stanzas
