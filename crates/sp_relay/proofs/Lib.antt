@@ -1,2 +1,5 @@
 pub mod RunsBack
 pub mod PartLaws
+pub mod EdgeLaws
+pub mod SwapLaws
+pub mod EditedLaws

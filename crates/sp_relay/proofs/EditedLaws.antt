@@ -1,0 +1,345 @@
+-- The part of a layout that an edit changes, by the stanzas round its window.
+use Rattle.std.proofs.Common.{◌≡◌, ◌⊎◌, ℕ, suc, ◌+◌, ◌-◌, ◌<◌, ◌≤◌, Bool, true, false, cond, Option, None, List, [], ◌∷◌, ◌++◌, length, map, get_or, take, drop, slice_range, inl, inr, refl, sym, ap, ap₂, subst, ◌∙◌, arith, append_assoc, length-append, length-drop, length-map, take-append-drop, take-add, drop-drop, get_or-take, get_or-drop, All}
+use Rattle.std.specs.List.{list_any}
+use Rattle.std.proofs.lemmas.List.{append-nil, drop_all}
+use Rattle.std.proofs.lemmas.List.Elements.{All-append}
+use Rattle.spec_text.specs.Lines.{LineState, TextState, IsText, line_texts}
+use Rattle.spec_script.specs.BlockValues.{StanzaOf}
+use Rattle.spec_script.specs.LongestRuns.{Group}
+use Rattle.spec_script.specs.Stanzas.{PlacedBlock, blocks_from, blocks_of, stanzas_of}
+use Rattle.spec_pages.specs.Rows.{ElementOf, line_state}
+use Rattle.spec_layout.specs.Speakers.{Spoken, spoken_elements, text_elements}
+use Rattle.spec_layout.specs.Layout.{layout_of}
+use Rattle.spec_layout.proofs.RowLaws.{IsText-texts}
+use Rattle.spec_layout.proofs.SpokenLaws.{spoken_elements-off}
+use Rattle.spec_reread.specs.Windows.{stanza_lines_in}
+use Rattle.spec_reread.proofs.Counts.{count-from}
+use Rattle.spec_relayout.proofs.WindowSides.{all-front, all-back}
+use Rattle.spec_relay.specs.Moved.{moved_place, moved_group, speaker_behind}
+use Rattle.spec_relay.specs.RelaidStanzas.{OpensApart, StanzasRelaid, stanza_settles}
+use Rattle.spec_relay.proofs.PlacedElements.{element_first, spoken-firsts}
+use Rattle.spec_relay.proofs.LayoutParts.{laid_of, laid-append, rows_in, breaks-append}
+use Rattle.spec_relay.proofs.RelaidParts.{ElementsRelaid, elements-relaid}
+use Rattle.spec_relay.proofs.RelaidStanzas.{front-stands, stanzas-relaid}
+use Rattle.spec_relay.proofs.StanzaBlocks.{lines-append, blocks-past, opens-more}
+use Rattle.spec_reread.proofs.WindowBlocks.{blocks-append}
+use Rattle.spec_layout.specs.Layout.{is_title_element, in_body, breaks_from}
+use Rattle.sp_layout.specs.LaidOut.{LayoutOf, keyed, layout_behind}
+use Rattle.sp_layout.specs.Speaking.{SpeakersOf, speakers_after}
+use Rattle.sp_reread.specs.Cache.{SwappedState}
+use Rattle.sp_relay.specs.declared.edges.PartEdge.{PartEdge}
+use Rattle.sp_relay.specs.declared.kept.PartPlaces.{PartPlaces}
+use Rattle.sp_relay.specs.Kept.{CanSwap}
+use Rattle.sp_relay.specs.Relaid.{IsRelaid, places_of}
+use Rattle.sp_relay.specs.Edges.{CanPart, CanBegin, CanEnd, IsEdge, IsPartStart, IsPartEnd, first_edge, last_edge, edge_places}
+use Rattle.sp_relay.specs.Edited.{WasLaid, window_start, window_end, window_was}
+use Rattle.sp_relay.proofs.EdgeLaws.{EdgeIs, edge-is, edge-last, can-part}
+use Rattle.sp_relay.proofs.SwapLaws.{relaid-can}
+
+-- ---- parts of lists
+
+pub drop-split : {X : Type 0} (xs : List X) (i j : ℕ) → i ≤ j → drop i xs ≡ slice_range xs i j ++ drop j xs
+drop-split xs i j order =
+    let same : i + (j - i) ≡ j = omega (arith, order) in
+    sym (take-append-drop (j - i) (drop i xs)) ∙ ap (λ ys. slice_range xs i j ++ ys) (drop-drop (j - i) i xs ∙ ap (λ n. drop n xs) same)
+
+pub take-split : {X : Type 0} (xs : List X) (i j : ℕ) → i ≤ j → take j xs ≡ take i xs ++ slice_range xs i j
+take-split xs i j order =
+    let same : j ≡ i + (j - i) = omega (arith, order) in
+    ap (λ n. take n xs) same ∙ take-add i (j - i) xs
+
+slice-split : {X : Type 0} (xs : List X) (i j k : ℕ) → i ≤ j → j ≤ k → slice_range xs i k ≡ slice_range xs i j ++ slice_range xs j k
+slice-split xs i j k one two =
+    let count : k - i ≡ (j - i) + (k - j) = omega (arith, one, two) in
+    let same : i + (j - i) ≡ j = omega (arith, one) in
+    ap (λ n. take n (drop i xs)) count ∙ take-add (j - i) (k - j) (drop i xs) ∙ ap (λ ys. slice_range xs i j ++ take (k - j) ys) (drop-drop (j - i) i xs ∙ ap (λ n. drop n xs) same)
+
+part-four : {X : Type 0} (ws xs ys zs : List X) → ws ++ (xs ++ (ys ++ zs)) ≡ (ws ++ (xs ++ ys)) ++ zs
+part-four ws xs ys zs = ap (λ those. ws ++ those) (sym (append_assoc xs ys zs)) ∙ sym (append_assoc ws (xs ++ ys) zs)
+
+-- ---- stanzas that begin with a block without a caret
+
+opens-take : (k : ℕ) (stanzas : List StanzaOf) → OpensApart stanzas → OpensApart (take (suc k) stanzas)
+opens-take k [] is = absurd is
+opens-take k (s ∷ ss) is = is
+
+opens-slice : (stanzas : List StanzaOf) (i j : ℕ) → i < j → OpensApart (drop i stanzas) → OpensApart (slice_range stanzas i j)
+opens-slice stanzas i j order is =
+    let count : suc (j - i - 1) ≡ j - i = omega (arith, order) in
+    subst (λ n. OpensApart (take n (drop i stanzas))) count (opens-take (j - i - 1) (drop i stanzas) is)
+
+-- ---- who spoke last
+
+pub spoken-last : (on : Bool) (lines : List LineState) (last : Option (List ℕ)) (blocks : List PlacedBlock) → spoken_elements on lines (cond on last None) blocks ≡ spoken_elements on lines last blocks
+spoken-last true lines last blocks = refl
+spoken-last false lines last blocks = spoken_elements-off lines None last blocks
+
+places-same : (a b c d e f a' b' c' d' e' f' less more : ℕ) → a ≡ a' → b ≡ b' → c ≡ c' → d ≡ d' → e ≡ e' → f ≡ f'
+    → let P : PartPlaces = record { title_from = a; title_to = b; from = c; to = d; break_from = e; break_to = f; less = less; more = more } in
+    P ≡ record { title_from = a'; title_to = b'; from = c'; to = d'; break_from = e'; break_to = f'; less = less; more = more }
+places-same a b c d e f a' b' c' d' e' f' less more one two three four five six =
+    ap₂ (λ x y. record { title_from = x; title_to = y; from = c; to = d; break_from = e; break_to = f; less = less; more = more }) one two
+    ∙ ap₂ (λ x y. record { title_from = a'; title_to = b'; from = x; to = y; break_from = e; break_to = f; less = less; more = more }) three four
+    ∙ ap₂ (λ x y. record { title_from = a'; title_to = b'; from = c'; to = d'; break_from = x; break_to = y; less = less; more = more }) five six
+
+module _ (lines : TextState) (stanzas : List StanzaOf) (swapped : SwappedState) (on : Bool) (layout : LayoutOf) (it : WasLaid lines.lines stanzas swapped on layout) where
+  abbrev at : ℕ
+  at = swapped.at
+
+  abbrev to : ℕ
+  to = swapped.at + swapped.stands
+
+  abbrev was : ℕ
+  was = window_was stanzas swapped
+
+  abbrev end : ℕ
+  end = window_end stanzas swapped
+
+  abbrev olds : List StanzaOf
+  olds = stanzas_of (line_texts it.before.lines)
+
+  -- The stanzas of the text before the edit.
+  old-stanzas : olds ≡ take at stanzas ++ (swapped.stanzas ++ drop to stanzas)
+  old-stanzas = sym it.back.gives
+
+  -- They have no more lines than a text.
+  pub old-few : stanza_lines_in swapped.stanzas ≤ 200000
+  old-few =
+      let few = it.keeps.count in
+      let count = count-from (line_texts it.before.lines) 0 in
+      let size = length-map it.before.lines (λ (line : LineState). line.text) in
+      omega (arith, few, count, size, ap stanza_lines_in old-stanzas, lines-append (take at stanzas) (swapped.stanzas ++ drop to stanzas), lines-append swapped.stanzas (drop to stanzas))
+
+  pub can-begin : CanBegin stanzas at layout
+  can-begin = record {
+    each = λ i low opens.
+        let behind = slice_range stanzas i at ++ (swapped.stanzas ++ drop to stanzas) in
+        let is : olds ≡ take i stanzas ++ behind =
+        old-stanzas ∙ ap (λ (ss : List StanzaOf). ss ++ (swapped.stanzas ++ drop to stanzas)) (take-split stanzas i at (omega (arith, low))) ∙ append_assoc (take i stanzas) (slice_range stanzas i at) (swapped.stanzas ++ drop to stanzas) in
+        can-part on it.before layout it.keeps it.was (take i stanzas) behind is (opens-more (slice_range stanzas i at) (swapped.stanzas ++ drop to stanzas) (opens-slice stanzas i at low opens));
+  }
+
+  pub can-end : CanEnd stanzas to was end layout
+  can-end = record {
+    each = λ i low inside opens.
+        let front = take at stanzas ++ (swapped.stanzas ++ slice_range stanzas to i) in
+        let is : olds ≡ front ++ drop i stanzas =
+        old-stanzas ∙ ap (λ (ss : List StanzaOf). take at stanzas ++ (swapped.stanzas ++ ss)) (drop-split stanzas to i low) ∙ part-four (take at stanzas) swapped.stanzas (slice_range stanzas to i) (drop i stanzas) in
+        let sum : stanza_lines_in (take i stanzas) ≡ end + stanza_lines_in (slice_range stanzas to i) = ap stanza_lines_in (take-split stanzas to i low) ∙ lines-append (take to stanzas) (slice_range stanzas to i) in
+        let line : stanza_lines_in front ≡ moved_place end was (stanza_lines_in (take i stanzas)) =
+        omega (arith, sum, lines-append (take at stanzas) (swapped.stanzas ++ slice_range stanzas to i), lines-append swapped.stanzas (slice_range stanzas to i)) in
+        subst (CanPart layout) line (can-part on it.before layout it.keeps it.was front (drop i stanzas) is opens);
+  }
+
+  -- The lines outside the window.
+  lines-still : (place : ℕ) → place < window_start stanzas swapped → line_state lines.lines place ≡ line_state it.before.lines place
+  lines-still place low =
+      let d : LineState = record { id = 0; mark = 0; text = [] } in
+      sym (get_or-take (window_start stanzas swapped) lines.lines place d low) ∙ ap (λ (ls : List LineState). get_or ls place d) (sym it.front) ∙ get_or-take (window_start stanzas swapped) it.before.lines place d low
+
+  lines-moved : (place : ℕ) → was ≤ place → line_state lines.lines (moved_place was end place) ≡ line_state it.before.lines place
+  lines-moved place low =
+      let d : LineState = record { id = 0; mark = 0; text = [] } in
+      let n = place - was in
+      let here : moved_place was end place ≡ end + n = omega arith in
+      let there : was + n ≡ place = omega (arith, low) in
+      ap (λ p. get_or lines.lines p d) here ∙ sym (get_or-drop end lines.lines n d) ∙ ap (λ (ls : List LineState). get_or ls n d) (sym it.rest) ∙ get_or-drop was it.before.lines n d ∙ ap (λ p. get_or it.before.lines p d) there
+
+  module _ (list : stanzas ≡ stanzas_of (line_texts lines.lines)) (keeps : IsText lines) (start stop : PartEdge) (begins : IsPartStart stanzas at layout start) (ends : IsPartEnd stanzas to was end layout stop) where
+    abbrev front : List StanzaOf
+    front = take start.stanza stanzas
+
+    abbrev ahead : List StanzaOf
+    ahead = slice_range stanzas start.stanza at
+
+    abbrev come : List StanzaOf
+    come = slice_range stanzas at to
+
+    abbrev behind : List StanzaOf
+    behind = slice_range stanzas to stop.stanza
+
+    abbrev rest : List StanzaOf
+    rest = drop stop.stanza stanzas
+
+    abbrev gone : List StanzaOf
+    gone = swapped.stanzas
+
+    abbrev blocks : List PlacedBlock
+    blocks = blocks_from (stanza_lines_in front) (slice_range stanzas start.stanza stop.stanza)
+
+    abbrev speakers : SpeakersOf
+    speakers = speakers_after (line_texts lines.lines) on (blocks_from 0 front)
+
+    abbrev places : PartPlaces
+    places = edge_places start stop was end
+
+    inner : drop to stanzas ≡ behind ++ rest
+    inner = drop-split stanzas to stop.stanza ends.low
+
+    window : slice_range stanzas start.stanza stop.stanza ≡ ahead ++ (come ++ behind)
+    window =
+        let one = begins.within in
+        let two = ends.low in
+        slice-split stanzas start.stanza at stop.stanza one (omega (arith, two)) ∙ ap (λ (ss : List StanzaOf). ahead ++ ss) (slice-split stanzas at to stop.stanza (omega arith) two)
+
+    new-parts : stanzas ≡ front ++ ((ahead ++ (come ++ behind)) ++ rest)
+    new-parts =
+        let one = begins.within in
+        let two = ends.low in
+        sym (take-append-drop start.stanza stanzas) ∙ ap (λ (ss : List StanzaOf). front ++ ss) (drop-split stanzas start.stanza stop.stanza (omega (arith, one, two)) ∙ ap (λ (ss : List StanzaOf). ss ++ rest) window)
+
+    old-parts : olds ≡ front ++ ((ahead ++ (gone ++ behind)) ++ rest)
+    old-parts =
+        old-stanzas
+        ∙ ap₂ (λ (xs ys : List StanzaOf). xs ++ (gone ++ ys)) (take-split stanzas start.stanza at begins.within) inner
+        ∙ append_assoc front ahead (gone ++ (behind ++ rest))
+        ∙ ap (λ (ss : List StanzaOf). front ++ ss) (part-four ahead gone behind rest)
+
+    start-lines : window_start stanzas swapped ≡ stanza_lines_in front + stanza_lines_in ahead
+    start-lines = ap stanza_lines_in (take-split stanzas start.stanza at begins.within) ∙ lines-append front ahead
+
+    end-lines : end ≡ window_start stanzas swapped + stanza_lines_in come
+    end-lines = ap stanza_lines_in (take-split stanzas at to (omega arith)) ∙ lines-append (take at stanzas) come
+
+    parts : StanzasRelaid it.before.lines lines.lines front ahead gone come behind rest (window_start stanzas swapped) was end
+    parts = record {
+      old = old-parts;
+      new = sym list ∙ new-parts;
+      start_is = start-lines;
+      was_is = refl;
+      end_is = end-lines;
+      front_apart = elim begins.is [
+        | inl first ↦ inl (ap (λ (e : PartEdge). take e.stanza stanzas) first)
+        | inr both ↦ inr both.0
+      ];
+      rest_apart = elim ends.is [
+        | inl last ↦ inl (ap (λ (e : PartEdge). drop e.stanza stanzas) last ∙ drop_all (length stanzas) stanzas (omega arith))
+        | inr both ↦ inr (both.0, both.1.0)
+      ];
+      still = lines-still;
+      moved = lines-moved;
+    }
+
+    elements : ElementsRelaid on it.before.lines lines.lines was end (blocks_from 0 front) (blocks_from (stanza_lines_in front) (ahead ++ (gone ++ behind))) (blocks_from (stanza_lines_in front) (ahead ++ (come ++ behind)))
+        (blocks_from (was + stanza_lines_in behind) rest)
+    elements =
+        let are = IsText-texts it.before it.keeps in
+        elements-relaid on it.before.lines lines.lines was end (blocks_from 0 front) (blocks_from (stanza_lines_in front) (ahead ++ (gone ++ behind))) (blocks_from (stanza_lines_in front) (ahead ++ (come ++ behind)))
+        (blocks_from (was + stanza_lines_in behind) rest)
+        (stanzas-relaid it.before.lines lines.lines front ahead gone come behind rest (window_start stanzas swapped) was end parts are.utf8 are.few on)
+
+    abbrev first : ℕ
+    first = stanza_lines_in front
+
+    abbrev past : ℕ
+    past = was + stanza_lines_in behind
+
+    window-lines : first + stanza_lines_in (ahead ++ (gone ++ behind)) ≡ past
+    window-lines = omega (arith, start-lines, lines-append ahead (gone ++ behind), lines-append gone behind)
+
+    -- Where their elements begin.
+    front-low : All (λ (g : Group Spoken). element_first g < first) elements.elements_front
+    front-low =
+        let are = IsText-texts it.before it.keeps in
+        let stands = front-stands (line_texts it.before.lines) front ((ahead ++ (gone ++ behind)) ++ rest) are.utf8 are.few old-parts in
+        subst (All (λ (g : Group Spoken). element_first g < first)) (sym elements.front_is)
+        (spoken-firsts on it.before.lines None (λ (p : PlacedBlock). p.first < first) (blocks_from 0 front) (λ k d h. (stands.each k d h).below))
+
+    gone-low : All (λ (g : Group Spoken). element_first g < past) elements.elements_gone
+    gone-low =
+        let are = IsText-texts it.before it.keeps in
+        let mid = ahead ++ (gone ++ behind) in
+        let both : olds ≡ (front ++ mid) ++ rest = old-parts ∙ sym (append_assoc front mid rest) in
+        let stands = front-stands (line_texts it.before.lines) (front ++ mid) rest are.utf8 are.few both in
+        let start_at : 0 + first ≡ first = omega arith in
+        let split : blocks_from 0 (front ++ mid) ≡ blocks_from 0 front ++ blocks_from first mid = blocks-append 0 front mid ∙ ap (λ n. blocks_from 0 front ++ blocks_from n mid) start_at in
+        let P : PlacedBlock → Type 0 = λ (p : PlacedBlock). p.first < past in
+        let sum : stanza_lines_in (front ++ mid) ≡ past = lines-append front mid ∙ window-lines in
+        let each : All P (blocks_from 0 (front ++ mid)) = λ k d h. let below = (stands.each k d h).below in omega (arith, below, sum) in
+        subst (All (λ (g : Group Spoken). element_first g < past)) (sym elements.gone_is)
+        (spoken-firsts on it.before.lines (speaker_behind (line_texts it.before.lines) None (blocks_from 0 front)) P (blocks_from first mid) (all-back P (blocks_from 0 front) (blocks_from first mid) (subst (All P) split each)))
+
+    gone-high : All (λ (g : Group Spoken). first ≤ element_first g) elements.elements_gone
+    gone-high =
+        subst (All (λ (g : Group Spoken). first ≤ element_first g)) (sym elements.gone_is)
+        (spoken-firsts on it.before.lines (speaker_behind (line_texts it.before.lines) None (blocks_from 0 front)) (λ (p : PlacedBlock). first ≤ p.first) (blocks_from first (ahead ++ (gone ++ behind)))
+        (blocks-past first first (ahead ++ (gone ++ behind)) (omega arith)))
+
+    rest-high : (line : ℕ) → line ≤ past → All (λ (g : Group Spoken). line ≤ element_first g) elements.elements_rest
+    rest-high line order =
+        subst (All (λ (g : Group Spoken). line ≤ element_first g)) (sym elements.rest_is)
+        (spoken-firsts on it.before.lines (speaker_behind (line_texts it.before.lines) None (blocks_from 0 front ++ blocks_from first (ahead ++ (gone ++ behind)))) (λ (p : PlacedBlock). line ≤ p.first) (blocks_from past rest)
+        (blocks-past line past rest order))
+
+    start-is : EdgeIs it.before.lines elements.elements_front start
+    start-is = elim begins.is [
+      | inl zero ↦
+          let none : front ≡ [] = ap (λ (e : PartEdge). take e.stanza stanzas) zero in
+          let nothing : elements.elements_front ≡ [] = elements.front_is ∙ ap (λ ss. spoken_elements on it.before.lines None (blocks_from 0 ss)) none in
+          record {
+            titles = ap (λ (e : PartEdge). e.titles) zero ∙ sym (ap (λ (gs : List (Group Spoken)). length (laid_of is_title_element it.before.lines gs)) nothing);
+            body = ap (λ (e : PartEdge). e.body) zero ∙ sym (ap (λ (gs : List (Group Spoken)). length (laid_of in_body it.before.lines gs)) nothing);
+            breaks = ap (λ (e : PartEdge). e.breaks) zero ∙ sym (ap (λ (gs : List (Group Spoken)). length (breaks_from it.before.lines 0 gs)) nothing);
+          }
+      | inr both ↦
+          edge-is on it.before.lines layout it.was elements.elements_front (elements.elements_gone ++ elements.elements_rest) elements.old first start front-low
+          (All-append (λ (g : Group Spoken). first ≤ element_first g) elements.elements_gone elements.elements_rest gone-high (rest-high first (omega (arith, window-lines)))) both.1
+    ]
+
+    stop-is : EdgeIs it.before.lines (elements.elements_front ++ elements.elements_gone) stop
+    stop-is =
+        let all : text_elements on it.before.lines ≡ (elements.elements_front ++ elements.elements_gone) ++ elements.elements_rest = elements.old ∙ sym (append_assoc elements.elements_front elements.elements_gone elements.elements_rest) in
+        elim ends.is [
+          | inl last ↦
+              let none : rest ≡ [] = ap (λ (e : PartEdge). drop e.stanza stanzas) last ∙ drop_all (length stanzas) stanzas (omega arith) in
+              let nothing : elements.elements_rest ≡ [] = elements.rest_is ∙ ap (λ ss. spoken_elements on it.before.lines (speaker_behind (line_texts it.before.lines) None (blocks_from 0 front ++ blocks_from first (ahead ++ (gone ++ behind)))) (blocks_from past ss)) none in
+              edge-last on it.before.lines layout it.was stanzas stop last (elements.elements_front ++ elements.elements_gone)
+              (all ∙ ap (λ (gs : List (Group Spoken)). (elements.elements_front ++ elements.elements_gone) ++ gs) nothing ∙ append-nil (elements.elements_front ++ elements.elements_gone))
+          | inr both ↦
+              let sum : stanza_lines_in (take stop.stanza stanzas) ≡ end + stanza_lines_in behind = ap stanza_lines_in (take-split stanzas to stop.stanza ends.low) ∙ lines-append (take to stanzas) behind in
+              let line : moved_place end was (stanza_lines_in (take stop.stanza stanzas)) ≡ past = omega (arith, sum) in
+              let order : first ≤ past = omega (arith, window-lines) in
+              let low : All (λ (g : Group Spoken). element_first g < past) elements.elements_front = λ k d h. let less = front-low k d h in omega (arith, less, order) in
+              edge-is on it.before.lines layout it.was (elements.elements_front ++ elements.elements_gone) elements.elements_rest all past stop
+              (All-append (λ (g : Group Spoken). element_first g < past) elements.elements_front elements.elements_gone low gone-low) (rest-high past (omega arith))
+              (subst (λ n. IsEdge layout n stop) line both.1.1)
+        ]
+
+    places-are : places ≡ places_of it.before.lines elements.elements_front elements.elements_gone was end
+    places-are =
+        let b = it.before.lines in
+        let ef = elements.elements_front in
+        let eg = elements.elements_gone in
+        let one = start-is in
+        let two = stop-is in
+        let titles : stop.titles ≡ length (laid_of is_title_element b ef) + length (laid_of is_title_element b eg) =
+        two.titles ∙ ap (λ (es : List ElementOf). length es) (laid-append is_title_element b ef eg) ∙ length-append (laid_of is_title_element b ef) (laid_of is_title_element b eg) in
+        let body : stop.body ≡ length (laid_of in_body b ef) + length (laid_of in_body b eg) =
+        two.body ∙ ap (λ (es : List ElementOf). length es) (laid-append in_body b ef eg) ∙ length-append (laid_of in_body b ef) (laid_of in_body b eg) in
+        let rows : 0 + rows_in b ef ≡ rows_in b ef = omega arith in
+        let breaks : stop.breaks ≡ length (breaks_from b 0 ef) + length (breaks_from b (rows_in b ef) eg) =
+        two.breaks ∙ ap (λ (ns : List ℕ). length ns) (breaks-append b 0 ef eg ∙ ap (λ n. breaks_from b 0 ef ++ breaks_from b n eg) rows) ∙ length-append (breaks_from b 0 ef) (breaks_from b (rows_in b ef) eg) in
+        places-same _ _ _ _ _ _ _ _ _ _ _ _ was end one.titles titles one.body body one.breaks breaks
+
+    -- The elements of the part are laid out anew.
+    pub edit-relaid : IsRelaid it.before.lines lines.lines speakers blocks places layout
+    edit-relaid =
+        let moved = map (moved_group was end) elements.elements_rest in
+        let last = speaker_behind (line_texts lines.lines) None (blocks_from 0 front) in
+        let same : spoken_elements on lines.lines last (blocks_from first (ahead ++ (come ++ behind))) ≡ spoken_elements on lines.lines speakers.last blocks =
+        sym (spoken-last on lines.lines last blocks ∙ ap (λ ss. spoken_elements on lines.lines last (blocks_from first ss)) window) in
+        record {
+          front = elements.elements_front;
+          gone = elements.elements_gone;
+          rest = elements.elements_rest;
+          was = it.was;
+          old = elements.old;
+          new = elements.new ∙ ap (λ (gs : List (Group Spoken)). elements.elements_front ++ (gs ++ moved)) same;
+          still = elements.still;
+          moved = elements.moved;
+          at = places-are;
+        }
+
+    -- And the part can be put in.
+    pub edit-can : CanSwap layout places (layout_behind lines.lines speakers blocks)
+    edit-can = relaid-can it.before lines speakers blocks places layout it.keeps keeps edit-relaid
