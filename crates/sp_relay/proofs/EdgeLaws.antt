@@ -1,7 +1,8 @@
 -- What stands before the edges of a part of a layout.
-use Rattle.std.proofs.Common.{◌≡◌, ℕ, suc, ◌+◌, ◌-◌, ◌<◌, ◌≤◌, Bool, Option, None, List, [], ◌∷◌, ◌++◌, length, get_or, take, drop, slice_index, inl, inr, refl, sym, ap, ap₂, subst, ◌∙◌, arith, append_assoc, length-append, take_at, All}
+use Rattle.std.proofs.Common.{◌≡◌, ℕ, suc, ◌+◌, ◌-◌, ◌<◌, ◌≤◌, Bool, Option, None, List, [], ◌∷◌, ◌++◌, length, get_or, ltb, take, drop, slice_index, inl, inr, refl, sym, ap, ap₂, subst, ◌∙◌, arith, append_assoc, length-append, take_at, All}
 use Rattle.std.specs.Prelude.{AllPairs}
-use Rattle.std.proofs.lemmas.Bool.{cases_lt}
+use Rattle.std.specs.List.Sorted.{IsPartitionedBy}
+use Rattle.std.proofs.lemmas.Bool.{cases_lt, lt-ltb, ltb-true}
 use Rattle.std.proofs.lemmas.List.{append-nil, get_or_append_left, get_or-append_right}
 use Rattle.std.proofs.lemmas.List.Elements.{All-append}
 use Rattle.spec_text.specs.Lines.{LineState, TextState, IsText, line_texts}
@@ -27,6 +28,23 @@ use Rattle.sp_layout.specs.LaidOut.{LayoutOf, keyed}
 use Rattle.sp_relay.specs.declared.edges.PartEdge.{PartEdge}
 use Rattle.sp_relay.specs.Kept.{rows_to}
 use Rattle.sp_relay.specs.Edges.{BeginsBefore, BeginsFrom, PartsAt, CountsBefore, CanPart, IsEdge, last_edge}
+
+-- Elements that a line parts are in order, as far as it tells, and the place found by halves is that of the line.
+parted : (front behind : List ElementOf) (line : ℕ) → All (BeginsBefore line) front → All (BeginsFrom line) behind → IsPartitionedBy (λ (e : ElementOf). ltb e.first line) (front ++ behind)
+parted front behind line before from i j d order inside is =
+    elim (cases_lt j (length front)) [
+      | inl less ↦
+          let low : i < length front = omega (arith, order, less) in
+          ap (λ (e : ElementOf). ltb e.first line) (get_or_append_left front behind d i low) ∙ lt-ltb (get_or front i d).first line (before i d low)
+      | inr more ↦
+          let here = from (j - length front) d (omega (arith, inside, more, length-append front behind)) in
+          let there = ltb-true _ line is in
+          let same = ap (λ (e : ElementOf). e.first) (get_or-append_right front behind (length front) j d refl more) in
+          absurd (omega (arith, here, there, same))
+    ]
+
+pub parted-at : (elements : List ElementOf) (line : ℕ) → PartsAt elements line → IsPartitionedBy (λ (e : ElementOf). ltb e.first line) elements
+parted-at elements line it = subst (IsPartitionedBy (λ (e : ElementOf). ltb e.first line)) (sym it.are) (parted it.front it.behind line it.before it.from)
 
 -- So many of these elements begin before a line.
 pub count-is : (front behind : List ElementOf) (line count : ℕ) → All (BeginsBefore line) front → All (BeginsFrom line) behind → CountsBefore (front ++ behind) line count → count ≡ length front

@@ -33,43 +33,11 @@ use Rattle.sp_relay.specs.Kept.{CanSwap}
 use Rattle.sp_relay.specs.Relaid.{IsRelaid, places_of}
 use Rattle.sp_relay.specs.Edges.{CanPart, CanBegin, CanEnd, IsEdge, IsPartStart, IsPartEnd, first_edge, last_edge, edge_places}
 use Rattle.sp_relay.specs.Edited.{WasLaid, window_start, window_end, window_was}
+use Rattle.sp_relay.proofs.StanzaLists.{drop-split, take-split, slice-split, part-four, opens-slice}
 use Rattle.sp_relay.proofs.EdgeLaws.{EdgeIs, edge-is, edge-last, can-part}
 use Rattle.sp_relay.proofs.SwapLaws.{relaid-can}
 
--- ---- parts of lists
-
-pub drop-split : {X : Type 0} (xs : List X) (i j : ℕ) → i ≤ j → drop i xs ≡ slice_range xs i j ++ drop j xs
-drop-split xs i j order =
-    let same : i + (j - i) ≡ j = omega (arith, order) in
-    sym (take-append-drop (j - i) (drop i xs)) ∙ ap (λ ys. slice_range xs i j ++ ys) (drop-drop (j - i) i xs ∙ ap (λ n. drop n xs) same)
-
-pub take-split : {X : Type 0} (xs : List X) (i j : ℕ) → i ≤ j → take j xs ≡ take i xs ++ slice_range xs i j
-take-split xs i j order =
-    let same : j ≡ i + (j - i) = omega (arith, order) in
-    ap (λ n. take n xs) same ∙ take-add i (j - i) xs
-
-slice-split : {X : Type 0} (xs : List X) (i j k : ℕ) → i ≤ j → j ≤ k → slice_range xs i k ≡ slice_range xs i j ++ slice_range xs j k
-slice-split xs i j k one two =
-    let count : k - i ≡ (j - i) + (k - j) = omega (arith, one, two) in
-    let same : i + (j - i) ≡ j = omega (arith, one) in
-    ap (λ n. take n (drop i xs)) count ∙ take-add (j - i) (k - j) (drop i xs) ∙ ap (λ ys. slice_range xs i j ++ take (k - j) ys) (drop-drop (j - i) i xs ∙ ap (λ n. drop n xs) same)
-
-part-four : {X : Type 0} (ws xs ys zs : List X) → ws ++ (xs ++ (ys ++ zs)) ≡ (ws ++ (xs ++ ys)) ++ zs
-part-four ws xs ys zs = ap (λ those. ws ++ those) (sym (append_assoc xs ys zs)) ∙ sym (append_assoc ws (xs ++ ys) zs)
-
--- ---- stanzas that begin with a block without a caret
-
-opens-take : (k : ℕ) (stanzas : List StanzaOf) → OpensApart stanzas → OpensApart (take (suc k) stanzas)
-opens-take k [] is = absurd is
-opens-take k (s ∷ ss) is = is
-
-opens-slice : (stanzas : List StanzaOf) (i j : ℕ) → i < j → OpensApart (drop i stanzas) → OpensApart (slice_range stanzas i j)
-opens-slice stanzas i j order is =
-    let count : suc (j - i - 1) ≡ j - i = omega (arith, order) in
-    subst (λ n. OpensApart (take n (drop i stanzas))) count (opens-take (j - i - 1) (drop i stanzas) is)
-
--- ---- who spoke last
-
+-- Where speakers who go on aren't told, nobody is remembered.
 pub spoken-last : (on : Bool) (lines : List LineState) (last : Option (List ℕ)) (blocks : List PlacedBlock) → spoken_elements on lines (cond on last None) blocks ≡ spoken_elements on lines last blocks
 spoken-last true lines last blocks = refl
 spoken-last false lines last blocks = spoken_elements-off lines None last blocks
