@@ -1,5 +1,5 @@
 -- The elements of blocks begin where the first of their blocks do.
-use Rattle.std.proofs.Common.{◌≡◌, ℕ, ◌+◌, ◌-◌, ◌<◌, ◌≤◌, Bool, List, [], ◌∷◌, ◌++◌, length, map, filter, Option, None, refl, sym, ap, subst, ◌∙◌, arith}
+use Rattle.std.proofs.Common.{◌≡◌, ℕ, ◌+◌, ◌-◌, ◌<◌, ◌≤◌, Bool, List, [], ◌∷◌, ◌++◌, length, get_or, map, filter, Option, None, refl, sym, ap, subst, ◌∙◌, arith}
 use Rattle.std.specs.Prelude.{All}
 use Rattle.std.proofs.lemmas.List.Elements.{All-nil, All-cons, All-head, All-tail, All-filter, All-map}
 use Rattle.spec_text.specs.Lines.{LineState}
@@ -46,7 +46,7 @@ pub laid-firsts : (Q : ℕ → Type 0) (among : Group Spoken → Bool) (lines : 
 laid-firsts Q among lines groups all =
     let P : Group Spoken → Type 0 = λ (g : Group Spoken). Q (element_first g) in
     let some = All-filter among P groups all in
-    All-map (λ (e : ElementOf). Q e.first) (laid_out lines) (filter among groups) (λ k d h. subst Q (sym (laid-first lines _)) (some k d h))
+    All-map (λ (e : ElementOf). Q e.first) (laid_out lines) (filter among groups) (λ k d h. subst Q (sym (laid-first lines (get_or (filter among groups) k d))) (some k d h))
 
 -- The page breaks of elements, before which so many rows stand, stand from there on and up to behind the last row.
 pub breaks-low : (lines : List LineState) (count : ℕ) (groups : List (Group Spoken)) → All (λ (stop : ℕ). count ≤ stop) (breaks_from lines count groups)
