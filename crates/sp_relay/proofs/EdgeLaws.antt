@@ -1,6 +1,7 @@
 -- What stands before the edges of a part of a layout.
-use Rattle.std.proofs.Common.{◌≡◌, ℕ, suc, ◌+◌, ◌-◌, ◌<◌, ◌≤◌, Bool, Option, None, List, [], ◌∷◌, ◌++◌, length, get_or, ltb, take, drop, slice_index, inl, inr, refl, sym, ap, ap₂, subst, ◌∙◌, arith, append_assoc, length-append, take_at, All}
+use Rattle.std.proofs.Common.{◌≡◌, ℕ, suc, ◌+◌, ◌-◌, ◌<◌, ◌≤◌, true, Bool, Option, None, List, [], ◌∷◌, ◌++◌, length, get_or, ltb, take, drop, slice_range, inl, inr, refl, sym, ap, ap₂, subst, ◌∙◌, arith, append_assoc, length-append, take_at, All}
 use Rattle.std.specs.Prelude.{AllPairs}
+use Rattle.std.specs.List.{list_any}
 use Rattle.std.specs.List.Sorted.{IsPartitionedBy}
 use Rattle.std.proofs.lemmas.Bool.{cases_lt, lt-ltb, ltb-true}
 use Rattle.std.proofs.lemmas.List.{append-nil, get_or_append_left, get_or-append_right}
@@ -17,17 +18,18 @@ use Rattle.spec_layout.proofs.RowLaws.{IsText-texts}
 use Rattle.spec_reread.specs.Windows.{stanza_lines_in}
 use Rattle.spec_reread.proofs.WindowBlocks.{blocks-append}
 use Rattle.spec_relay.specs.Moved.{speaker_behind}
-use Rattle.spec_relay.specs.RelaidStanzas.{OpensApart}
+use Rattle.spec_relay.specs.RelaidStanzas.{OpensApart, stanza_settles}
 use Rattle.spec_relay.proofs.Parts.{spoken-append}
 use Rattle.spec_relay.proofs.LayoutParts.{laid_of, laid-append, rows_in, breaks-append}
 use Rattle.spec_relay.proofs.PlacedElements.{element_first, spoken-firsts, laid-firsts, breaks-low, breaks-high}
 use Rattle.spec_relay.proofs.RelaidStanzas.{front-stands}
-use Rattle.spec_relay.proofs.StanzaBlocks.{blocks-past, opens-apart}
+use Rattle.spec_relay.proofs.StanzaBlocks.{lines-append, blocks-past, opens-apart}
 use Rattle.sp_layout.specs.Bodies.{row_count}
 use Rattle.sp_layout.specs.LaidOut.{LayoutOf, keyed}
 use Rattle.sp_relay.specs.declared.edges.PartEdge.{PartEdge}
 use Rattle.sp_relay.specs.Kept.{rows_to}
-use Rattle.sp_relay.specs.Edges.{BeginsBefore, BeginsFrom, PartsAt, CountsBefore, CanPart, IsEdge, last_edge}
+use Rattle.sp_relay.specs.Edges.{BeginsBefore, BeginsFrom, PartsAt, CountsBefore, CanPart, IsEdge, IsPartStart, IsPartEnd, last_edge}
+use Rattle.sp_relay.proofs.StanzaLists.{take-split, opens-slice}
 
 -- Elements that a line parts are in order, as far as it tells, and the place found by halves is that of the line.
 parted : (front behind : List ElementOf) (line : ℕ) → All (BeginsBefore line) front → All (BeginsFrom line) behind → IsPartitionedBy (λ (e : ElementOf). ltb e.first line) (front ++ behind)
@@ -180,3 +182,29 @@ can-part on text layout keeps was xs ys is opens =
     parts-at on before layout was (spoken_elements on before None one) (spoken_elements on before last two) split line
     (spoken-firsts on before None (λ (p : PlacedBlock). p.first < line) one (λ k d h. (stands.each k d h).below))
     (spoken-firsts on before last (λ (p : PlacedBlock). line ≤ p.first) two (blocks-past line line ys (omega arith)))
+
+-- An edge that was found in front of a window, and one behind it.
+pub start-found : (stanzas : List StanzaOf) (at : ℕ) (layout : LayoutOf) (edge : PartEdge) (place line : ℕ) → edge.stanza ≡ place → place < at → OpensApart (drop place stanzas) → line ≡ stanza_lines_in (take place stanzas)
+    → IsEdge layout line edge → IsPartStart stanzas at layout edge
+start-found stanzas at layout edge place line stanza low opens is it = record {
+  within = omega (arith, stanza, low);
+  is = inr (
+    subst (λ n. OpensApart (slice_range stanzas n at)) (sym stanza) (opens-slice stanzas place at low opens),
+    subst (λ n. IsEdge layout n edge) (is ∙ sym (ap (λ n. stanza_lines_in (take n stanzas)) stanza)) it,
+  );
+}
+
+pub end-found : (stanzas : List StanzaOf) (to was end : ℕ) (layout : LayoutOf) (edge : PartEdge) (place line : ℕ) → edge.stanza ≡ place → to ≤ place → place < length stanzas → OpensApart (drop place stanzas)
+    → list_any stanza_settles (slice_range stanzas to place) ≡ true → line ≡ stanza_lines_in (take place stanzas) - end + was → IsEdge layout line edge → IsPartEnd stanzas to was end layout edge
+end-found stanzas to was end layout edge place line stanza low inside opens settles is it = record {
+  low = omega (arith, stanza, low);
+  within = omega (arith, stanza, inside);
+  is = inr (
+    subst (λ n. OpensApart (drop n stanzas)) (sym stanza) opens,
+    ap (λ n. list_any stanza_settles (slice_range stanzas to n)) stanza ∙ settles,
+    subst (λ n. IsEdge layout n edge) (is ∙ sym (ap (λ n. stanza_lines_in (take n stanzas) - end + was) stanza)) it,
+  );
+}
+
+pub lines-rise : (stanzas : List StanzaOf) (i j : ℕ) → i ≤ j → stanza_lines_in (take i stanzas) ≤ stanza_lines_in (take j stanzas)
+lines-rise stanzas i j order = omega (arith, ap stanza_lines_in (take-split stanzas i j order), lines-append (take i stanzas) (slice_range stanzas i j))

@@ -1,12 +1,14 @@
 -- The part of a layout that an edit changes, by the stanzas round its window.
-use Rattle.std.proofs.Common.{◌≡◌, ◌⊎◌, ℕ, suc, ◌+◌, ◌-◌, ◌<◌, ◌≤◌, Bool, true, false, cond, Option, None, List, [], ◌∷◌, ◌++◌, length, map, get_or, take, drop, slice_range, inl, inr, refl, sym, ap, ap₂, subst, ◌∙◌, arith, append_assoc, length-append, length-drop, length-map, take-append-drop, take-add, drop-drop, get_or-take, get_or-drop, All}
+use Rattle.std.proofs.Common.{◌≡◌, ◌⊎◌, ℕ, suc, ◌+◌, ◌-◌, ◌<◌, ◌≤◌, Bool, true, false, cond, Option, None, List, [], ◌∷◌, ◌++◌, length, map, get_or, take, drop, slice_range, inl, inr, refl, sym, ap, ap₂, subst, ◌∙◌, arith, append_assoc, length-append, take-append-drop, take-add, drop-drop, get_or-take, get_or-drop, All}
 use Rattle.std.specs.List.{list_any}
-use Rattle.std.proofs.lemmas.List.{append-nil, drop_all}
+use Rattle.std.proofs.lemmas.List.{append-nil, drop_all, length-map}
 use Rattle.std.proofs.lemmas.List.Elements.{All-append}
 use Rattle.spec_text.specs.Lines.{LineState, TextState, IsText, line_texts}
 use Rattle.spec_script.specs.BlockValues.{StanzaOf}
+use Rattle.spec_script.specs.Elements.{PlacedLies}
 use Rattle.spec_script.specs.LongestRuns.{Group}
 use Rattle.spec_script.specs.Stanzas.{PlacedBlock, blocks_from, blocks_of, stanzas_of}
+use Rattle.spec_script.proofs.BlockPlaces.{blocks_of-lie}
 use Rattle.spec_pages.specs.Rows.{ElementOf, line_state}
 use Rattle.spec_layout.specs.Speakers.{Spoken, spoken_elements, text_elements}
 use Rattle.spec_layout.specs.Layout.{layout_of}
@@ -21,7 +23,8 @@ use Rattle.spec_relay.proofs.PlacedElements.{element_first, spoken-firsts}
 use Rattle.spec_relay.proofs.LayoutParts.{laid_of, laid-append, rows_in, breaks-append}
 use Rattle.spec_relay.proofs.RelaidParts.{ElementsRelaid, elements-relaid}
 use Rattle.spec_relay.proofs.RelaidStanzas.{front-stands, stanzas-relaid}
-use Rattle.spec_relay.proofs.StanzaBlocks.{lines-append, blocks-past, opens-more}
+use Rattle.spec_relay.proofs.Parts.{behind-append, behind-settled}
+use Rattle.spec_relay.proofs.StanzaBlocks.{lines-append, blocks-three, blocks-past, any-blocks, opens-more}
 use Rattle.spec_reread.proofs.WindowBlocks.{blocks-append}
 use Rattle.spec_layout.specs.Layout.{is_title_element, in_body, breaks_from}
 use Rattle.sp_layout.specs.LaidOut.{LayoutOf, keyed, layout_behind}
@@ -182,7 +185,7 @@ module _ (lines : TextState) (stanzas : List StanzaOf) (swapped : SwappedState) 
       ];
       rest_apart = elim ends.is [
         | inl last ↦ inl (ap (λ (e : PartEdge). drop e.stanza stanzas) last ∙ drop_all (length stanzas) stanzas (omega arith))
-        | inr both ↦ inr (both.0, both.1.0)
+        | inr both ↦ inr (both.0, both.1)
       ];
       still = lines-still;
       moved = lines-moved;
@@ -270,7 +273,7 @@ module _ (lines : TextState) (stanzas : List StanzaOf) (swapped : SwappedState) 
               let low : All (λ (g : Group Spoken). element_first g < past) elements.elements_front = λ k d h. let less = front-low k d h in omega (arith, less, order) in
               edge-is on it.before.lines layout it.was (elements.elements_front ++ elements.elements_gone) elements.elements_rest all past stop
               (All-append (λ (g : Group Spoken). element_first g < past) elements.elements_front elements.elements_gone low gone-low) (rest-high past (omega arith))
-              (subst (λ n. IsEdge layout n stop) line both.1.1)
+              (subst (λ n. IsEdge layout n stop) line both.2)
         ]
 
     places-are : places ≡ places_of it.before.lines elements.elements_front elements.elements_gone was end
@@ -311,3 +314,81 @@ module _ (lines : TextState) (stanzas : List StanzaOf) (swapped : SwappedState) 
     -- And the part can be put in.
     pub edit-can : CanSwap layout places (layout_behind lines.lines speakers blocks)
     edit-can = relaid-can it.before lines speakers blocks places layout it.keeps keeps edit-relaid
+
+-- What the call that lays a part out anew asks and is asked for.
+pub record EditedPart (before lines : List LineState) (layout : LayoutOf) (speakers : SpeakersOf) (blocks : List PlacedBlock) (places : PartPlaces) : Type 0 where
+  pub relaid : IsRelaid before lines speakers blocks places layout
+  pub can : CanSwap layout places (layout_behind lines speakers blocks)
+
+pub edited-part : (lines : TextState) (stanzas : List StanzaOf) (swapped : SwappedState) (on : Bool) (layout : LayoutOf) (it : WasLaid lines.lines stanzas swapped on layout) → stanzas ≡ stanzas_of (line_texts lines.lines) → IsText lines
+    → (from upto was end : ℕ) (start stop : PartEdge) (speakers : SpeakersOf) (blocks : List PlacedBlock) (places : PartPlaces) → from ≡ swapped.at → upto ≡ swapped.at + swapped.stands → was ≡ window_was stanzas swapped → end ≡ window_end stanzas swapped
+    → IsPartStart stanzas from layout start → IsPartEnd stanzas upto was end layout stop → speakers ≡ speakers_after (line_texts lines.lines) on (blocks_from 0 (take start.stanza stanzas))
+    → blocks ≡ blocks_from (stanza_lines_in (take start.stanza stanzas)) (slice_range stanzas start.stanza stop.stanza) → places ≡ edge_places start stop was end
+    → EditedPart it.before.lines lines.lines layout speakers blocks places
+edited-part lines stanzas swapped on layout it list keeps from upto was end start stop speakers blocks places from_is upto_is was_is end_is begins ends speakers_are blocks_are places_are =
+    let begin = subst (λ n. IsPartStart stanzas n layout start) from_is begins in
+    let stops = subst (λ n. IsPartEnd stanzas (swapped.at + swapped.stands) (window_was stanzas swapped) n layout stop) end_is
+    (subst (λ n. IsPartEnd stanzas (swapped.at + swapped.stands) n end layout stop) was_is (subst (λ n. IsPartEnd stanzas n was end layout stop) upto_is ends)) in
+    let places_same : places ≡ edge_places start stop (window_was stanzas swapped) (window_end stanzas swapped) = places_are ∙ ap₂ (λ n m. edge_places start stop n m) was_is end_is in
+    let relaid = subst (λ (p : PartPlaces). IsRelaid it.before.lines lines.lines speakers blocks p layout) (sym places_same)
+    (subst (λ (bs : List PlacedBlock). IsRelaid it.before.lines lines.lines speakers bs (edge_places start stop (window_was stanzas swapped) (window_end stanzas swapped)) layout) (sym blocks_are)
+    (subst (λ (s : SpeakersOf). IsRelaid it.before.lines lines.lines s (blocks_from (stanza_lines_in (take start.stanza stanzas)) (slice_range stanzas start.stanza stop.stanza)) (edge_places start stop (window_was stanzas swapped) (window_end stanzas swapped)) layout) (sym speakers_are)
+    (edit-relaid lines stanzas swapped on layout it list keeps start stop begin stops))) in
+    record { relaid = relaid; can = relaid-can it.before lines speakers blocks places layout it.keeps keeps relaid }
+
+pub can-end-at : (lines : TextState) (stanzas : List StanzaOf) (swapped : SwappedState) (on : Bool) (layout : LayoutOf) → WasLaid lines.lines stanzas swapped on layout → (upto was end : ℕ) → upto ≡ swapped.at + swapped.stands
+    → was ≡ window_was stanzas swapped → end ≡ window_end stanzas swapped → CanEnd stanzas upto was end layout
+can-end-at lines stanzas swapped on layout it upto was end upto_is was_is end_is =
+    subst (λ n. CanEnd stanzas n was end layout) (sym upto_is)
+    (subst (λ n. CanEnd stanzas (swapped.at + swapped.stands) n end layout) (sym was_is)
+    (subst (λ n. CanEnd stanzas (swapped.at + swapped.stands) (window_was stanzas swapped) n layout) (sym end_is) (can-end lines stanzas swapped on layout it)))
+
+-- The stanzas of a text, and the first of them, have no more lines than a text.
+pub record FewLines (stanzas : List StanzaOf) : Type 0 where
+  pub all : stanza_lines_in stanzas ≤ 200000
+  pub first : (i : ℕ) → stanza_lines_in (take i stanzas) ≤ 200000
+
+pub few-lines : (text : TextState) (stanzas : List StanzaOf) → IsText text → stanzas ≡ stanzas_of (line_texts text.lines) → FewLines stanzas
+few-lines text stanzas keeps is =
+    let few = keeps.count in
+    let count = count-from (line_texts text.lines) 0 in
+    let size = length-map text.lines (λ (line : LineState). line.text) in
+    let all : stanza_lines_in stanzas ≤ 200000 = omega (arith, few, count, size, ap stanza_lines_in is) in
+    record {
+      all = all;
+      first = λ i. omega (arith, all, ap stanza_lines_in (take-append-drop i stanzas), lines-append (take i stanzas) (drop i stanzas));
+    }
+
+-- The blocks of stanzas of a text lie in it.
+pub slice-lies : (text : TextState) (stanzas : List StanzaOf) (from to : ℕ) → IsText text → stanzas ≡ stanzas_of (line_texts text.lines) → from ≤ to
+    → All (PlacedLies (line_texts text.lines)) (blocks_from (stanza_lines_in (take from stanzas)) (slice_range stanzas from to))
+slice-lies text stanzas from to keeps is order =
+    let texts = line_texts text.lines in
+    let are = IsText-texts text keeps in
+    let start : 0 + stanza_lines_in (take from stanzas) ≡ stanza_lines_in (take from stanzas) = omega arith in
+    let parts : stanzas ≡ take from stanzas ++ (slice_range stanzas from to ++ drop to stanzas) =
+    sym (take-append-drop from stanzas) ∙ ap (λ (ss : List StanzaOf). take from stanzas ++ ss) (drop-split stanzas from to order) in
+    let mid = blocks_from (stanza_lines_in (take from stanzas)) (slice_range stanzas from to) in
+    let last = blocks_from (stanza_lines_in (take from stanzas) + stanza_lines_in (slice_range stanzas from to)) (drop to stanzas) in
+    let blocks : blocks_of texts ≡ blocks_from 0 (take from stanzas) ++ (mid ++ last) =
+    ap (blocks_from 0) (sym is ∙ parts) ∙ blocks-three 0 (take from stanzas) (slice_range stanzas from to) (drop to stanzas)
+    ∙ ap (λ n. blocks_from 0 (take from stanzas) ++ (blocks_from n (slice_range stanzas from to) ++ blocks_from (n + stanza_lines_in (slice_range stanzas from to)) (drop to stanzas))) start in
+    let lie = subst (All (PlacedLies texts)) blocks (blocks_of-lie texts are.utf8 are.few).lie in
+    all-front (PlacedLies texts) mid last (all-back (PlacedLies texts) (blocks_from 0 (take from stanzas)) (mid ++ last) lie)
+
+-- Who spoke last before a stanza, told by those from one on with a heading or a speech.
+pub speakers-told : (texts : List (List ℕ)) (on : Bool) (stanzas : List StanzaOf) (from to : ℕ) → from ≤ to → (from ≡ 0) ⊎ (list_any stanza_settles (slice_range stanzas from to) ≡ true)
+    → speakers_after texts on (blocks_from (stanza_lines_in (take from stanzas)) (slice_range stanzas from to)) ≡ speakers_after texts on (blocks_from 0 (take to stanzas))
+speakers-told texts on stanzas from to order settles =
+    let start : 0 + stanza_lines_in (take from stanzas) ≡ stanza_lines_in (take from stanzas) = omega arith in
+    let one = blocks_from 0 (take from stanzas) in
+    let two = blocks_from (stanza_lines_in (take from stanzas)) (slice_range stanzas from to) in
+    let blocks : blocks_from 0 (take to stanzas) ≡ one ++ two =
+    ap (blocks_from 0) (take-split stanzas from to order) ∙ blocks-append 0 (take from stanzas) (slice_range stanzas from to) ∙ ap (λ n. one ++ blocks_from n (slice_range stanzas from to)) start in
+    let whole : speaker_behind texts None (blocks_from 0 (take to stanzas)) ≡ speaker_behind texts (speaker_behind texts None one) two = ap (speaker_behind texts None) blocks ∙ behind-append texts None one two in
+    let same : speaker_behind texts (speaker_behind texts None one) two ≡ speaker_behind texts None two = elim settles [
+      | inl zero ↦ ap (λ n. speaker_behind texts (speaker_behind texts None (blocks_from 0 (take n stanzas))) two) zero
+      | inr some ↦ behind-settled texts (speaker_behind texts None one) None two (any-blocks (stanza_lines_in (take from stanzas)) (slice_range stanzas from to) ∙ some)
+    ] in
+    let P : Option (List ℕ) → SpeakersOf = λ last. record { on = on; last = cond on last None } in
+    ap P (sym (whole ∙ same))
