@@ -1,5 +1,5 @@
 -- The part of a layout that an edit changes, by the stanzas round its window.
-use Rattle.std.proofs.Common.{◌≡◌, ◌⊎◌, ℕ, suc, ◌+◌, ◌-◌, ◌<◌, ◌≤◌, Bool, true, false, cond, Option, None, List, [], ◌∷◌, ◌++◌, length, map, get_or, take, drop, slice_range, inl, inr, refl, sym, ap, ap₂, subst, ◌∙◌, arith, append_assoc, length-append, take-append-drop, take-add, drop-drop, get_or-take, get_or-drop, All}
+use Rattle.std.proofs.Common.{◌≡◌, ◌⊎◌, ℕ, ◌+◌, ◌-◌, ◌<◌, ◌≤◌, Bool, true, false, cond, Option, None, List, [], ◌++◌, length, map, get_or, take, drop, slice_range, inl, inr, refl, sym, ap, ap₂, subst, ◌∙◌, arith, append_assoc, length-append, take-append-drop, get_or-take, get_or-drop, All}
 use Rattle.std.specs.List.{list_any}
 use Rattle.std.proofs.lemmas.List.{append-nil, drop_all, length-map}
 use Rattle.std.proofs.lemmas.List.Elements.{All-append}
@@ -11,14 +11,13 @@ use Rattle.spec_script.specs.Stanzas.{PlacedBlock, blocks_from, blocks_of, stanz
 use Rattle.spec_script.proofs.BlockPlaces.{blocks_of-lie}
 use Rattle.spec_pages.specs.Rows.{ElementOf, line_state}
 use Rattle.spec_layout.specs.Speakers.{Spoken, spoken_elements, text_elements}
-use Rattle.spec_layout.specs.Layout.{layout_of}
 use Rattle.spec_layout.proofs.RowLaws.{IsText-texts}
 use Rattle.spec_layout.proofs.SpokenLaws.{spoken_elements-off}
 use Rattle.spec_reread.specs.Windows.{stanza_lines_in}
 use Rattle.spec_reread.proofs.Counts.{count-from}
 use Rattle.spec_relayout.proofs.WindowSides.{all-front, all-back}
 use Rattle.spec_relay.specs.Moved.{moved_place, moved_group, speaker_behind}
-use Rattle.spec_relay.specs.RelaidStanzas.{OpensApart, StanzasRelaid, stanza_settles}
+use Rattle.spec_relay.specs.RelaidStanzas.{StanzasRelaid, stanza_settles}
 use Rattle.spec_relay.proofs.PlacedElements.{element_first, spoken-firsts}
 use Rattle.spec_relay.proofs.LayoutParts.{laid_of, laid-append, rows_in, breaks-append}
 use Rattle.spec_relay.proofs.RelaidParts.{ElementsRelaid, elements-relaid}
@@ -27,14 +26,14 @@ use Rattle.spec_relay.proofs.Parts.{behind-append, behind-settled}
 use Rattle.spec_relay.proofs.StanzaBlocks.{lines-append, blocks-three, blocks-past, any-blocks, opens-more}
 use Rattle.spec_reread.proofs.WindowBlocks.{blocks-append}
 use Rattle.spec_layout.specs.Layout.{is_title_element, in_body, breaks_from}
-use Rattle.sp_layout.specs.LaidOut.{LayoutOf, keyed, layout_behind}
+use Rattle.sp_layout.specs.LaidOut.{LayoutOf, layout_behind}
 use Rattle.sp_layout.specs.Speaking.{SpeakersOf, speakers_after}
 use Rattle.sp_reread.specs.Cache.{SwappedState}
 use Rattle.sp_relay.specs.declared.edges.PartEdge.{PartEdge}
 use Rattle.sp_relay.specs.declared.kept.PartPlaces.{PartPlaces}
 use Rattle.sp_relay.specs.Kept.{CanSwap}
 use Rattle.sp_relay.specs.Relaid.{IsRelaid, places_of}
-use Rattle.sp_relay.specs.Edges.{CanPart, CanBegin, CanEnd, IsEdge, IsPartStart, IsPartEnd, first_edge, last_edge, edge_places}
+use Rattle.sp_relay.specs.Edges.{CanPart, CanBegin, CanEnd, IsEdge, IsPartStart, IsPartEnd, edge_places}
 use Rattle.sp_relay.specs.Edited.{WasLaid, window_start, window_end, window_was}
 use Rattle.sp_relay.proofs.StanzaLists.{drop-split, take-split, slice-split, part-four, opens-slice}
 use Rattle.sp_relay.proofs.EdgeLaws.{EdgeIs, edge-is, edge-last, can-part}

@@ -1,16 +1,16 @@
 -- A part that is laid out anew can be put in the place of what stood there.
-use Rattle.std.proofs.Common.{◌≡◌, ℕ, ◌+◌, ◌-◌, ◌<◌, ◌≤◌, ◌^◌, Bool, Option, List, [], ◌∷◌, ◌++◌, length, map, take, drop, slice_range, refl, sym, ap, ap₂, subst, ◌∙◌, arith, length-append, take_at, drop_at, All}
+use Rattle.std.proofs.Common.{◌≡◌, ℕ, ◌+◌, ◌-◌, ◌<◌, ◌≤◌, Bool, List, [], ◌∷◌, ◌++◌, length, map, take, drop, slice_range, refl, sym, ap, ap₂, subst, ◌∙◌, arith, length-append, take_at, drop_at, All}
 use Rattle.std.proofs.lemmas.List.Elements.{All-nil, All-cons, All-head, All-tail}
 use Rattle.spec_text.specs.Lines.{LineState, TextState, IsText, line_texts}
 use Rattle.spec_script.specs.LongestRuns.{Group}
 use Rattle.spec_script.specs.Stanzas.{PlacedBlock, blocks_of}
 use Rattle.spec_pages.specs.Rows.{ElementOf}
 use Rattle.spec_layout.specs.Speakers.{Spoken, spoken_elements, text_elements}
-use Rattle.spec_layout.specs.Layout.{is_title_element, in_body, breaks_from, layout_in, layout_of, placed_in}
+use Rattle.spec_layout.specs.Layout.{is_title_element, in_body, breaks_from, layout_in}
 use Rattle.spec_layout.proofs.ElementPlaces.{blocks_of-stand}
 use Rattle.spec_layout.proofs.RowCounts.{layout_of-few}
 use Rattle.spec_layout.proofs.RowLaws.{IsText-texts}
-use Rattle.spec_relayout.proofs.WindowSides.{all-front, all-back}
+use Rattle.spec_relayout.proofs.WindowSides.{all-back}
 use Rattle.spec_relay.specs.Moved.{moved_place, moved_group}
 use Rattle.spec_relay.proofs.MovedElements.{GroupStays}
 use Rattle.spec_relay.proofs.LayoutParts.{laid_of, laid-three, rows_in, rows-append, breaks-append}
@@ -21,7 +21,7 @@ use Rattle.sp_layout.specs.Speaking.{SpeakersOf}
 use Rattle.sp_relay.specs.declared.kept.PartPlaces.{PartPlaces}
 use Rattle.sp_relay.specs.Runs.{MovesBack, ElementMoves, CanExchange, CanExchangeBreaks}
 use Rattle.sp_relay.specs.Kept.{CanSwap, rows_to}
-use Rattle.sp_relay.specs.Relaid.{IsRelaid, places_of}
+use Rattle.sp_relay.specs.Relaid.{IsRelaid}
 use Rattle.sp_relay.proofs.RunsBack.{front-of}
 use Rattle.sp_relay.proofs.PartLaws.{body-till, body-end}
 

@@ -1,7 +1,6 @@
 -- A layout before an edit, by the window of the edit.
-use Rattle.std.proofs.Common.{◌≡◌, ℕ, ◌+◌, ◌-◌, ◌≤◌, Bool, List, ◌++◌, take, drop, slice_range, sym, ap, ap₂, subst, ◌∙◌, arith, take-take, drop-drop}
-use Rattle.spec_text.specs.Lines.{LineState, TextState, IsText, line_texts}
-use Rattle.spec_script.specs.BlockValues.{StanzaOf}
+use Rattle.std.proofs.Common.{◌≡◌, ℕ, ◌+◌, ◌-◌, Bool, take, drop, slice_range, sym, ap, subst, ◌∙◌, arith, take-take, drop-drop}
+use Rattle.spec_text.specs.Lines.{TextState, IsText, line_texts}
 use Rattle.spec_script.specs.Stanzas.{stanzas_of}
 use Rattle.spec_layout.specs.Layout.{layout_of}
 use Rattle.spec_reread.specs.Windows.{IsEdited, IsWindow, stanza_lines_in, stanzas_between}

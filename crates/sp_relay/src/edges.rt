@@ -105,13 +105,7 @@ pub fn part_start(stanzas: &Stanzas, at: usize, kept: &KeptLayout) -> PartEdge
 }
 
 /// Where the part ends, behind the window that ends before the stanza `to`: with the line `end`, which was the line `was`.
-pub fn part_end(
-    stanzas: &Stanzas,
-    to: usize,
-    was: usize,
-    end: usize,
-    kept: &KeptLayout,
-) -> PartEdge
+pub fn part_end(stanzas: &Stanzas, to: usize, was: usize, end: usize, kept: &KeptLayout) -> PartEdge
     requires within { to ≤ length stanzas.now.stanzas }
     requires end { end ≡ stanza_lines_in (take to stanzas.now.stanzas) }
     requires low { was + stanza_lines_in stanzas.now.stanzas ≤ 9223372036854775807 }

@@ -1,15 +1,14 @@
 -- The elements of blocks begin where the first of their blocks do.
-use Rattle.std.proofs.Common.{◌≡◌, ℕ, ◌+◌, ◌-◌, ◌<◌, ◌≤◌, Bool, List, [], ◌∷◌, ◌++◌, length, get_or, map, filter, Option, None, refl, sym, ap, subst, ◌∙◌, arith}
+use Rattle.std.proofs.Common.{◌≡◌, ℕ, ◌+◌, ◌≤◌, Bool, List, [], ◌∷◌, get_or, map, filter, Option, refl, sym, ap, subst, ◌∙◌, arith}
 use Rattle.std.specs.Prelude.{All}
 use Rattle.std.proofs.lemmas.List.Elements.{All-nil, All-cons, All-head, All-tail, All-filter, All-map}
 use Rattle.spec_text.specs.Lines.{LineState}
 use Rattle.spec_script.specs.LongestRuns.{Group}
 use Rattle.spec_script.specs.Stanzas.{PlacedBlock}
-use Rattle.spec_script.specs.Elements.{elements_in}
 use Rattle.spec_script.proofs.RunSteps.{map_group}
 use Rattle.spec_pages.specs.Rows.{ElementOf}
 use Rattle.spec_layout.specs.Speakers.{Spoken, spoken_elements}
-use Rattle.spec_layout.specs.Layout.{in_body, laid_beside, laid_out, breaks_from, layout_in}
+use Rattle.spec_layout.specs.Layout.{laid_beside, laid_out, breaks_from}
 use Rattle.spec_layout.proofs.SpokenLaws.{placed_of, spoken_elements-placed}
 use Rattle.spec_layout.proofs.BreakLaws.{layout_in-within}
 use Rattle.spec_relayout.proofs.FairElements.{AllIn, elements-all}

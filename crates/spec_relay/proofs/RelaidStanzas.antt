@@ -1,5 +1,5 @@
 -- The blocks of a text before and after an edit, by its stanzas.
-use Rattle.std.proofs.Common.{◌≡◌, ℕ, ◌+◌, ◌<◌, ◌≤◌, true, Bool, List, [], ◌∷◌, ◌++◌, length, map, Option, None, inl, inr, refl, sym, ap, ap₂, subst, ◌∙◌, arith}
+use Rattle.std.proofs.Common.{◌≡◌, ℕ, ◌+◌, ◌<◌, ◌≤◌, true, Bool, List, [], ◌∷◌, ◌++◌, length, map, Option, None, inl, inr, sym, ap, ap₂, subst, ◌∙◌, arith}
 use Rattle.std.specs.Prelude.{All}
 use Rattle.std.specs.List.{list_any}
 use Rattle.std.specs.Str.{IsUtf8}
@@ -11,12 +11,12 @@ use Rattle.spec_script.specs.BlockValues.{StanzaOf}
 use Rattle.spec_script.specs.Stanzas.{PlacedBlock, blocks_from, blocks_of, stanzas_of}
 use Rattle.spec_pages.specs.Rows.{line_state}
 use Rattle.spec_layout.proofs.ElementPlaces.{LinesRise, placed_from, placed_to, blocks_of-stand}
-use Rattle.spec_reread.specs.Windows.{HasFrom, stanza_lines_in, stanzas_between}
+use Rattle.spec_reread.specs.Windows.{HasFrom, stanza_lines_in}
 use Rattle.spec_reread.proofs.Places.{at_place, front-between, has-all}
 use Rattle.spec_relayout.proofs.WindowSides.{EndsBy, StandsIn, all-front, all-back, between-in, front-ends}
-use Rattle.spec_relay.specs.Moved.{moved_place, moved_block, BlockStays, speaker_behind, BeginsApart, settles}
+use Rattle.spec_relay.specs.Moved.{moved_place, moved_block, BlockStays, speaker_behind, BeginsApart}
 use Rattle.spec_relay.specs.RelaidBlocks.{AreRelaid}
-use Rattle.spec_relay.specs.RelaidStanzas.{OpensApart, StanzasRelaid, stanza_settles}
+use Rattle.spec_relay.specs.RelaidStanzas.{StanzasRelaid, stanza_settles}
 use Rattle.spec_relay.proofs.Parts.{behind-append}
 use Rattle.spec_relay.proofs.StayingBlocks.{speakers-settled}
 use Rattle.spec_relay.proofs.StanzaBlocks.{lines-append, blocks-three, blocks-moved, blocks-past, places-rise, any-blocks, opens-begin, opens-apart, opens-more}

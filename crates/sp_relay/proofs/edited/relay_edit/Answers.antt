@@ -1,8 +1,7 @@
-use Rattle.std.proofs.Common.{◌≡◌, ℕ, ◌+◌, ◌≤◌, take, slice_range, sym, ap, ap₂, subst, ◌∙◌, arith, All}
+use Rattle.std.proofs.Common.{◌≡◌, ◌+◌, take, slice_range, sym, ap, ap₂, subst, ◌∙◌, arith, All}
 use Rattle.std.specs.Prelude.{OnOk}
 use Rattle.spec_text.specs.Lines.{line_texts}
 use Rattle.spec_script.specs.Elements.{PlacedLies, PlacesRise}
-use Rattle.spec_script.specs.Stanzas.{PlacedBlock}
 use Rattle.spec_layout.specs.Layout.{layout_of}
 use Rattle.spec_reread.specs.Windows.{stanza_lines_in}
 use Rattle.spec_relay.proofs.StanzaBlocks.{places-rise}
@@ -12,7 +11,7 @@ use Rattle.sp_layout.specs.Speaking.{SpeakersOf}
 use Rattle.sp_relay.specs.Kept.{laid_of}
 use Rattle.sp_relay.specs.Edges.{CanBegin}
 use Rattle.sp_relay.specs.Edited.{window_was, window_end}
-use Rattle.sp_relay.proofs.EditedLaws.{EditedPart, edited-part, can-begin, can-end-at, old-few, few-lines, slice-lies}
+use Rattle.sp_relay.proofs.EditedLaws.{edited-part, can-begin, can-end-at, old-few, few-lines, slice-lies}
 use Rattle.sp_relay.proofs.edited.relay_edit.Goals as goal
 
 pub lines_in-requires : goal.lines_in-requires
