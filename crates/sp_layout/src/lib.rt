@@ -12,5 +12,6 @@ mod speakers;
 pub use body::Body;
 pub use layout::{Layout, lay_out, lay_out_behind, lay_out_text};
 pub use page::Page;
-pub use placed::{PlacedBlock, placed_blocks};
+pub use placed::{PlacedBlock, placed_blocks, placed_blocks_between};
+pub use search::count_below;
 pub use speakers::{Speakers, speaker_name};

@@ -1,7 +1,8 @@
 //! The blocks of a text, lent by its stanzas.
-ghost use Rattle.std.specs.Prelude.{◌≡◌, ◌++◌, map, IfOk, OnOk};
+ghost use Rattle.std.specs.Prelude.{◌≡◌, ◌≤◌, ◌++◌, length, map, take, slice_range, IfOk, OnOk};
 ghost use Rattle.spec_script.specs.Elements.{placed_at};
 ghost use Rattle.spec_script.specs.Stanzas.{blocks_from};
+ghost use Rattle.spec_reread.specs.Windows.{stanza_lines_in};
 
 use sp_blocks::{Block, Stanza};
 use sp_reread::Stanzas;
@@ -37,14 +38,29 @@ fn add_stanza<'a>(
     Ok(())
 }
 
+/// The blocks of the stanzas from one place of a list to before another, each with the place at which its stanza begins
+/// (docs/RULES.md, "Stanzas"). The error is want of memory alone.
+pub fn placed_blocks_between(
+    alloc: Global,
+    stanzas: &Stanzas,
+    from: usize,
+    to: usize,
+) -> Result<Vec<PlacedBlock<'_>>, AllocError>
+    requires order { from ≤ to }
+    requires within { to ≤ length stanzas.now.stanzas }
+    ensures { IfOk result (λ placed. placed.items ≡ blocks_from (stanza_lines_in (take from stanzas.now.stanzas)) (slice_range stanzas.now.stanzas from to)) }
+{
+    let mut placed = Vec::new(alloc);
+    for i in from..to {
+        add_stanza(&mut placed, stanzas.first(i), stanzas.stanza(i))?;
+    }
+    Ok(placed)
+}
+
 /// The blocks of stanzas in order, each with the place at which its stanza begins (docs/RULES.md, "Stanzas"). The error is
 /// want of memory alone.
 pub fn placed_blocks(alloc: Global, stanzas: &Stanzas) -> Result<Vec<PlacedBlock<'_>>, AllocError>
     ensures { IfOk result (λ placed. placed.items ≡ blocks_from 0 stanzas.now.stanzas) }
 {
-    let mut placed = Vec::new(alloc);
-    for i in 0..stanzas.len() {
-        add_stanza(&mut placed, stanzas.first(i), stanzas.stanza(i))?;
-    }
-    Ok(placed)
+    placed_blocks_between(alloc, stanzas, 0, stanzas.len())
 }

@@ -1,2 +1,7 @@
 pub mod RunsBack
 pub mod PartLaws
+pub mod StanzaLists
+pub mod EdgeLaws
+pub mod SwapLaws
+pub mod EditedLaws
+pub mod WindowLaws

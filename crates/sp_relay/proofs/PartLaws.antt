@@ -120,11 +120,11 @@ module _ (lines later : List LineState) (less more : ℕ) (front gone come rest 
       ∙ ap₂ (λ (xs : List ℕ) n. xs ++ breaks_from later n (come ++ map (moved_group less more) rest)) front-breaks behind
       ∙ ap (λ (ns : List ℕ). f ++ ns) (breaks-append later rf come (map (moved_group less more) rest)))
 
-  body-till : row_count (take (length (laid_of in_body lines front)) (laid_of in_body lines (front ++ (gone ++ rest)))) ≡ rf
+  pub body-till : row_count (take (length (laid_of in_body lines front)) (laid_of in_body lines (front ++ (gone ++ rest)))) ≡ rf
   body-till = ap (λ (es : List ElementOf). row_count (take (length (laid_of in_body lines front)) es)) (laid-three in_body lines front gone rest)
       ∙ ap row_count (take_at (laid_of in_body lines front) (laid_of in_body lines gone ++ laid_of in_body lines rest) (length (laid_of in_body lines front)) refl)
 
-  body-end : row_count (take (length (laid_of in_body lines front) + length (laid_of in_body lines gone)) (laid_of in_body lines (front ++ (gone ++ rest)))) ≡ rf + rg
+  pub body-end : row_count (take (length (laid_of in_body lines front) + length (laid_of in_body lines gone)) (laid_of in_body lines (front ++ (gone ++ rest)))) ≡ rf + rg
   body-end =
       let f = laid_of in_body lines front in
       let g = laid_of in_body lines gone in

@@ -17,6 +17,9 @@ pub record ElementsRelaid (on : Bool) (before lines : List LineState) (less more
   pub elements_front : List (Group Spoken)
   pub elements_gone : List (Group Spoken)
   pub elements_rest : List (Group Spoken)
+  pub front_is : elements_front ≡ spoken_elements on before None front
+  pub gone_is : elements_gone ≡ spoken_elements on before (speaker_behind (line_texts before) None front) gone
+  pub rest_is : elements_rest ≡ spoken_elements on before (speaker_behind (line_texts before) None (front ++ gone)) rest
   pub old : text_elements on before ≡ elements_front ++ (elements_gone ++ elements_rest)
   pub new : text_elements on lines ≡ elements_front ++ (spoken_elements on lines (speaker_behind (line_texts lines) None front) come ++ map (moved_group less more) elements_rest)
   pub still : All (GroupStays 0 0 before lines) elements_front
@@ -81,6 +84,9 @@ elements-relaid on before lines less more front gone come rest it =
       elements_front = own;
       elements_gone = spoken_elements on before (speaker_behind texts None front) gone;
       elements_rest = last;
+      front_is = refl;
+      gone_is = refl;
+      rest_is = refl;
       old = ap (spoken_elements on before None) it.old ∙ three-parts on before front gone rest it.rest_apart old_split;
       new = ap (spoken_elements on lines None) it.new ∙ three-parts on lines front come moved (moved-apart less more rest it.rest_apart) new_split
           ∙ ap₂ (λ (xs ys : List (Group Spoken)). xs ++ (spoken_elements on lines (speaker_behind later None front) come ++ ys)) same_front same_rest;

@@ -1,0 +1,393 @@
+-- The part of a layout that an edit changes, by the stanzas round its window.
+use Rattle.std.proofs.Common.{◌≡◌, ◌⊎◌, ℕ, ◌+◌, ◌-◌, ◌<◌, ◌≤◌, Bool, true, false, cond, Option, None, List, [], ◌++◌, length, map, get_or, take, drop, slice_range, inl, inr, refl, sym, ap, ap₂, subst, ◌∙◌, arith, append_assoc, length-append, take-append-drop, get_or-take, get_or-drop, All}
+use Rattle.std.specs.List.{list_any}
+use Rattle.std.proofs.lemmas.List.{append-nil, drop_all, length-map}
+use Rattle.std.proofs.lemmas.List.Elements.{All-append}
+use Rattle.spec_text.specs.Lines.{LineState, TextState, IsText, line_texts}
+use Rattle.spec_script.specs.BlockValues.{StanzaOf}
+use Rattle.spec_script.specs.Elements.{PlacedLies}
+use Rattle.spec_script.specs.LongestRuns.{Group}
+use Rattle.spec_script.specs.Stanzas.{PlacedBlock, blocks_from, blocks_of, stanzas_of}
+use Rattle.spec_script.proofs.BlockPlaces.{blocks_of-lie}
+use Rattle.spec_pages.specs.Rows.{ElementOf, line_state}
+use Rattle.spec_layout.specs.Speakers.{Spoken, spoken_elements, text_elements}
+use Rattle.spec_layout.proofs.RowLaws.{IsText-texts}
+use Rattle.spec_layout.proofs.SpokenLaws.{spoken_elements-off}
+use Rattle.spec_reread.specs.Windows.{stanza_lines_in}
+use Rattle.spec_reread.proofs.Counts.{count-from}
+use Rattle.spec_relayout.proofs.WindowSides.{all-front, all-back}
+use Rattle.spec_relay.specs.Moved.{moved_place, moved_group, speaker_behind}
+use Rattle.spec_relay.specs.RelaidStanzas.{StanzasRelaid, stanza_settles}
+use Rattle.spec_relay.proofs.PlacedElements.{element_first, spoken-firsts}
+use Rattle.spec_relay.proofs.LayoutParts.{laid_of, laid-append, rows_in, breaks-append}
+use Rattle.spec_relay.proofs.RelaidParts.{ElementsRelaid, elements-relaid}
+use Rattle.spec_relay.proofs.RelaidStanzas.{front-stands, stanzas-relaid}
+use Rattle.spec_relay.proofs.Parts.{behind-append, behind-settled}
+use Rattle.spec_relay.proofs.StanzaBlocks.{lines-append, blocks-three, blocks-past, any-blocks, opens-more}
+use Rattle.spec_reread.proofs.WindowBlocks.{blocks-append}
+use Rattle.spec_layout.specs.Layout.{is_title_element, in_body, breaks_from}
+use Rattle.sp_layout.specs.LaidOut.{LayoutOf, layout_behind}
+use Rattle.sp_layout.specs.Speaking.{SpeakersOf, speakers_after}
+use Rattle.sp_reread.specs.Cache.{SwappedState}
+use Rattle.sp_relay.specs.declared.edges.PartEdge.{PartEdge}
+use Rattle.sp_relay.specs.declared.kept.PartPlaces.{PartPlaces}
+use Rattle.sp_relay.specs.Kept.{CanSwap}
+use Rattle.sp_relay.specs.Relaid.{IsRelaid, places_of}
+use Rattle.sp_relay.specs.Edges.{CanPart, CanBegin, CanEnd, IsEdge, IsPartStart, IsPartEnd, edge_places}
+use Rattle.sp_relay.specs.Edited.{WasLaid, window_start, window_end, window_was}
+use Rattle.sp_relay.proofs.StanzaLists.{drop-split, take-split, slice-split, part-four, opens-slice}
+use Rattle.sp_relay.proofs.EdgeLaws.{EdgeIs, edge-is, edge-last, can-part}
+use Rattle.sp_relay.proofs.SwapLaws.{relaid-can}
+
+-- Where speakers who go on aren't told, nobody is remembered.
+pub spoken-last : (on : Bool) (lines : List LineState) (last : Option (List ℕ)) (blocks : List PlacedBlock) → spoken_elements on lines (cond on last None) blocks ≡ spoken_elements on lines last blocks
+spoken-last true lines last blocks = refl
+spoken-last false lines last blocks = spoken_elements-off lines None last blocks
+
+places-same : (a b c d e f a' b' c' d' e' f' less more : ℕ) → a ≡ a' → b ≡ b' → c ≡ c' → d ≡ d' → e ≡ e' → f ≡ f'
+    → let P : PartPlaces = record { title_from = a; title_to = b; from = c; to = d; break_from = e; break_to = f; less = less; more = more } in
+    P ≡ record { title_from = a'; title_to = b'; from = c'; to = d'; break_from = e'; break_to = f'; less = less; more = more }
+places-same a b c d e f a' b' c' d' e' f' less more one two three four five six =
+    ap₂ (λ x y. record { title_from = x; title_to = y; from = c; to = d; break_from = e; break_to = f; less = less; more = more }) one two
+    ∙ ap₂ (λ x y. record { title_from = a'; title_to = b'; from = x; to = y; break_from = e; break_to = f; less = less; more = more }) three four
+    ∙ ap₂ (λ x y. record { title_from = a'; title_to = b'; from = c'; to = d'; break_from = x; break_to = y; less = less; more = more }) five six
+
+module _ (lines : TextState) (stanzas : List StanzaOf) (swapped : SwappedState) (on : Bool) (layout : LayoutOf) (it : WasLaid lines.lines stanzas swapped on layout) where
+  abbrev at : ℕ
+  at = swapped.at
+
+  abbrev to : ℕ
+  to = swapped.at + swapped.stands
+
+  abbrev was : ℕ
+  was = window_was stanzas swapped
+
+  abbrev end : ℕ
+  end = window_end stanzas swapped
+
+  abbrev olds : List StanzaOf
+  olds = stanzas_of (line_texts it.before.lines)
+
+  -- The stanzas of the text before the edit.
+  old-stanzas : olds ≡ take at stanzas ++ (swapped.stanzas ++ drop to stanzas)
+  old-stanzas = sym it.back.gives
+
+  -- They have no more lines than a text.
+  pub old-few : stanza_lines_in swapped.stanzas ≤ 200000
+  old-few =
+      let few = it.keeps.count in
+      let count = count-from (line_texts it.before.lines) 0 in
+      let size = length-map it.before.lines (λ (line : LineState). line.text) in
+      omega (arith, few, count, size, ap stanza_lines_in old-stanzas, lines-append (take at stanzas) (swapped.stanzas ++ drop to stanzas), lines-append swapped.stanzas (drop to stanzas))
+
+  pub can-begin : CanBegin stanzas at layout
+  can-begin = record {
+    each = λ i low opens.
+        let behind = slice_range stanzas i at ++ (swapped.stanzas ++ drop to stanzas) in
+        let is : olds ≡ take i stanzas ++ behind =
+        old-stanzas ∙ ap (λ (ss : List StanzaOf). ss ++ (swapped.stanzas ++ drop to stanzas)) (take-split stanzas i at (omega (arith, low))) ∙ append_assoc (take i stanzas) (slice_range stanzas i at) (swapped.stanzas ++ drop to stanzas) in
+        can-part on it.before layout it.keeps it.was (take i stanzas) behind is (opens-more (slice_range stanzas i at) (swapped.stanzas ++ drop to stanzas) (opens-slice stanzas i at low opens));
+  }
+
+  pub can-end : CanEnd stanzas to was end layout
+  can-end = record {
+    each = λ i low inside opens.
+        let front = take at stanzas ++ (swapped.stanzas ++ slice_range stanzas to i) in
+        let is : olds ≡ front ++ drop i stanzas =
+        old-stanzas ∙ ap (λ (ss : List StanzaOf). take at stanzas ++ (swapped.stanzas ++ ss)) (drop-split stanzas to i low) ∙ part-four (take at stanzas) swapped.stanzas (slice_range stanzas to i) (drop i stanzas) in
+        let sum : stanza_lines_in (take i stanzas) ≡ end + stanza_lines_in (slice_range stanzas to i) = ap stanza_lines_in (take-split stanzas to i low) ∙ lines-append (take to stanzas) (slice_range stanzas to i) in
+        let line : stanza_lines_in front ≡ moved_place end was (stanza_lines_in (take i stanzas)) =
+        omega (arith, sum, lines-append (take at stanzas) (swapped.stanzas ++ slice_range stanzas to i), lines-append swapped.stanzas (slice_range stanzas to i)) in
+        subst (CanPart layout) line (can-part on it.before layout it.keeps it.was front (drop i stanzas) is opens);
+  }
+
+  -- The lines outside the window.
+  lines-still : (place : ℕ) → place < window_start stanzas swapped → line_state lines.lines place ≡ line_state it.before.lines place
+  lines-still place low =
+      let d : LineState = record { id = 0; mark = 0; text = [] } in
+      sym (get_or-take (window_start stanzas swapped) lines.lines place d low) ∙ ap (λ (ls : List LineState). get_or ls place d) (sym it.front) ∙ get_or-take (window_start stanzas swapped) it.before.lines place d low
+
+  lines-moved : (place : ℕ) → was ≤ place → line_state lines.lines (moved_place was end place) ≡ line_state it.before.lines place
+  lines-moved place low =
+      let d : LineState = record { id = 0; mark = 0; text = [] } in
+      let n = place - was in
+      let here : moved_place was end place ≡ end + n = omega arith in
+      let there : was + n ≡ place = omega (arith, low) in
+      ap (λ p. get_or lines.lines p d) here ∙ sym (get_or-drop end lines.lines n d) ∙ ap (λ (ls : List LineState). get_or ls n d) (sym it.rest) ∙ get_or-drop was it.before.lines n d ∙ ap (λ p. get_or it.before.lines p d) there
+
+  module _ (list : stanzas ≡ stanzas_of (line_texts lines.lines)) (keeps : IsText lines) (start stop : PartEdge) (begins : IsPartStart stanzas at layout start) (ends : IsPartEnd stanzas to was end layout stop) where
+    abbrev front : List StanzaOf
+    front = take start.stanza stanzas
+
+    abbrev ahead : List StanzaOf
+    ahead = slice_range stanzas start.stanza at
+
+    abbrev come : List StanzaOf
+    come = slice_range stanzas at to
+
+    abbrev behind : List StanzaOf
+    behind = slice_range stanzas to stop.stanza
+
+    abbrev rest : List StanzaOf
+    rest = drop stop.stanza stanzas
+
+    abbrev gone : List StanzaOf
+    gone = swapped.stanzas
+
+    abbrev blocks : List PlacedBlock
+    blocks = blocks_from (stanza_lines_in front) (slice_range stanzas start.stanza stop.stanza)
+
+    abbrev speakers : SpeakersOf
+    speakers = speakers_after (line_texts lines.lines) on (blocks_from 0 front)
+
+    abbrev places : PartPlaces
+    places = edge_places start stop was end
+
+    inner : drop to stanzas ≡ behind ++ rest
+    inner = drop-split stanzas to stop.stanza ends.low
+
+    window : slice_range stanzas start.stanza stop.stanza ≡ ahead ++ (come ++ behind)
+    window =
+        let one = begins.within in
+        let two = ends.low in
+        slice-split stanzas start.stanza at stop.stanza one (omega (arith, two)) ∙ ap (λ (ss : List StanzaOf). ahead ++ ss) (slice-split stanzas at to stop.stanza (omega arith) two)
+
+    new-parts : stanzas ≡ front ++ ((ahead ++ (come ++ behind)) ++ rest)
+    new-parts =
+        let one = begins.within in
+        let two = ends.low in
+        sym (take-append-drop start.stanza stanzas) ∙ ap (λ (ss : List StanzaOf). front ++ ss) (drop-split stanzas start.stanza stop.stanza (omega (arith, one, two)) ∙ ap (λ (ss : List StanzaOf). ss ++ rest) window)
+
+    old-parts : olds ≡ front ++ ((ahead ++ (gone ++ behind)) ++ rest)
+    old-parts =
+        old-stanzas
+        ∙ ap₂ (λ (xs ys : List StanzaOf). xs ++ (gone ++ ys)) (take-split stanzas start.stanza at begins.within) inner
+        ∙ append_assoc front ahead (gone ++ (behind ++ rest))
+        ∙ ap (λ (ss : List StanzaOf). front ++ ss) (part-four ahead gone behind rest)
+
+    start-lines : window_start stanzas swapped ≡ stanza_lines_in front + stanza_lines_in ahead
+    start-lines = ap stanza_lines_in (take-split stanzas start.stanza at begins.within) ∙ lines-append front ahead
+
+    end-lines : end ≡ window_start stanzas swapped + stanza_lines_in come
+    end-lines = ap stanza_lines_in (take-split stanzas at to (omega arith)) ∙ lines-append (take at stanzas) come
+
+    parts : StanzasRelaid it.before.lines lines.lines front ahead gone come behind rest (window_start stanzas swapped) was end
+    parts = record {
+      old = old-parts;
+      new = sym list ∙ new-parts;
+      start_is = start-lines;
+      was_is = refl;
+      end_is = end-lines;
+      front_apart = elim begins.is [
+        | inl first ↦ inl (ap (λ (e : PartEdge). take e.stanza stanzas) first)
+        | inr both ↦ inr both.0
+      ];
+      rest_apart = elim ends.is [
+        | inl last ↦ inl (ap (λ (e : PartEdge). drop e.stanza stanzas) last ∙ drop_all (length stanzas) stanzas (omega arith))
+        | inr both ↦ inr (both.0, both.1)
+      ];
+      still = lines-still;
+      moved = lines-moved;
+    }
+
+    elements : ElementsRelaid on it.before.lines lines.lines was end (blocks_from 0 front) (blocks_from (stanza_lines_in front) (ahead ++ (gone ++ behind))) (blocks_from (stanza_lines_in front) (ahead ++ (come ++ behind)))
+        (blocks_from (was + stanza_lines_in behind) rest)
+    elements =
+        let are = IsText-texts it.before it.keeps in
+        elements-relaid on it.before.lines lines.lines was end (blocks_from 0 front) (blocks_from (stanza_lines_in front) (ahead ++ (gone ++ behind))) (blocks_from (stanza_lines_in front) (ahead ++ (come ++ behind)))
+        (blocks_from (was + stanza_lines_in behind) rest)
+        (stanzas-relaid it.before.lines lines.lines front ahead gone come behind rest (window_start stanzas swapped) was end parts are.utf8 are.few on)
+
+    abbrev first : ℕ
+    first = stanza_lines_in front
+
+    abbrev past : ℕ
+    past = was + stanza_lines_in behind
+
+    window-lines : first + stanza_lines_in (ahead ++ (gone ++ behind)) ≡ past
+    window-lines = omega (arith, start-lines, lines-append ahead (gone ++ behind), lines-append gone behind)
+
+    -- Where their elements begin.
+    front-low : All (λ (g : Group Spoken). element_first g < first) elements.elements_front
+    front-low =
+        let are = IsText-texts it.before it.keeps in
+        let stands = front-stands (line_texts it.before.lines) front ((ahead ++ (gone ++ behind)) ++ rest) are.utf8 are.few old-parts in
+        subst (All (λ (g : Group Spoken). element_first g < first)) (sym elements.front_is)
+        (spoken-firsts on it.before.lines None (λ (p : PlacedBlock). p.first < first) (blocks_from 0 front) (λ k d h. (stands.each k d h).below))
+
+    gone-low : All (λ (g : Group Spoken). element_first g < past) elements.elements_gone
+    gone-low =
+        let are = IsText-texts it.before it.keeps in
+        let mid = ahead ++ (gone ++ behind) in
+        let both : olds ≡ (front ++ mid) ++ rest = old-parts ∙ sym (append_assoc front mid rest) in
+        let stands = front-stands (line_texts it.before.lines) (front ++ mid) rest are.utf8 are.few both in
+        let start_at : 0 + first ≡ first = omega arith in
+        let split : blocks_from 0 (front ++ mid) ≡ blocks_from 0 front ++ blocks_from first mid = blocks-append 0 front mid ∙ ap (λ n. blocks_from 0 front ++ blocks_from n mid) start_at in
+        let P : PlacedBlock → Type 0 = λ (p : PlacedBlock). p.first < past in
+        let sum : stanza_lines_in (front ++ mid) ≡ past = lines-append front mid ∙ window-lines in
+        let each : All P (blocks_from 0 (front ++ mid)) = λ k d h. let below = (stands.each k d h).below in omega (arith, below, sum) in
+        subst (All (λ (g : Group Spoken). element_first g < past)) (sym elements.gone_is)
+        (spoken-firsts on it.before.lines (speaker_behind (line_texts it.before.lines) None (blocks_from 0 front)) P (blocks_from first mid) (all-back P (blocks_from 0 front) (blocks_from first mid) (subst (All P) split each)))
+
+    gone-high : All (λ (g : Group Spoken). first ≤ element_first g) elements.elements_gone
+    gone-high =
+        subst (All (λ (g : Group Spoken). first ≤ element_first g)) (sym elements.gone_is)
+        (spoken-firsts on it.before.lines (speaker_behind (line_texts it.before.lines) None (blocks_from 0 front)) (λ (p : PlacedBlock). first ≤ p.first) (blocks_from first (ahead ++ (gone ++ behind)))
+        (blocks-past first first (ahead ++ (gone ++ behind)) (omega arith)))
+
+    rest-high : (line : ℕ) → line ≤ past → All (λ (g : Group Spoken). line ≤ element_first g) elements.elements_rest
+    rest-high line order =
+        subst (All (λ (g : Group Spoken). line ≤ element_first g)) (sym elements.rest_is)
+        (spoken-firsts on it.before.lines (speaker_behind (line_texts it.before.lines) None (blocks_from 0 front ++ blocks_from first (ahead ++ (gone ++ behind)))) (λ (p : PlacedBlock). line ≤ p.first) (blocks_from past rest)
+        (blocks-past line past rest order))
+
+    start-is : EdgeIs it.before.lines elements.elements_front start
+    start-is = elim begins.is [
+      | inl zero ↦
+          let none : front ≡ [] = ap (λ (e : PartEdge). take e.stanza stanzas) zero in
+          let nothing : elements.elements_front ≡ [] = elements.front_is ∙ ap (λ ss. spoken_elements on it.before.lines None (blocks_from 0 ss)) none in
+          record {
+            titles = ap (λ (e : PartEdge). e.titles) zero ∙ sym (ap (λ (gs : List (Group Spoken)). length (laid_of is_title_element it.before.lines gs)) nothing);
+            body = ap (λ (e : PartEdge). e.body) zero ∙ sym (ap (λ (gs : List (Group Spoken)). length (laid_of in_body it.before.lines gs)) nothing);
+            breaks = ap (λ (e : PartEdge). e.breaks) zero ∙ sym (ap (λ (gs : List (Group Spoken)). length (breaks_from it.before.lines 0 gs)) nothing);
+          }
+      | inr both ↦
+          edge-is on it.before.lines layout it.was elements.elements_front (elements.elements_gone ++ elements.elements_rest) elements.old first start front-low
+          (All-append (λ (g : Group Spoken). first ≤ element_first g) elements.elements_gone elements.elements_rest gone-high (rest-high first (omega (arith, window-lines)))) both.1
+    ]
+
+    stop-is : EdgeIs it.before.lines (elements.elements_front ++ elements.elements_gone) stop
+    stop-is =
+        let all : text_elements on it.before.lines ≡ (elements.elements_front ++ elements.elements_gone) ++ elements.elements_rest = elements.old ∙ sym (append_assoc elements.elements_front elements.elements_gone elements.elements_rest) in
+        elim ends.is [
+          | inl last ↦
+              let none : rest ≡ [] = ap (λ (e : PartEdge). drop e.stanza stanzas) last ∙ drop_all (length stanzas) stanzas (omega arith) in
+              let nothing : elements.elements_rest ≡ [] = elements.rest_is ∙ ap (λ ss. spoken_elements on it.before.lines (speaker_behind (line_texts it.before.lines) None (blocks_from 0 front ++ blocks_from first (ahead ++ (gone ++ behind)))) (blocks_from past ss)) none in
+              edge-last on it.before.lines layout it.was stanzas stop last (elements.elements_front ++ elements.elements_gone)
+              (all ∙ ap (λ (gs : List (Group Spoken)). (elements.elements_front ++ elements.elements_gone) ++ gs) nothing ∙ append-nil (elements.elements_front ++ elements.elements_gone))
+          | inr both ↦
+              let sum : stanza_lines_in (take stop.stanza stanzas) ≡ end + stanza_lines_in behind = ap stanza_lines_in (take-split stanzas to stop.stanza ends.low) ∙ lines-append (take to stanzas) behind in
+              let line : moved_place end was (stanza_lines_in (take stop.stanza stanzas)) ≡ past = omega (arith, sum) in
+              let order : first ≤ past = omega (arith, window-lines) in
+              let low : All (λ (g : Group Spoken). element_first g < past) elements.elements_front = λ k d h. let less = front-low k d h in omega (arith, less, order) in
+              edge-is on it.before.lines layout it.was (elements.elements_front ++ elements.elements_gone) elements.elements_rest all past stop
+              (All-append (λ (g : Group Spoken). element_first g < past) elements.elements_front elements.elements_gone low gone-low) (rest-high past (omega arith))
+              (subst (λ n. IsEdge layout n stop) line both.2)
+        ]
+
+    places-are : places ≡ places_of it.before.lines elements.elements_front elements.elements_gone was end
+    places-are =
+        let b = it.before.lines in
+        let ef = elements.elements_front in
+        let eg = elements.elements_gone in
+        let one = start-is in
+        let two = stop-is in
+        let titles : stop.titles ≡ length (laid_of is_title_element b ef) + length (laid_of is_title_element b eg) =
+        two.titles ∙ ap (λ (es : List ElementOf). length es) (laid-append is_title_element b ef eg) ∙ length-append (laid_of is_title_element b ef) (laid_of is_title_element b eg) in
+        let body : stop.body ≡ length (laid_of in_body b ef) + length (laid_of in_body b eg) =
+        two.body ∙ ap (λ (es : List ElementOf). length es) (laid-append in_body b ef eg) ∙ length-append (laid_of in_body b ef) (laid_of in_body b eg) in
+        let rows : 0 + rows_in b ef ≡ rows_in b ef = omega arith in
+        let breaks : stop.breaks ≡ length (breaks_from b 0 ef) + length (breaks_from b (rows_in b ef) eg) =
+        two.breaks ∙ ap (λ (ns : List ℕ). length ns) (breaks-append b 0 ef eg ∙ ap (λ n. breaks_from b 0 ef ++ breaks_from b n eg) rows) ∙ length-append (breaks_from b 0 ef) (breaks_from b (rows_in b ef) eg) in
+        places-same _ _ _ _ _ _ _ _ _ _ _ _ was end one.titles titles one.body body one.breaks breaks
+
+    -- The elements of the part are laid out anew.
+    pub edit-relaid : IsRelaid it.before.lines lines.lines speakers blocks places layout
+    edit-relaid =
+        let moved = map (moved_group was end) elements.elements_rest in
+        let last = speaker_behind (line_texts lines.lines) None (blocks_from 0 front) in
+        let same : spoken_elements on lines.lines last (blocks_from first (ahead ++ (come ++ behind))) ≡ spoken_elements on lines.lines speakers.last blocks =
+        sym (spoken-last on lines.lines last blocks ∙ ap (λ ss. spoken_elements on lines.lines last (blocks_from first ss)) window) in
+        record {
+          front = elements.elements_front;
+          gone = elements.elements_gone;
+          rest = elements.elements_rest;
+          was = it.was;
+          old = elements.old;
+          new = elements.new ∙ ap (λ (gs : List (Group Spoken)). elements.elements_front ++ (gs ++ moved)) same;
+          still = elements.still;
+          moved = elements.moved;
+          at = places-are;
+        }
+
+    -- And the part can be put in.
+    pub edit-can : CanSwap layout places (layout_behind lines.lines speakers blocks)
+    edit-can = relaid-can it.before lines speakers blocks places layout it.keeps keeps edit-relaid
+
+-- What the call that lays a part out anew asks and is asked for.
+pub record EditedPart (before lines : List LineState) (layout : LayoutOf) (speakers : SpeakersOf) (blocks : List PlacedBlock) (places : PartPlaces) : Type 0 where
+  pub relaid : IsRelaid before lines speakers blocks places layout
+  pub can : CanSwap layout places (layout_behind lines speakers blocks)
+
+pub edited-part : (lines : TextState) (stanzas : List StanzaOf) (swapped : SwappedState) (on : Bool) (layout : LayoutOf) (it : WasLaid lines.lines stanzas swapped on layout) → stanzas ≡ stanzas_of (line_texts lines.lines) → IsText lines
+    → (from upto was end : ℕ) (start stop : PartEdge) (speakers : SpeakersOf) (blocks : List PlacedBlock) (places : PartPlaces) → from ≡ swapped.at → upto ≡ swapped.at + swapped.stands → was ≡ window_was stanzas swapped → end ≡ window_end stanzas swapped
+    → IsPartStart stanzas from layout start → IsPartEnd stanzas upto was end layout stop → speakers ≡ speakers_after (line_texts lines.lines) on (blocks_from 0 (take start.stanza stanzas))
+    → blocks ≡ blocks_from (stanza_lines_in (take start.stanza stanzas)) (slice_range stanzas start.stanza stop.stanza) → places ≡ edge_places start stop was end
+    → EditedPart it.before.lines lines.lines layout speakers blocks places
+edited-part lines stanzas swapped on layout it list keeps from upto was end start stop speakers blocks places from_is upto_is was_is end_is begins ends speakers_are blocks_are places_are =
+    let begin = subst (λ n. IsPartStart stanzas n layout start) from_is begins in
+    let stops = subst (λ n. IsPartEnd stanzas (swapped.at + swapped.stands) (window_was stanzas swapped) n layout stop) end_is
+    (subst (λ n. IsPartEnd stanzas (swapped.at + swapped.stands) n end layout stop) was_is (subst (λ n. IsPartEnd stanzas n was end layout stop) upto_is ends)) in
+    let places_same : places ≡ edge_places start stop (window_was stanzas swapped) (window_end stanzas swapped) = places_are ∙ ap₂ (λ n m. edge_places start stop n m) was_is end_is in
+    let relaid = subst (λ (p : PartPlaces). IsRelaid it.before.lines lines.lines speakers blocks p layout) (sym places_same)
+    (subst (λ (bs : List PlacedBlock). IsRelaid it.before.lines lines.lines speakers bs (edge_places start stop (window_was stanzas swapped) (window_end stanzas swapped)) layout) (sym blocks_are)
+    (subst (λ (s : SpeakersOf). IsRelaid it.before.lines lines.lines s (blocks_from (stanza_lines_in (take start.stanza stanzas)) (slice_range stanzas start.stanza stop.stanza)) (edge_places start stop (window_was stanzas swapped) (window_end stanzas swapped)) layout) (sym speakers_are)
+    (edit-relaid lines stanzas swapped on layout it list keeps start stop begin stops))) in
+    record { relaid = relaid; can = relaid-can it.before lines speakers blocks places layout it.keeps keeps relaid }
+
+pub can-end-at : (lines : TextState) (stanzas : List StanzaOf) (swapped : SwappedState) (on : Bool) (layout : LayoutOf) → WasLaid lines.lines stanzas swapped on layout → (upto was end : ℕ) → upto ≡ swapped.at + swapped.stands
+    → was ≡ window_was stanzas swapped → end ≡ window_end stanzas swapped → CanEnd stanzas upto was end layout
+can-end-at lines stanzas swapped on layout it upto was end upto_is was_is end_is =
+    subst (λ n. CanEnd stanzas n was end layout) (sym upto_is)
+    (subst (λ n. CanEnd stanzas (swapped.at + swapped.stands) n end layout) (sym was_is)
+    (subst (λ n. CanEnd stanzas (swapped.at + swapped.stands) (window_was stanzas swapped) n layout) (sym end_is) (can-end lines stanzas swapped on layout it)))
+
+-- The stanzas of a text, and the first of them, have no more lines than a text.
+pub record FewLines (stanzas : List StanzaOf) : Type 0 where
+  pub all : stanza_lines_in stanzas ≤ 200000
+  pub first : (i : ℕ) → stanza_lines_in (take i stanzas) ≤ 200000
+
+pub few-lines : (text : TextState) (stanzas : List StanzaOf) → IsText text → stanzas ≡ stanzas_of (line_texts text.lines) → FewLines stanzas
+few-lines text stanzas keeps is =
+    let few = keeps.count in
+    let count = count-from (line_texts text.lines) 0 in
+    let size = length-map text.lines (λ (line : LineState). line.text) in
+    let all : stanza_lines_in stanzas ≤ 200000 = omega (arith, few, count, size, ap stanza_lines_in is) in
+    record {
+      all = all;
+      first = λ i. omega (arith, all, ap stanza_lines_in (take-append-drop i stanzas), lines-append (take i stanzas) (drop i stanzas));
+    }
+
+-- The blocks of stanzas of a text lie in it.
+pub slice-lies : (text : TextState) (stanzas : List StanzaOf) (from to : ℕ) → IsText text → stanzas ≡ stanzas_of (line_texts text.lines) → from ≤ to
+    → All (PlacedLies (line_texts text.lines)) (blocks_from (stanza_lines_in (take from stanzas)) (slice_range stanzas from to))
+slice-lies text stanzas from to keeps is order =
+    let texts = line_texts text.lines in
+    let are = IsText-texts text keeps in
+    let start : 0 + stanza_lines_in (take from stanzas) ≡ stanza_lines_in (take from stanzas) = omega arith in
+    let parts : stanzas ≡ take from stanzas ++ (slice_range stanzas from to ++ drop to stanzas) =
+    sym (take-append-drop from stanzas) ∙ ap (λ (ss : List StanzaOf). take from stanzas ++ ss) (drop-split stanzas from to order) in
+    let mid = blocks_from (stanza_lines_in (take from stanzas)) (slice_range stanzas from to) in
+    let last = blocks_from (stanza_lines_in (take from stanzas) + stanza_lines_in (slice_range stanzas from to)) (drop to stanzas) in
+    let blocks : blocks_of texts ≡ blocks_from 0 (take from stanzas) ++ (mid ++ last) =
+    ap (blocks_from 0) (sym is ∙ parts) ∙ blocks-three 0 (take from stanzas) (slice_range stanzas from to) (drop to stanzas)
+    ∙ ap (λ n. blocks_from 0 (take from stanzas) ++ (blocks_from n (slice_range stanzas from to) ++ blocks_from (n + stanza_lines_in (slice_range stanzas from to)) (drop to stanzas))) start in
+    let lie = subst (All (PlacedLies texts)) blocks (blocks_of-lie texts are.utf8 are.few).lie in
+    all-front (PlacedLies texts) mid last (all-back (PlacedLies texts) (blocks_from 0 (take from stanzas)) (mid ++ last) lie)
+
+-- Who spoke last before a stanza, told by those from one on with a heading or a speech.
+pub speakers-told : (texts : List (List ℕ)) (on : Bool) (stanzas : List StanzaOf) (from to : ℕ) → from ≤ to → (from ≡ 0) ⊎ (list_any stanza_settles (slice_range stanzas from to) ≡ true)
+    → speakers_after texts on (blocks_from (stanza_lines_in (take from stanzas)) (slice_range stanzas from to)) ≡ speakers_after texts on (blocks_from 0 (take to stanzas))
+speakers-told texts on stanzas from to order settles =
+    let start : 0 + stanza_lines_in (take from stanzas) ≡ stanza_lines_in (take from stanzas) = omega arith in
+    let one = blocks_from 0 (take from stanzas) in
+    let two = blocks_from (stanza_lines_in (take from stanzas)) (slice_range stanzas from to) in
+    let blocks : blocks_from 0 (take to stanzas) ≡ one ++ two =
+    ap (blocks_from 0) (take-split stanzas from to order) ∙ blocks-append 0 (take from stanzas) (slice_range stanzas from to) ∙ ap (λ n. one ++ blocks_from n (slice_range stanzas from to)) start in
+    let whole : speaker_behind texts None (blocks_from 0 (take to stanzas)) ≡ speaker_behind texts (speaker_behind texts None one) two = ap (speaker_behind texts None) blocks ∙ behind-append texts None one two in
+    let same : speaker_behind texts (speaker_behind texts None one) two ≡ speaker_behind texts None two = elim settles [
+      | inl zero ↦ ap (λ n. speaker_behind texts (speaker_behind texts None (blocks_from 0 (take n stanzas))) two) zero
+      | inr some ↦ behind-settled texts (speaker_behind texts None one) None two (any-blocks (stanza_lines_in (take from stanzas)) (slice_range stanzas from to) ∙ some)
+    ] in
+    let P : Option (List ℕ) → SpeakersOf = λ last. record { on = on; last = cond on last None } in
+    ap P (sym (whole ∙ same))

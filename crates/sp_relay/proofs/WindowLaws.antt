@@ -1,0 +1,57 @@
+-- A layout before an edit, by the window of the edit.
+use Rattle.std.proofs.Common.{◌≡◌, ℕ, ◌+◌, ◌-◌, Bool, take, drop, slice_range, sym, ap, subst, ◌∙◌, arith, take-take, drop-drop}
+use Rattle.spec_text.specs.Lines.{TextState, IsText, line_texts}
+use Rattle.spec_script.specs.Stanzas.{stanzas_of}
+use Rattle.spec_layout.specs.Layout.{layout_of}
+use Rattle.spec_reread.specs.Windows.{IsEdited, IsWindow, stanza_lines_in, stanzas_between}
+use Rattle.spec_reread.proofs.Counts.{count-between}
+use Rattle.spec_reread.proofs.Resync.{window-cuts, old-cuts}
+use Rattle.spec_relayout.proofs.WindowSides.{window-sides}
+use Rattle.spec_relay.proofs.StanzaBlocks.{lines-append}
+use Rattle.sp_layout.specs.LaidOut.{LayoutOf, keyed}
+use Rattle.sp_reread.specs.Cache.{GivesBack, SwappedState}
+use Rattle.sp_relay.specs.Edited.{WasLaid, window_start, window_end, window_was}
+use Rattle.sp_relay.proofs.StanzaLists.{take-split}
+
+-- An edit displaced the stanzas of its window, and left the lines outside its range as they were.
+pub was-laid : (before after : TextState) (swapped : SwappedState) (on : Bool) (layout : LayoutOf) (first old new a b : ℕ) → IsText before → layout ≡ keyed before.lines (layout_of on before.lines)
+    → take first before.lines ≡ take first after.lines → drop (first + old) before.lines ≡ drop (first + new) after.lines
+    → IsEdited (line_texts before.lines) (line_texts after.lines) first old new → IsWindow (line_texts before.lines) (line_texts after.lines) first old new a b
+    → GivesBack swapped (stanzas_of (line_texts after.lines)) (stanzas_of (line_texts before.lines))
+    → take swapped.at (stanzas_of (line_texts after.lines)) ≡ stanzas_between (line_texts before.lines) 0 a
+    → take swapped.stands (drop swapped.at (stanzas_of (line_texts after.lines))) ≡ stanzas_between (line_texts after.lines) a b
+    → swapped.stanzas ≡ stanzas_between (line_texts before.lines) a (b + old - new)
+    → WasLaid after.lines (stanzas_of (line_texts after.lines)) swapped on layout
+was-laid before after swapped on layout first old new a b keeps was start rest edited window back front_are come_are gone_are =
+    let olds = line_texts before.lines in
+    let news = line_texts after.lines in
+    let stanzas = stanzas_of news in
+    let old_cuts = old-cuts olds news first old new a b edited window in
+    let cuts = window-cuts olds news first old new a b edited window in
+    let sides = window-sides olds news first old new a b edited window in
+    let low = sides.begin in
+    let past = sides.past in
+    let was_past = sides.was_past in
+    let shift = sides.shift in
+    let at = swapped.at in
+    let count : at + swapped.stands - at ≡ swapped.stands = omega arith in
+    let start_is : window_start stanzas swapped ≡ a = ap stanza_lines_in front_are ∙ count-between olds 0 a (omega (arith, old_cuts.0, old_cuts.3)) ∙ omega arith in
+    let was_is : window_was stanzas swapped ≡ b + old - new =
+    let gone = ap stanza_lines_in gone_are ∙ count-between olds a (b + old - new) old_cuts.3 in
+    omega (arith, start_is, gone, old_cuts.0) in
+    let end_is : window_end stanzas swapped ≡ b =
+    let own = ap (λ n. stanza_lines_in (take n (drop at stanzas))) count ∙ ap stanza_lines_in come_are ∙ count-between news a b cuts.3 in
+    let both = ap stanza_lines_in (take-split stanzas at (at + swapped.stands) (omega arith)) ∙ lines-append (take at stanzas) (slice_range stanzas at (at + swapped.stands)) in
+    omega (arith, start_is, own, both, cuts.0) in
+    let m = b - (first + new) in
+    let there : first + old + m ≡ b + old - new = omega (arith, past) in
+    let here : first + new + m ≡ b = omega (arith, past) in
+    record {
+      before = before;
+      keeps = keeps;
+      was = was;
+      back = back;
+      front = subst (λ n. take n before.lines ≡ take n after.lines) (sym start_is) (sym (take-take a first before.lines low) ∙ ap (take a) start ∙ take-take a first after.lines low);
+      rest = ap (λ n. drop n before.lines) (was_is ∙ sym there) ∙ sym (drop-drop m (first + old) before.lines) ∙ ap (drop m) rest ∙ drop-drop m (first + new) after.lines
+          ∙ ap (λ n. drop n after.lines) (here ∙ sym end_is);
+    }

@@ -1,0 +1,8 @@
+use Rattle.std.proofs.Common.{◌≤◌}
+use Rattle.sp_relay.proofs.edges.part_start.Given as goal
+
+abbrev pub invariant-loop-place : goal.invariant-loop-place
+invariant-loop-place l = l.place ≤ l.at
+
+abbrev pub decreases-loop-place : goal.decreases-loop-place
+decreases-loop-place l = l.place

@@ -1,0 +1,84 @@
+use Rattle.std.proofs.Common.{◌≡◌, ◌+◌, take, slice_range, sym, ap, ap₂, subst, ◌∙◌, arith, All}
+use Rattle.std.specs.Prelude.{OnOk}
+use Rattle.spec_text.specs.Lines.{line_texts}
+use Rattle.spec_script.specs.Elements.{PlacedLies, PlacesRise}
+use Rattle.spec_layout.specs.Layout.{layout_of}
+use Rattle.spec_reread.specs.Windows.{stanza_lines_in}
+use Rattle.spec_relay.proofs.StanzaBlocks.{places-rise}
+use Rattle.sp_text.specs.Gap.{text_of}
+use Rattle.sp_layout.specs.LaidOut.{keyed}
+use Rattle.sp_layout.specs.Speaking.{SpeakersOf}
+use Rattle.sp_relay.specs.Kept.{laid_of}
+use Rattle.sp_relay.specs.Edges.{CanBegin}
+use Rattle.sp_relay.specs.Edited.{window_was, window_end}
+use Rattle.sp_relay.proofs.EditedLaws.{edited-part, can-begin, can-end-at, old-few, few-lines, slice-lies}
+use Rattle.sp_relay.proofs.edited.relay_edit.Goals as goal
+
+pub lines_in-requires : goal.lines_in-requires
+lines_in-requires c =
+    let few = old-few (text_of c.args.lines.now) c.args.stanzas.now.stanzas c.args.swapped.now c.args.speakers (laid_of c.args.kept.now) c.requires.was in
+    omega (arith, few, ap stanza_lines_in c.stanzas.ensures)
+
+pub overflow_add-was : goal.overflow_add-was
+overflow_add-was c =
+    let few = old-few (text_of c.args.lines.now) c.args.stanzas.now.stanzas c.args.swapped.now c.args.speakers (laid_of c.args.kept.now) c.requires.was in
+    let lines = few-lines (text_of c.args.lines.now) c.args.stanzas.now.stanzas c.len-count.ensures.keeps c.requires.list in
+    let first = lines.first c.at-at.result in
+    omega (arith, few, first, ap stanza_lines_in c.stanzas.ensures, c.lines_in.ensures, c.lines_before.ensures)
+
+pub part_start-start-requires-clause-can : goal.part_start-start-requires-clause-can
+part_start-start-requires-clause-can c =
+    subst (λ n. CanBegin c.args.stanzas.now.stanzas n (laid_of c.args.kept.now)) (sym c.at-at.ensures)
+    (can-begin (text_of c.args.lines.now) c.args.stanzas.now.stanzas c.args.swapped.now c.args.speakers (laid_of c.args.kept.now) c.requires.was)
+
+pub part_end-stop-requires-clause-low : goal.part_end-stop-requires-clause-low
+part_end-stop-requires-clause-low c =
+    let few = old-few (text_of c.args.lines.now) c.args.stanzas.now.stanzas c.args.swapped.now c.args.speakers (laid_of c.args.kept.now) c.requires.was in
+    let lines = few-lines (text_of c.args.lines.now) c.args.stanzas.now.stanzas c.len-count.ensures.keeps c.requires.list in
+    let first = lines.first c.at-at.result in
+    omega (arith, few, first, lines.all, ap stanza_lines_in c.stanzas.ensures, c.lines_in.ensures, c.lines_before.ensures)
+
+pub part_end-stop-requires-clause-can : goal.part_end-stop-requires-clause-can
+part_end-stop-requires-clause-can c =
+    let stanzas = c.args.stanzas.now.stanzas in
+    let at : c.at-at.result ≡ c.args.swapped.now.at = c.at-at.ensures in
+    let to : c.at-at.result + c.stands.result ≡ c.args.swapped.now.at + c.args.swapped.now.stands = omega (arith, at, c.stands.ensures) in
+    let was : c.lines_before.result + c.lines_in.result ≡ window_was stanzas c.args.swapped.now =
+    ap₂ (λ n m. n + m) (c.lines_before.ensures ∙ ap (λ n. stanza_lines_in (take n stanzas)) at) (c.lines_in.ensures ∙ ap stanza_lines_in c.stanzas.ensures) in
+    let end : c.lines_before-end.result ≡ window_end stanzas c.args.swapped.now = c.lines_before-end.ensures ∙ ap (λ n. stanza_lines_in (take n stanzas)) to in
+    can-end-at (text_of c.args.lines.now) stanzas c.args.swapped.now c.args.speakers (laid_of c.args.kept.now) c.requires.was _ _ _ to was end
+
+pub relay-requires-clause-lie : goal.relay-requires-clause-lie
+relay-requires-clause-lie c =
+    let one = c.part_start-start.ensures.within in
+    let two = c.part_end-stop.ensures.low in
+    subst (All (PlacedLies (line_texts c.args.lines.now.lines))) (sym (c.deref.ensures.value ∙ c.in_ok-blocks.ensures))
+    (slice-lies (text_of c.args.lines.now) c.args.stanzas.now.stanzas c.part_start-start.result.stanza c.part_end-stop.result.stanza c.len-count.ensures.keeps c.requires.list (omega (arith, one, two)))
+
+pub relay-requires-clause-rise : goal.relay-requires-clause-rise
+relay-requires-clause-rise c = subst (PlacesRise 0) (sym (c.deref.ensures.value ∙ c.in_ok-blocks.ensures)) (places-rise 0 (stanza_lines_in (take c.part_start-start.result.stanza c.args.stanzas.now.stanzas)) (slice_range c.args.stanzas.now.stanzas c.part_start-start.result.stanza c.part_end-stop.result.stanza) (omega arith))
+
+pub relay-requires-clause-can : goal.relay-requires-clause-can
+relay-requires-clause-can c =
+    let stanzas = c.args.stanzas.now.stanzas in
+    let at : c.at-at.result ≡ c.args.swapped.now.at = c.at-at.ensures in
+    let to : c.at-at.result + c.stands.result ≡ c.args.swapped.now.at + c.args.swapped.now.stands = omega (arith, at, c.stands.ensures) in
+    let was : c.lines_before.result + c.lines_in.result ≡ window_was stanzas c.args.swapped.now =
+    ap₂ (λ n m. n + m) (c.lines_before.ensures ∙ ap (λ n. stanza_lines_in (take n stanzas)) at) (c.lines_in.ensures ∙ ap stanza_lines_in c.stanzas.ensures) in
+    let end : c.lines_before-end.result ≡ window_end stanzas c.args.swapped.now = c.lines_before-end.ensures ∙ ap (λ n. stanza_lines_in (take n stanzas)) to in
+    (edited-part (text_of c.args.lines.now) stanzas c.args.swapped.now c.args.speakers (laid_of c.args.kept.now) c.requires.was c.requires.list c.len-count.ensures.keeps _ _ _ _ _ _ _ _ _ at to was end
+    c.part_start-start.ensures c.part_end-stop.ensures c.in_ok-last.ensures (c.deref.ensures.value ∙ c.in_ok-blocks.ensures) c.places_between-places.ensures).can
+
+pub returns-clause-layout : goal.returns-clause-layout
+returns-clause-layout c =
+    let stanzas = c.args.stanzas.now.stanzas in
+    let at : c.at-at.result ≡ c.args.swapped.now.at = c.at-at.ensures in
+    let to : c.at-at.result + c.stands.result ≡ c.args.swapped.now.at + c.args.swapped.now.stands = omega (arith, at, c.stands.ensures) in
+    let was : c.lines_before.result + c.lines_in.result ≡ window_was stanzas c.args.swapped.now =
+    ap₂ (λ n m. n + m) (c.lines_before.ensures ∙ ap (λ n. stanza_lines_in (take n stanzas)) at) (c.lines_in.ensures ∙ ap stanza_lines_in c.stanzas.ensures) in
+    let end : c.lines_before-end.result ≡ window_end stanzas c.args.swapped.now = c.lines_before-end.ensures ∙ ap (λ n. stanza_lines_in (take n stanzas)) to in
+    let lines = c.args.lines.now.lines in
+    subst (λ on. OnOk c.relay.result (laid_of c.relay.new.kept ≡ keyed lines (layout_of on lines))) (ap (λ (s : SpeakersOf). s.on) c.in_ok-last.ensures)
+    (c.relay.ensures.layout c.requires.was.before.lines
+    (edited-part (text_of c.args.lines.now) stanzas c.args.swapped.now c.args.speakers (laid_of c.args.kept.now) c.requires.was c.requires.list c.len-count.ensures.keeps _ _ _ _ _ _ _ _ _ at to was end
+    c.part_start-start.ensures c.part_end-stop.ensures c.in_ok-last.ensures (c.deref.ensures.value ∙ c.in_ok-blocks.ensures) c.places_between-places.ensures).relaid)

@@ -1,0 +1,92 @@
+-- Where a part of a layout that is laid out anew begins and ends (docs/RULES.md, "Windows").
+use Rattle.std.specs.Prelude.{◌≡◌, ◌⊎◌, ℕ, ◌<◌, ◌≤◌, true, List, ◌++◌, length, take, drop, slice_range, slice_index, slice_index_or, All, AllPairs}
+use Rattle.std.specs.List.{list_any}
+use Rattle.spec_script.specs.BlockValues.{StanzaOf}
+use Rattle.spec_pages.specs.Rows.{ElementOf}
+use Rattle.spec_reread.specs.Windows.{stanza_lines_in}
+use Rattle.spec_relay.specs.Moved.{moved_place}
+use Rattle.spec_relay.specs.RelaidStanzas.{OpensApart, stanza_settles}
+use Rattle.sp_layout.specs.Places.{CountsBelow}
+use Rattle.sp_layout.specs.LaidOut.{LayoutOf}
+use Rattle.sp_relay.specs.declared.edges.PartEdge.{PartEdge}
+use Rattle.sp_relay.specs.declared.kept.PartPlaces.{PartPlaces}
+use Rattle.sp_relay.specs.Kept.{rows_to}
+
+-- Elements begin before a line, or from it on.
+abbrev pub BeginsBefore : ℕ → ElementOf → Type 0
+BeginsBefore line element = element.first < line
+
+abbrev pub BeginsFrom : ℕ → ElementOf → Type 0
+BeginsFrom line element = line ≤ element.first
+
+-- Those that begin before the line come first.
+pub record PartsAt (elements : List ElementOf) (line : ℕ) : Type 0 where
+  pub front : List ElementOf
+  pub behind : List ElementOf
+  pub are : elements ≡ front ++ behind
+  pub before : All (BeginsBefore line) front
+  pub from : All (BeginsFrom line) behind
+
+-- So many elements begin before the line, and no later one does.
+pub record CountsBefore (elements : List ElementOf) (line count : ℕ) : Type 0 where
+  pub within : count ≤ length elements
+  pub before : (i : ℕ) (d : ElementOf) → i < count → BeginsBefore line (slice_index_or elements i d)
+  pub from : (i : ℕ) (d : ElementOf) → count ≤ i → i < length elements → BeginsFrom line (slice_index_or elements i d)
+
+-- A layout can be parted at a line.
+pub record CanPart (layout : LayoutOf) (line : ℕ) : Type 0 where
+  pub titles : PartsAt layout.titles.elements line
+  pub body : PartsAt layout.body.elements line
+  pub breaks : AllPairs (λ one other. one ≤ other) layout.breaks
+
+-- A part begins or ends at a line: so many elements begin before it, and so many page breaks stand before the row that is then the
+-- next, and none at it.
+pub record IsEdge (layout : LayoutOf) (line : ℕ) (edge : PartEdge) : Type 0 where
+  pub titles : CountsBefore layout.titles.elements line edge.titles
+  pub body : CountsBefore layout.body.elements line edge.body
+  pub breaks : CountsBelow layout.breaks (rows_to layout edge.body) edge.breaks
+  pub none : (i : ℕ) → edge.breaks ≤ i → i < length layout.breaks → rows_to layout edge.body < slice_index layout.breaks i
+
+-- Before all, and behind all.
+abbrev pub first_edge : PartEdge
+first_edge = record { stanza = 0; titles = 0; body = 0; breaks = 0 }
+
+abbrev pub last_edge : List StanzaOf → LayoutOf → PartEdge
+last_edge stanzas layout =
+    record { stanza = length stanzas; titles = length layout.titles.elements; body = length layout.body.elements; breaks = length layout.breaks }
+
+-- It can be parted before each stanza in front of one of these stanzas that begins with a block without a caret.
+pub record CanBegin (stanzas : List StanzaOf) (at : ℕ) (layout : LayoutOf) : Type 0 where
+  pub each : (i : ℕ) → i < at → OpensApart (drop i stanzas) → CanPart layout (stanza_lines_in (take i stanzas))
+
+-- The same behind one of them, where lines from the line `end` on stood from the line `was` on.
+pub record CanEnd (stanzas : List StanzaOf) (to was end : ℕ) (layout : LayoutOf) : Type 0 where
+  pub each : (i : ℕ) → to ≤ i → i < length stanzas → OpensApart (drop i stanzas) → CanPart layout (moved_place end was (stanza_lines_in (take i stanzas)))
+
+-- The part begins in front of the window of an edit, which begins before the stanza `at`: before a stanza that begins with a block
+-- without a caret, or before all.
+pub record IsPartStart (stanzas : List StanzaOf) (at : ℕ) (layout : LayoutOf) (edge : PartEdge) : Type 0 where
+  pub within : edge.stanza ≤ at
+  pub is : (edge ≡ first_edge) ⊎ (OpensApart (slice_range stanzas edge.stanza at) × IsEdge layout (stanza_lines_in (take edge.stanza stanzas)) edge)
+
+-- It ends behind the window, which ends before the stanza `to`: before such a stanza with a heading or a speech between, or behind
+-- all.
+pub record IsPartEnd (stanzas : List StanzaOf) (to was end : ℕ) (layout : LayoutOf) (edge : PartEdge) : Type 0 where
+  pub low : to ≤ edge.stanza
+  pub within : edge.stanza ≤ length stanzas
+  pub is : (edge ≡ last_edge stanzas layout)
+      ⊎ (OpensApart (drop edge.stanza stanzas) × (list_any stanza_settles (slice_range stanzas to edge.stanza) ≡ true)
+      × IsEdge layout (moved_place end was (stanza_lines_in (take edge.stanza stanzas))) edge)
+
+-- The places of the part between two edges.
+abbrev pub edge_places : PartEdge → PartEdge → ℕ → ℕ → PartPlaces
+edge_places start stop was end = record {
+  title_from = start.titles;
+  title_to = stop.titles;
+  from = start.body;
+  to = stop.body;
+  break_from = start.breaks;
+  break_to = stop.breaks;
+  less = was;
+  more = end;
+}

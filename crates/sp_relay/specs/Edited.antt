@@ -1,0 +1,29 @@
+-- A layout of the text before an edit, told by what the edit displaced of its stanzas (docs/RULES.md, "Windows").
+use Rattle.std.specs.Prelude.{◌≡◌, ℕ, ◌+◌, Bool, List, take, drop}
+use Rattle.spec_text.specs.Lines.{LineState, TextState, IsText, line_texts}
+use Rattle.spec_script.specs.BlockValues.{StanzaOf}
+use Rattle.spec_script.specs.Stanzas.{stanzas_of}
+use Rattle.spec_layout.specs.Layout.{layout_of}
+use Rattle.spec_reread.specs.Windows.{stanza_lines_in}
+use Rattle.sp_layout.specs.LaidOut.{LayoutOf, keyed}
+use Rattle.sp_reread.specs.Cache.{GivesBack, SwappedState}
+
+-- The line with which the window of an edit begins, and the line behind it in the text after the edit and in that before it.
+abbrev pub window_start : List StanzaOf → SwappedState → ℕ
+window_start stanzas swapped = stanza_lines_in (take swapped.at stanzas)
+
+abbrev pub window_end : List StanzaOf → SwappedState → ℕ
+window_end stanzas swapped = stanza_lines_in (take (swapped.at + swapped.stands) stanzas)
+
+abbrev pub window_was : List StanzaOf → SwappedState → ℕ
+window_was stanzas swapped = window_start stanzas swapped + stanza_lines_in swapped.stanzas
+
+-- The layout is that of a text before an edit. What the edit displaced leads back to the stanzas of that text, and outside the window
+-- both texts have the same lines, with their ids and marks.
+pub record WasLaid (lines : List LineState) (stanzas : List StanzaOf) (swapped : SwappedState) (speakers : Bool) (layout : LayoutOf) : Type 0 where
+  pub before : TextState
+  pub keeps : IsText before
+  pub was : layout ≡ keyed before.lines (layout_of speakers before.lines)
+  pub back : GivesBack swapped stanzas (stanzas_of (line_texts before.lines))
+  pub front : take (window_start stanzas swapped) before.lines ≡ take (window_start stanzas swapped) lines
+  pub rest : drop (window_was stanzas swapped) before.lines ≡ drop (window_end stanzas swapped) lines

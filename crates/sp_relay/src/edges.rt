@@ -1,0 +1,132 @@
+//! Where the part of a layout that an edit changes begins and ends.
+ghost use Rattle.std.specs.Prelude.{◌≡◌, ◌<◌, ◌≤◌, ◌+◌, length, take, AllPairs, IfSome};
+ghost use Rattle.spec_reread.specs.Windows.{stanza_lines_in};
+ghost use Rattle.spec_relay.specs.Moved.{moved_place};
+ghost use Rattle.spec_relay.specs.RelaidStanzas.{block_settles, first_apart, stanza_settles};
+ghost use Rattle.sp_relay.specs.Edges.{CanBegin, CanEnd, CanPart, CountsBefore, IsEdge, IsPartEnd, IsPartStart, PartsAt};
+ghost use Rattle.sp_relay.specs.Kept.{laid_of};
+
+use crate::KeptLayout;
+use sp_blocks::{Block, Stanza};
+use sp_columns::Element;
+use sp_layout::count_below;
+use sp_reread::Stanzas;
+use spec_script::Kind;
+
+/// Where a part of a layout begins or ends: before which stanza, before which element of the title page and which of the
+/// body, and before which page break.
+#[derive(Clone, Copy)]
+pub struct PartEdge {
+    pub stanza: usize,
+    pub titles: usize,
+    pub body: usize,
+    pub breaks: usize,
+}
+
+/// Whether the first block of a stanza has no caret, so that it is joined with none before it.
+fn opens_apart(stanza: &Stanza) -> bool
+    ensures { result ≡ first_apart stanza.now.blocks }
+{
+    match stanza.blocks.first() {
+        Some(block) => !block.caret,
+        None => false,
+    }
+}
+
+/// Whether it doesn't matter behind a block who spoke before it.
+fn block_settles(block: &Block) -> bool
+    ensures { result ≡ block_settles block.now }
+{
+    matches!(block.kind, Kind::Heading | Kind::Speech)
+}
+
+/// The same of a stanza.
+pub fn stanza_settles(stanza: &Stanza) -> bool
+    ensures { result ≡ stanza_settles stanza.now }
+{
+    for block in &stanza.blocks {
+        if block_settles(block) {
+            return true;
+        }
+    }
+    false
+}
+
+/// How many elements begin before a line. Each step halves the elements that are left.
+fn count_before(elements: &[Element], line: u64) -> usize
+    requires { PartsAt elements.now line }
+    ensures { CountsBefore elements.now line result }
+{
+    elements.partition_point(|element| element.first < line)
+}
+
+/// The edge before a stanza that begins at a line of the layout's text, unless a page break stands right there.
+fn edge_at(kept: &KeptLayout, stanza: usize, line: usize) -> Option<PartEdge>
+    requires { CanPart (laid_of kept.now) line }
+    ensures is { IfSome result (IsEdge (laid_of kept.now) line) }
+    ensures stanza { IfSome result (λ edge. edge.stanza ≡ stanza) }
+{
+    let titles = count_before(kept.titles.elements(), line as u64);
+    let body = count_before(kept.body.elements(), line as u64);
+    let row = kept.body.rows_before(body);
+    let breaks = count_below(&kept.breaks, row);
+    if breaks < kept.breaks.len() && kept.breaks[breaks] == row {
+        return None;
+    }
+    Some(PartEdge {
+        stanza,
+        titles,
+        body,
+        breaks,
+    })
+}
+
+/// Where the part begins, in front of the window that begins before the stanza `at`.
+pub fn part_start(stanzas: &Stanzas, at: usize, kept: &KeptLayout) -> PartEdge
+    requires within { at ≤ length stanzas.now.stanzas }
+    requires can { CanBegin stanzas.now.stanzas at (laid_of kept.now) }
+    ensures { IsPartStart stanzas.now.stanzas at (laid_of kept.now) result }
+{
+    let mut place = at;
+    while place > 0 {
+        place -= 1;
+        if opens_apart(stanzas.stanza(place)) {
+            if let Some(edge) = edge_at(kept, place, stanzas.first(place)) {
+                return edge;
+            }
+        }
+    }
+    PartEdge {
+        stanza: 0,
+        titles: 0,
+        body: 0,
+        breaks: 0,
+    }
+}
+
+/// Where the part ends, behind the window that ends before the stanza `to`: with the line `end`, which was the line `was`.
+pub fn part_end(stanzas: &Stanzas, to: usize, was: usize, end: usize, kept: &KeptLayout) -> PartEdge
+    requires within { to ≤ length stanzas.now.stanzas }
+    requires end { end ≡ stanza_lines_in (take to stanzas.now.stanzas) }
+    requires low { was + stanza_lines_in stanzas.now.stanzas ≤ 9223372036854775807 }
+    requires can { CanEnd stanzas.now.stanzas to was end (laid_of kept.now) }
+    ensures { IsPartEnd stanzas.now.stanzas to was end (laid_of kept.now) result }
+{
+    let mut settled = false;
+    for place in to..stanzas.len() {
+        let stanza = stanzas.stanza(place);
+        if settled && opens_apart(stanza) {
+            let line = stanzas.first(place) - end + was;
+            if let Some(edge) = edge_at(kept, place, line) {
+                return edge;
+            }
+        }
+        settled = settled || stanza_settles(stanza);
+    }
+    PartEdge {
+        stanza: stanzas.len(),
+        titles: kept.titles.len(),
+        body: kept.body.len(),
+        breaks: kept.breaks.len(),
+    }
+}

@@ -1,0 +1,131 @@
+//! A layout kept through an edit.
+ghost use Rattle.std.specs.Prelude.{◌≡◌, ◌⊎◌, ◌<◌, ◌≤◌, ◌+◌, true, length, take, slice_range, IfOk, OnErr, OnOk};
+ghost use Rattle.std.specs.List.{list_any};
+ghost use Rattle.spec_text.specs.Lines.{line_texts};
+ghost use Rattle.spec_script.specs.Stanzas.{blocks_from, stanzas_of};
+ghost use Rattle.spec_layout.specs.Layout.{layout_of};
+ghost use Rattle.spec_reread.specs.Windows.{stanza_lines_in};
+ghost use Rattle.sp_layout.specs.LaidOut.{keyed};
+ghost use Rattle.sp_layout.specs.Speaking.{speakers_after};
+ghost use Rattle.spec_relay.specs.RelaidStanzas.{stanza_settles};
+ghost use Rattle.sp_relay.specs.Edges.{edge_places};
+ghost use Rattle.sp_relay.specs.Edited.{WasLaid};
+ghost use Rattle.sp_relay.specs.Kept.{CanSwap, HasPartRoom, KeepsRoom, laid_of, with_part};
+
+use crate::edges::{PartEdge, part_end, part_start, stanza_settles};
+use crate::{KeptLayout, LayoutPart, PartPlaces, relay};
+use sp_blocks::Stanza;
+use sp_layout::{Speakers, placed_blocks_between};
+use sp_reread::{Stanzas, Swapped};
+use sp_text::Lines;
+use std::alloc::{AllocError, Global};
+
+/// How many lines stand before a stanza, or how many there are.
+fn lines_before(lines: &Lines, stanzas: &Stanzas, place: usize) -> usize
+    requires list { stanzas.now.stanzas ≡ stanzas_of (line_texts lines.now.lines) }
+    requires within { place ≤ length stanzas.now.stanzas }
+    ensures { result ≡ stanza_lines_in (take place stanzas.now.stanzas) }
+{
+    if place < stanzas.len() {
+        stanzas.first(place)
+    } else {
+        lines.len()
+    }
+}
+
+/// How many lines stanzas have.
+fn lines_in(stanzas: &[Stanza]) -> usize
+    requires { stanza_lines_in stanzas.now ≤ 9223372036854775807 }
+    ensures { result ≡ stanza_lines_in stanzas.now }
+{
+    let mut count = 0;
+    for stanza in stanzas {
+        count += stanza.lines as usize;
+    }
+    count
+}
+
+/// The nearest stanza before a place from which on it doesn't matter who spoke before, or the first.
+fn settled_before(stanzas: &Stanzas, to: usize) -> usize
+    requires { to ≤ length stanzas.now.stanzas }
+    ensures within { result ≤ to }
+    ensures settles { (result ≡ 0) ⊎ (list_any stanza_settles (slice_range stanzas.now.stanzas result to) ≡ true) }
+{
+    let mut place = to;
+    while place > 0 {
+        place -= 1;
+        if stanza_settles(stanzas.stanza(place)) {
+            return place;
+        }
+    }
+    0
+}
+
+/// Who spoke last before a stanza. The error is want of memory alone.
+fn speakers_before(
+    alloc: Global,
+    lines: &Lines,
+    stanzas: &Stanzas,
+    to: usize,
+    speakers: bool,
+) -> Result<Speakers, AllocError>
+    requires list { stanzas.now.stanzas ≡ stanzas_of (line_texts lines.now.lines) }
+    requires within { to ≤ length stanzas.now.stanzas }
+    ensures { IfOk result (λ it. it ≡ speakers_after (line_texts lines.now.lines) speakers (blocks_from 0 (take to stanzas.now.stanzas))) }
+{
+    let _count = lines.len();
+    let from = settled_before(stanzas, to);
+    let blocks = placed_blocks_between(alloc, stanzas, from, to)?;
+    Speakers::behind(alloc, lines, &blocks, speakers)
+}
+
+/// The places of a part between two edges, behind which lines from `was` on stand from `end` on.
+fn places_between(start: PartEdge, stop: PartEdge, was: usize, end: usize) -> PartPlaces
+    ensures { result ≡ edge_places start stop was end }
+{
+    PartPlaces {
+        title_from: start.titles,
+        title_to: stop.titles,
+        from: start.body,
+        to: stop.body,
+        break_from: start.breaks,
+        break_to: stop.breaks,
+        less: was as u64,
+        more: end as u64,
+    }
+}
+
+/// Makes a kept layout that of the text after an edit (docs/RULES.md, "Windows"), by the text's stanzas and what their
+/// update displaced. It lays out the stanzas of the edit's window, and those round it that may be joined with them or whose
+/// speakers may go on otherwise, and moves what stands behind. What it answers leads back when it is swapped in its turn. The
+/// error is want of memory alone; the layout is then as it was.
+pub fn relay_edit(
+    alloc: Global,
+    lines: &Lines,
+    stanzas: &Stanzas,
+    swapped: &Swapped,
+    speakers: bool,
+    kept: &mut KeptLayout,
+) -> Result<LayoutPart, AllocError>
+    requires list { stanzas.now.stanzas ≡ stanzas_of (line_texts lines.now.lines) }
+    requires was { WasLaid lines.now.lines stanzas.now.stanzas swapped.now speakers (laid_of kept.old) }
+    ensures layout { OnOk result (laid_of kept.new ≡ keyed lines.now.lines (layout_of speakers lines.now.lines)) }
+    ensures back { IfOk result (λ it. with_part (laid_of kept.new) it.places (laid_of it.kept) ≡ laid_of kept.old) }
+    ensures again { IfOk result (λ it. CanSwap (laid_of kept.new) it.places (laid_of it.kept)) }
+    ensures returns { IfOk result (λ it. HasPartRoom kept.new it.places it.kept) }
+    ensures room { KeepsRoom kept.old kept.new }
+    ensures same { OnErr result (laid_of kept.new ≡ laid_of kept.old) }
+{
+    let _count = lines.len();
+    let _len = stanzas.len();
+    let at = swapped.at();
+    let to = at + swapped.stands();
+    let end = lines_before(lines, stanzas, to);
+    let was = lines_before(lines, stanzas, at) + lines_in(swapped.stanzas());
+    let start = part_start(stanzas, at, kept);
+    let stop = part_end(stanzas, to, was, end, kept);
+    let last = speakers_before(alloc, lines, stanzas, start.stanza, speakers)?;
+    let blocks = placed_blocks_between(alloc, stanzas, start.stanza, stop.stanza)?;
+    let places = places_between(start, stop, was, end);
+    relay(alloc, lines, &blocks, last, places, kept)
+}

@@ -1,0 +1,40 @@
+-- Stanzas of a text before and after an edit, of which those at both ends stay (docs/RULES.md, "Windows").
+use Rattle.std.specs.Prelude.{◌≡◌, ◌⊎◌, ℕ, ◌+◌, ◌<◌, ◌≤◌, Bool, true, false, not, List, [], ◌∷◌, ◌++◌}
+use Rattle.std.specs.List.{list_any}
+use Rattle.spec_text.specs.Lines.{LineState, line_texts}
+use Rattle.spec_script.specs.BlockValues.{BlockOf, StanzaOf}
+use Rattle.spec_script.specs.Stanzas.{stanzas_of}
+use Rattle.spec_pages.specs.Rows.{line_state}
+use Rattle.spec_reread.specs.Windows.{stanza_lines_in}
+use Rattle.spec_relay.specs.Moved.{moved_place, settles_kind}
+
+-- The first of these blocks has no caret, so it is joined with none before it.
+abbrev pub first_apart : List BlockOf → Bool
+first_apart [] = false
+first_apart (block ∷ blocks) = not block.caret
+
+-- The first of these stanzas begins with such a block.
+abbrev pub OpensApart : List StanzaOf → Type 0
+OpensApart [] = ⊥
+OpensApart (stanza ∷ stanzas) = first_apart stanza.blocks ≡ true
+
+-- Behind such a block, and behind a stanza with one, it doesn't matter who spoke before.
+abbrev pub block_settles : BlockOf → Bool
+block_settles block = settles_kind block.kind
+
+abbrev pub stanza_settles : StanzaOf → Bool
+stanza_settles stanza = list_any block_settles stanza.blocks
+
+-- The stanzas of a text before an edit and after it. In front are those that stay. Then come those before the window that are laid
+-- out anew with it, those that go and those that come, those behind the window that are laid out anew, and the rest. The window
+-- begins at one line, and ends before another in each text; the lines outside it are the same, and those behind it are moved.
+pub record StanzasRelaid (before lines : List LineState) (front ahead gone come behind rest : List StanzaOf) (start was end : ℕ) : Type 0 where
+  pub old : stanzas_of (line_texts before) ≡ front ++ ((ahead ++ (gone ++ behind)) ++ rest)
+  pub new : stanzas_of (line_texts lines) ≡ front ++ ((ahead ++ (come ++ behind)) ++ rest)
+  pub start_is : start ≡ stanza_lines_in front + stanza_lines_in ahead
+  pub was_is : was ≡ start + stanza_lines_in gone
+  pub end_is : end ≡ start + stanza_lines_in come
+  pub front_apart : (front ≡ []) ⊎ OpensApart ahead
+  pub rest_apart : (rest ≡ []) ⊎ (OpensApart rest × (list_any stanza_settles behind ≡ true))
+  pub still : (place : ℕ) → place < start → line_state lines place ≡ line_state before place
+  pub moved : (place : ℕ) → was ≤ place → line_state lines (moved_place was end place) ≡ line_state before place
