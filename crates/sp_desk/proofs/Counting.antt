@@ -2,17 +2,14 @@
 use Rattle.std.proofs.Common.{ℕ, Result, Ok, Err, refl, arith}
 use Rattle.spec_text.specs.Edits.{EditOf, replacement_of}
 use Rattle.spec_text.specs.Lines.{line_texts}
-use Rattle.spec_text.specs.Ranges.{RangeOf, range_of}
+use Rattle.spec_text.specs.Ranges.{range_of}
 use Rattle.spec_state.specs.State.{State}
 use Rattle.spec_state.specs.Changes.{edited_state, text_after}
 use Rattle.spec_wire.specs.Commands.{CommandOf, edit, undo, redo, lock_scenes, lock_pages, next_round, sheet, labels, blocks, outline, save, speakers, paper, packet}
 use Rattle.sp_exchange.proofs.ReadLaws.{none-read}
-use Rattle.sp_state.specs.Fills.{FillsAtMost}
+use Rattle.sp_state.proofs.FillLaws.{none-filled}
 use Rattle.sp_desk.specs.Reads.{CommandReads}
 use Rattle.sp_desk.specs.Fills.{CommandFills}
-
-pub none-filled : (old new : State) (range : RangeOf) (fills : ℕ) → FillsAtMost old new range fills fills
-none-filled old new range fills = record { counted = λ a b w. record { count = 0; within = omega arith; is = refl } }
 
 pub no-reads : (T E : Type 0) (state : State) (command : CommandOf) (error : E) (reads : ℕ) → CommandReads {T = T} {E = E} state command (Err error) reads reads
 no-reads T E state (edit it) error reads = record {

@@ -3,7 +3,7 @@ use Rattle.std.proofs.Common.{◌≡◌, ℕ, Bool, None, List, length, map, ref
 use Rattle.std.proofs.lemmas.List.{length-map}
 use Rattle.spec_text.specs.Edits.{EditOf, Replacement, refusal_of, replacement_of}
 use Rattle.spec_text.specs.Lines.{TextState, IsText, line_texts}
-use Rattle.spec_text.specs.Ranges.{RangeOf, range_of}
+use Rattle.spec_text.specs.Ranges.{range_of}
 use Rattle.spec_text.proofs.TakenEdits.{taken-inside}
 use Rattle.spec_script.specs.BlockValues.{StanzaOf}
 use Rattle.spec_pages.specs.declared.Shape.{Shape}
@@ -18,19 +18,15 @@ use Rattle.spec_state.specs.StateSheets.{layout_in, rows_in}
 use Rattle.spec_machine.proofs.WholeStates.{speakers-whole}
 use Rattle.spec_reflow.specs.Windows.{AreExchanged, AreStops, Exchange, page_window}
 use Rattle.spec_relayout.proofs.WindowExists.{window-exists}
-use Rattle.spec_locked_pages.specs.LockedPages.{IsWindowOf}
 use Rattle.spec_locked_pages.specs.Segments.{pages_of}
-use Rattle.spec_refill.specs.Exchanges.{edit_exchange, filled_pages}
 use Rattle.spec_refill.proofs.EditExchange.{edit-exchanged, speakers-starts}
 use Rattle.sp_reread.specs.Cache.{SwappedState}
 use Rattle.sp_exchange.specs.Restoring.{AreDisplaced, text_stanzas}
 use Rattle.sp_refill.specs.Edits.{IsOfEdit}
-use Rattle.sp_reflow.specs.Filling.{FilledAtMost}
-use Rattle.sp_reflow.specs.Starts.{many_more}
 use Rattle.sp_reflow.specs.Updates.{AreStale}
 use Rattle.sp_made.specs.Made.{AreStopsOf}
 use Rattle.sp_made.proofs.StopsMade.{starts-of, stops-in_order}
-use Rattle.sp_state.specs.Fills.{EditFills, EditFillsAtMost, FillsAtMost}
+use Rattle.sp_state.proofs.FillLaws.{IsExchangeOf}
 
 pub stale-same : (edit : Exchange) (olds : List ℕ) (limit body : ℕ) (those shapes : List Shape) (items stops : List ℕ) → body ≡ limit → shapes ≡ those → stops ≡ items
     → AreStale limit edit olds those items → AreStale body edit olds shapes stops
@@ -40,10 +36,7 @@ stale-same edit olds limit body those shapes items stops a b c are =
 pub window-same : (edit : Exchange) (olds starts others : List ℕ) (body limit : ℕ) → body ≡ limit → starts ≡ others → page_window body edit olds starts ≡ page_window limit edit olds others
 window-same edit olds starts others body limit a b = ap (λ n. page_window n edit olds starts) a ∙ ap (page_window limit edit olds) b
 
--- An exchange of rows is that of an edit.
-pub record IsExchangeOf (state : State) (it : Replacement) (edit : Exchange) : Type 0 where
-  pub is : (a b : ℕ) → IsWindowOf (range_of it) state (edited_state state it) a b → edit ≡ edit_exchange (range_of it) state (edited_state state it) a b
-
+-- After an edit the page starts are stale in the rows that it exchanges alone.
 pub stale-edited : (old new : State) (it : Replacement) (edit : Exchange) (starts stops : List ℕ) → IsWhole old → CanEdit old it → new ≡ edited_state old it → starts ≡ pages_of old → IsExchangeOf old it edit
     → AreStopsOf new stops → AreStale (rows_on new.paper) edit starts (map shape_of (rows_in new)) stops
 stale-edited old new it edit starts stops whole can led starts_are found are =
@@ -62,31 +55,6 @@ stale-edited old new it edit starts stops whole can led starts_are found are =
           olds.1.same news.same);
     } in
     subst (λ (s : State). AreStopsOf s stops → AreStale (rows_on s.paper) edit starts (map shape_of (rows_in s)) stops) (sym led) stale are
-
--- The pages that are filled are those of the page window of the edit.
-window-edited : (old new : State) (it : Replacement) (edit : Exchange) (starts : List ℕ) (a b : ℕ) → new ≡ edited_state old it → starts ≡ pages_of old → IsExchangeOf old it edit → IsWindowOf (range_of it) old (edited_state old it) a b
-    → page_window (rows_on new.paper) edit starts (pages_of new) ≡ filled_pages (range_of it) old (edited_state old it) a b
-window-edited old new it edit starts a b led starts_are found window =
-    let after = edited_state old it in
-    ap (λ (s : State). page_window (rows_on s.paper) edit starts (pages_of s)) led
-    ∙ ap (λ (e : Exchange). page_window (rows_on after.paper) e starts (pages_of after)) (found.is a b window)
-    ∙ ap (λ (l : List ℕ). page_window (rows_on after.paper) (edit_exchange (range_of it) old after a b) l (pages_of after)) starts_are
-
-pub fills-edited : (old new : State) (it : Replacement) (edit : Exchange) (starts : List ℕ) (fills fills' : ℕ) → new ≡ edited_state old it → starts ≡ pages_of old → IsExchangeOf old it edit
-    → fills' ≡ many_more fills (length (page_window (rows_on new.paper) edit starts (pages_of new))) → EditFills old it fills fills'
-fills-edited old new it edit starts fills fills' led starts_are found counts = record {
-  counted = λ a b window. counts ∙ ap (λ (l : List ℕ). many_more fills (length l)) (window-edited old new it edit starts a b led starts_are found window);
-}
-
-pub fills-within : (old new : State) (it : Replacement) (edit : Exchange) (starts : List ℕ) (fills fills' : ℕ) → new ≡ edited_state old it → starts ≡ pages_of old → IsExchangeOf old it edit
-    → FilledAtMost fills fills' (length (page_window (rows_on new.paper) edit starts (pages_of new))) → EditFillsAtMost old it fills fills'
-fills-within old new it edit starts fills fills' led starts_are found counts = record {
-  counted = λ a b window. subst (λ (l : List ℕ). FilledAtMost fills fills' (length l)) (window-edited old new it edit starts a b led starts_are found window) counts;
-}
-
--- An edit that finds no memory may fill no page.
-pub none-filled : (old new : State) (range : RangeOf) (fills : ℕ) → FillsAtMost old new range fills fills
-none-filled old new range fills = record { counted = λ a b w. record { count = 0; within = omega arith; is = refl } }
 
 -- What an edit left is what it makes of the state before it.
 pub left-by : (old : State) (it : Replacement) (text : TextState) (records : RecordsOf) (stanzas : List StanzaOf) (swapped : SwappedState) (olds news : List ElementOf) → IsWhole old → CanEdit old it

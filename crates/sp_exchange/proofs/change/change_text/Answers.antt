@@ -28,7 +28,7 @@ restore_in_room-requires-clause-room g c =
 leads : (g : Over) (c : goal.In-Ok g) → GivesBack c.in-Ok.swapped (text_stanzas (text_of c.change.new.self)) (text_stanzas (text_of c.args.lines.now))
 leads g c =
     let new = text_of c.change.new.self in
-    subst (GivesBack c.in-Ok.swapped (text_stanzas new)) (c.requires ∙ ap text_stanzas (sym c.in_ok-displaced.ensures.back))
+    subst (GivesBack c.in-Ok.swapped (text_stanzas new)) c.requires
     (subst (λ (xs : List StanzaOf). GivesBack c.in-Ok.swapped xs c.args.stanzas.now.stanzas) c.in-Ok.ensures.list c.in-Ok.ensures.back)
 
 pub returns-in-Ok-clause-room : goal.returns-in-Ok-clause-room
@@ -39,7 +39,7 @@ returns-in-Ok-clause-room g c =
     let can : CanRestoreText new back c.in-Ok.swapped = record {
       place = ensures.place;
       keeps = ensures.again;
-      stanzas = leads g c;
+      stanzas = subst (GivesBack c.in-Ok.swapped (text_stanzas new)) (ap text_stanzas (sym ensures.back)) (leads g c);
     } in
     room-back c.args.lines.now c.change.new.self c.args.stanzas.now c.reread.new.stanzas back c.in-Ok.swapped can ensures.back c.requires c.in-Ok.ensures.list
     c.len-count.ensures.room ensures.room c.len-stanzas.ensures.enough c.in-Ok.ensures.room ensures.displaced_room c.in-Ok.ensures.back_room

@@ -12,7 +12,8 @@ use Rattle.sp_layout.specs.LaidOut.{LayoutOf}
 use Rattle.sp_refill.specs.Edits.{IsOfEdit}
 use Rattle.sp_reflow.specs.Updates.{CanPutBack, with_taken}
 use Rattle.sp_made.specs.Made.{LaidOf, MadeOf}
-use Rattle.sp_state.proofs.RefilledLaws.{IsExchangeOf, can-edit, fills-edited, fills-within, stale-edited}
+use Rattle.sp_state.proofs.FillLaws.{IsExchangeOf, fills-edited, fills-within, none-filled}
+use Rattle.sp_state.proofs.RefilledLaws.{can-edit, left-by, stale-edited}
 use Rattle.sp_state.proofs.editing.edit_made.Goals as goal
 
 pub returns-in-Ok-clause-back : goal.returns-in-Ok-clause-back
