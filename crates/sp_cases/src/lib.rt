@@ -4,6 +4,8 @@
 #[cfg(test)]
 mod case;
 #[cfg(test)]
+mod counts;
+#[cfg(test)]
 mod desks;
 #[cfg(test)]
 mod outside;

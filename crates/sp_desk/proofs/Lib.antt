@@ -1,3 +1,4 @@
 pub mod EntryLaws
+pub mod Counting
 mod DeskSteps
 mod Labels

@@ -102,8 +102,8 @@ impl Desk {
     /// Answers a command, as the machine does: what it makes of the memory, and the reply; a refusal is a fault and never
     /// `Reply::Refused`. NoMemory may come in place of any answer, and then nothing is changed. An edit, an undo, a redo and
     /// a setting lay out the whole text; the other commands, locks and rounds among them, lay out nothing (docs/RULES.md,
-    /// "The desk"). A change of the paper counts at most one fill for each page on the new one, and no command but it and an
-    /// edit counts one. An edit reads each stanza of its window once, and no other command reads one (docs/RULES.md,
+    /// "The desk"). An edit reads each stanza of its window once and fills each page of its page window once, a change of the
+    /// paper fills each page on the new one once, and no other command reads a stanza or fills a page (docs/RULES.md,
     /// "Windows"). No command loses a locked label, and an accepted lock of pages or a new round leaves the bytes of every
     /// sheet as they were (docs/RULES.md, "Page records" and "Scene numbers"). An edit keeps the bytes of each locked page
     /// that it leaves alone, and so do all edits that can be undone, from each of them on (docs/RULES.md, "Windows").
@@ -120,7 +120,7 @@ impl Desk {
         ensures locked { KeepsPages self.old (command_of command) (self.new).state }
         ensures chain { (i k : ℕ) → KeepsAlong i (drop k (self.new).done) (self.new).state }
         ensures reads { CommandReads (self.old).state (command_of command) result (S.reads steps.old) (S.reads steps.new) }
-        ensures fills { CommandFills (self.old).state (command_of command) (S.fills steps.old) (S.fills steps.new) }
+        ensures fills { CommandFills (self.old).state (command_of command) result (S.fills steps.old) (S.fills steps.new) }
     {
         let _before = self.sheets();
         let answer = self.answer(alloc, command, steps);
@@ -137,7 +137,7 @@ impl Desk {
         ensures step { IsAnswer self.old (command_of command) self.new result }
         ensures unrefused { IfOk result (λ reply. is_refused (reply_of reply) ≡ false) }
         ensures reads { CommandReads (self.old).state (command_of command) result (S.reads steps.old) (S.reads steps.new) }
-        ensures fills { CommandFills (self.old).state (command_of command) (S.fills steps.old) (S.fills steps.new) }
+        ensures fills { CommandFills (self.old).state (command_of command) result (S.fills steps.old) (S.fills steps.new) }
     {
         match command {
             Command::Edit(edit) => self.edit(alloc, edit, steps),
@@ -165,6 +165,7 @@ impl Desk {
         ensures step { IsAnswer self.old (commands.edit (edit_of edit)) self.new result }
         ensures unrefused { IfOk result (λ reply. is_refused (reply_of reply) ≡ false) }
         ensures reads { CommandReads (self.old).state (commands.edit (edit_of edit)) result (S.reads steps.old) (S.reads steps.new) }
+        ensures fills { CommandFills (self.old).state (commands.edit (edit_of edit)) result (S.fills steps.old) (S.fills steps.new) }
     {
         self.journal.reserve_one()?;
         let entry = self.script.edit(alloc, edit, steps)?;
@@ -264,7 +265,7 @@ impl Desk {
         ensures step { IsAnswer self.old (commands.paper paper) self.new result }
         ensures unrefused { IfOk result (λ reply. is_refused (reply_of reply) ≡ false) }
         ensures reads { S.reads steps.new ≡ S.reads steps.old }
-        ensures fills { CommandFills (self.old).state (commands.paper paper) (S.fills steps.old) (S.fills steps.new) }
+        ensures fills { CommandFills (self.old).state (commands.paper paper) result (S.fills steps.old) (S.fills steps.new) }
     {
         if self.script.records().pages.is_some() {
             return Err(DeskFault::Refused(Refusal::PagesLocked));

@@ -7,11 +7,13 @@ use Rattle.spec_text.proofs.ExchangeLaws.{length-stretch}
 use Rattle.spec_text.proofs.TakenEdits.{taken-inside}
 use Rattle.spec_script.specs.BlockValues.{StanzaOf}
 use Rattle.spec_reread.specs.Windows.{CountsWindow, IsBefore, IsEdited, stanzas_between}
+use Rattle.spec_reread.specs.Displaced.{DisplacesWindow}
+use Rattle.spec_reread.proofs.DisplacedWindow.{displaces-window}
 use Rattle.spec_reread.proofs.Edits.{edited-back, edited-lines}
 use Rattle.spec_reread.proofs.Resync.{window-one}
-use Rattle.sp_reread.specs.Cache.{ReadsWithin, counted_on}
+use Rattle.sp_reread.specs.Cache.{GivesBack, ReadsWithin, SwappedState, counted_on}
 use Rattle.sp_exchange.specs.Reads.{ReadsAtMost, ReadsWindow, WindowHas, WindowHasAtLeast}
-use Rattle.sp_exchange.specs.Restoring.{text_stanzas}
+use Rattle.sp_exchange.specs.Restoring.{AreDisplaced, text_stanzas}
 
 -- The range of what was displaced.
 abbrev range_by : Displacement → RangeOf
@@ -74,3 +76,11 @@ reads-within old new edit d stanzas reads reads' taken is place leads were r =
       counted = r.counted;
       low = subst (λ (range : RangeOf). WindowHasAtLeast before after range r.rise) (range-same old edit d taken is) low;
     }
+
+-- What was displaced is the old window of the edit.
+pub displaced-window : (old new : TextState) (edit : EditOf) (d : Displacement) (swapped : SwappedState) → refusal_of old edit ≡ None → d ≡ displaced_by old (replacement_of old.lines edit)
+    → d.first + d.stands ≤ length new.lines → restored new d ≡ old → CountsWindow (text_stanzas old) (line_texts new.lines) d.first (length d.lines) d.stands swapped.at swapped.stands
+    → GivesBack swapped (text_stanzas new) (text_stanzas old) → AreDisplaced (line_texts old.lines) (line_texts new.lines) (range_of (replacement_of old.lines edit)) swapped
+displaced-window old new edit d swapped taken is place leads c back =
+    subst (λ (range : RangeOf). AreDisplaced (line_texts old.lines) (line_texts new.lines) range swapped) (range-same old edit d taken is)
+    (displaces-window (line_texts old.lines) (line_texts new.lines) d.first (length d.lines) d.stands swapped.at swapped.stands swapped.stanzas (is-before old new d place leads).edited c back.within back.gives)

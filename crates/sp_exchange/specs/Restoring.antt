@@ -2,8 +2,10 @@
 use Rattle.std.specs.Prelude.{◌≡◌, ℕ, ◌+◌, ◌-◌, ◌≤◌, List, length}
 use Rattle.spec_text.specs.Lines.{TextState, IsText, line_texts}
 use Rattle.spec_text.specs.Edits.{displaced_again, restored}
+use Rattle.spec_text.specs.Ranges.{RangeOf}
 use Rattle.spec_script.specs.BlockValues.{StanzaOf}
 use Rattle.spec_script.specs.Stanzas.{stanzas_of}
+use Rattle.spec_reread.specs.Displaced.{DisplacesWindow}
 use Rattle.sp_text.specs.Gap.{LinesState}
 use Rattle.sp_text.specs.DisplacedLines.{DisplacedState, displaced_of}
 use Rattle.sp_reread.specs.Cache.{GivesBack, StanzasState, SwappedState}
@@ -21,6 +23,10 @@ pub record CanRestoreText (text : TextState) (back : DisplacedState) (swapped : 
   pub place : back.first + back.stands ≤ length text.lines
   pub keeps : IsText (text_before text back)
   pub stanzas : GivesBack swapped (text_stanzas text) (text_stanzas (text_before text back))
+
+-- What was displaced of the stanzas is what stood in the window of an edit of this range.
+abbrev pub AreDisplaced : List (List ℕ) → List (List ℕ) → RangeOf → SwappedState → Type 0
+AreDisplaced before after range swapped = DisplacesWindow before after range.first range.old range.new swapped.at swapped.stands swapped.stanzas
 
 -- What putting something back displaced: it can be put back in its turn, and leads back.
 pub record IsTurned (text : TextState) (back : DisplacedState) (swapped : SwappedState) (other : DisplacedState) (others : SwappedState) : Type 0 where

@@ -10,7 +10,7 @@ ghost use Rattle.sp_text.specs.DisplacedLines.{displaced_of};
 ghost use Rattle.sp_text.specs.Gap.{text_of};
 ghost use Rattle.sp_reread.specs.Cache.{GivesBack, ReadsWithin, counted_on, exchanged};
 ghost use Rattle.sp_exchange.specs.Reads.{IsRefused, ReadsAtMost, ReadsWindow};
-ghost use Rattle.sp_exchange.specs.Restoring.{CanRestoreText, HasRoomFor, IsSameText, IsTurned, text_before, text_stanzas};
+ghost use Rattle.sp_exchange.specs.Restoring.{AreDisplaced, CanRestoreText, HasRoomFor, IsSameText, IsTurned, text_before, text_stanzas};
 
 use sp_kit::Steps;
 use sp_reread::{Stanzas, Swapped, Unswapped};
@@ -83,8 +83,8 @@ fn reread<S: Steps>(
 }
 
 /// Makes the edit in a text and in its stanzas, and answers the lines and the stanzas that it displaced (docs/RULES.md,
-/// "Edits" and "Windows"). Each stanza of its window is read once, and no other. NoMemory comes for want of memory alone.
-/// A refused edit leaves text and stanzas as they were.
+/// "Edits" and "Windows"). The stanzas are those of its window; each stanza that stands there now is read once, and no
+/// other. NoMemory comes for want of memory alone. A refused edit leaves text and stanzas as they were.
 pub fn change_text<S: Steps>(
     lines: &mut Lines,
     stanzas: &mut Stanzas,
@@ -100,6 +100,7 @@ pub fn change_text<S: Steps>(
     ensures can { IfOk result (λ it. CanRestoreText (text_of lines.new) it.0 it.1) }
     ensures stanzas { stanzas.new.stanzas ≡ text_stanzas (text_of lines.new) }
     ensures room { IfOk result (λ it. HasRoomFor lines.new stanzas.new it.0 it.1) }
+    ensures window { IfOk result (λ it. AreDisplaced (line_texts lines.old.lines) (line_texts lines.new.lines) (range_of (replacement_of lines.old.lines (edit_of edit))) it.1) }
     ensures reads { OnOk result (ReadsWindow (line_texts lines.old.lines) (line_texts (changed (text_of lines.old) (replacement_of lines.old.lines (edit_of edit)) round).lines) (range_of (replacement_of lines.old.lines (edit_of edit))) (S.reads steps.old) (S.reads steps.new)) }
     ensures at_most { ReadsAtMost (line_texts lines.old.lines) (line_texts (changed (text_of lines.old) (replacement_of lines.old.lines (edit_of edit)) round).lines) (range_of (replacement_of lines.old.lines (edit_of edit))) (S.reads steps.old) (S.reads steps.new) }
     ensures unread { IsRefused (refusal_of (text_of lines.old) (edit_of edit)) → S.reads steps.new ≡ S.reads steps.old }

@@ -3,3 +3,4 @@ pub mod Owners
 pub mod Asking
 pub mod Answers
 pub mod Inside
+pub mod Counts

@@ -4,5 +4,6 @@ pub mod TextEntryLaws
 mod EditedScripts
 mod OpeningMade
 pub mod EntryLaws
+pub mod FillLaws
 mod RefilledLaws
 mod OpeningPages

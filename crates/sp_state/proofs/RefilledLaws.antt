@@ -1,21 +1,32 @@
 -- Page starts of a state, filled again.
-use Rattle.std.proofs.Common.{◌≡◌, ℕ, Bool, ◌+◌, List, length, map, refl, sym, ap, subst, ◌∙◌, arith}
-use Rattle.std.proofs.lemmas.List.{drop_all, length-map}
+use Rattle.std.proofs.Common.{◌≡◌, ℕ, Bool, None, List, length, map, refl, sym, ap, subst, ◌∙◌, arith}
+use Rattle.std.proofs.lemmas.List.{length-map}
+use Rattle.spec_text.specs.Edits.{EditOf, Replacement, refusal_of, replacement_of}
+use Rattle.spec_text.specs.Lines.{TextState, IsText, line_texts}
+use Rattle.spec_text.specs.Ranges.{range_of}
+use Rattle.spec_text.proofs.TakenEdits.{taken-inside}
+use Rattle.spec_script.specs.BlockValues.{StanzaOf}
 use Rattle.spec_pages.specs.declared.Shape.{Shape}
-use Rattle.spec_pages.specs.Pages.{page_starts, rows_on}
+use Rattle.spec_pages.specs.Pages.{rows_on}
+use Rattle.spec_pages.specs.Rows.{ElementOf}
 use Rattle.spec_layout.specs.Shown.{shape_of}
-use Rattle.spec_state.specs.State.{State}
-use Rattle.spec_text.specs.Lines.{TextState}
 use Rattle.spec_records.specs.Kept.{RecordsOf}
-use Rattle.spec_machine.proofs.WholeStates.{speakers-whole}
-use Rattle.spec_refill.proofs.EditExchange.{speakers-starts}
+use Rattle.spec_state.specs.State.{State, text_of as state_text}
+use Rattle.spec_state.specs.Changes.{CanEdit, edited_state}
 use Rattle.spec_state.specs.Keeping.{IsWhole, state_of}
-use Rattle.spec_state.specs.StateSheets.{rows_in}
-use Rattle.spec_locked_pages.specs.Segments.{pages_of}
+use Rattle.spec_state.specs.StateSheets.{layout_in, rows_in}
+use Rattle.spec_machine.proofs.WholeStates.{speakers-whole}
 use Rattle.spec_reflow.specs.Windows.{AreExchanged, AreStops, Exchange, page_window}
+use Rattle.spec_relayout.proofs.WindowExists.{window-exists}
+use Rattle.spec_locked_pages.specs.Segments.{pages_of}
+use Rattle.spec_refill.proofs.EditExchange.{edit-exchanged, speakers-starts}
+use Rattle.sp_reread.specs.Cache.{SwappedState}
+use Rattle.sp_exchange.specs.Restoring.{AreDisplaced, text_stanzas}
+use Rattle.sp_refill.specs.Edits.{IsOfEdit}
 use Rattle.sp_reflow.specs.Updates.{AreStale}
 use Rattle.sp_made.specs.Made.{AreStopsOf}
 use Rattle.sp_made.proofs.StopsMade.{starts-of, stops-in_order}
+use Rattle.sp_state.proofs.FillLaws.{IsExchangeOf}
 
 pub stale-same : (edit : Exchange) (olds : List ℕ) (limit body : ℕ) (those shapes : List Shape) (items stops : List ℕ) → body ≡ limit → shapes ≡ those → stops ≡ items
     → AreStale limit edit olds those items → AreStale body edit olds shapes stops
@@ -25,36 +36,44 @@ stale-same edit olds limit body those shapes items stops a b c are =
 pub window-same : (edit : Exchange) (olds starts others : List ℕ) (body limit : ℕ) → body ≡ limit → starts ≡ others → page_window body edit olds starts ≡ page_window limit edit olds others
 window-same edit olds starts others body limit a b = ap (λ n. page_window n edit olds starts) a ∙ ap (page_window limit edit olds) b
 
--- All rows exchanged for all others.
-all-exchanged : (olds : List Shape) (old_stops : List ℕ) (news : List Shape) (stops : List ℕ) → AreStops (length olds) old_stops → AreStops (length news) stops
-    → AreExchanged (record { first = 0; old = length olds; new = length news }) olds old_stops news stops
-all-exchanged olds old_stops news stops old_are are = record {
-  old_inside = omega arith;
-  inside = omega arith;
-  rows_before = refl;
-  rows_behind = drop_all (0 + length news) news (omega arith) ∙ sym (drop_all (0 + length olds) olds (omega arith));
-  old_stops_are = old_are;
-  stops_are = are;
-  stops_before = λ row low. absurd (omega (arith, low));
-  stops_behind = λ row low high. absurd (omega (arith, low, high));
+-- After an edit the page starts are stale in the rows that it exchanges alone.
+pub stale-edited : (old new : State) (it : Replacement) (edit : Exchange) (starts stops : List ℕ) → IsWhole old → CanEdit old it → new ≡ edited_state old it → starts ≡ pages_of old → IsExchangeOf old it edit
+    → AreStopsOf new stops → AreStale (rows_on new.paper) edit starts (map shape_of (rows_in new)) stops
+stale-edited old new it edit starts stops whole can led starts_are found are =
+    let after = edited_state old it in
+    let window = window-exists (line_texts old.lines) (line_texts after.lines) it.first it.old (length it.texts) in
+    let olds = stops-in_order old whole in
+    let those = map shape_of (rows_in old) in
+    let others = map shape_of (rows_in after) in
+    let stale : AreStopsOf after stops → AreStale (rows_on after.paper) edit starts others stops = λ news. record {
+      old_shapes = those;
+      old_stops = olds.0;
+      starts_are = starts_are ∙ sym (starts-of old (rows_on after.paper) those olds.0 olds.0 olds.1 refl refl refl);
+      exchange = subst (λ (e : Exchange). AreExchanged e those olds.0 others stops) (sym (found.is window.0 window.1 window.2))
+          (edit-exchanged old it whole can window.0 window.1 window.2 olds.0 stops
+          (subst (λ n. AreStops n olds.0) (sym (length-map (rows_in old) shape_of)) olds.1.are) (subst (λ n. AreStops n stops) (sym (length-map (rows_in after) shape_of)) news.are)
+          olds.1.same news.same);
+    } in
+    subst (λ (s : State). AreStopsOf s stops → AreStale (rows_on s.paper) edit starts (map shape_of (rows_in s)) stops) (sym led) stale are
+
+-- What an edit left is what it makes of the state before it.
+pub left-by : (old : State) (it : Replacement) (text : TextState) (records : RecordsOf) (stanzas : List StanzaOf) (swapped : SwappedState) (olds news : List ElementOf) → IsWhole old → CanEdit old it
+    → state_of text records ≡ edited_state old it → stanzas ≡ text_stanzas text → AreDisplaced (line_texts old.lines) (line_texts text.lines) (range_of it) swapped → olds ≡ (layout_in old).body
+    → news ≡ (layout_in (state_of text records)).body → IsOfEdit old it text.lines stanzas swapped olds news
+left-by old it text records stanzas swapped olds news whole can led stanzas_are window olds_are news_are = record {
+  whole = whole;
+  can = can;
+  lines_are = ap (λ (s : State). s.lines) led;
+  stanzas_are = stanzas_are;
+  window = window;
+  olds_are = olds_are;
+  news_are = news_are ∙ ap (λ (s : State). (layout_in s).body) led;
 }
 
-pub stale-all : (old new : State) (starts stops : List ℕ) (was now : ℕ) → IsWhole old → starts ≡ pages_of old → new.paper ≡ old.paper → was ≡ length (rows_in old) → now ≡ length (rows_in new) → AreStopsOf new stops
-    → AreStale (rows_on new.paper) (record { first = 0; old = was; new = now }) starts (map shape_of (rows_in new)) stops
-stale-all old new starts stops was now whole starts_are paper olds news are =
-    let found = stops-in_order old whole in
-    let those = map shape_of (rows_in old) in
-    let others = map shape_of (rows_in new) in
-    let count = length-map (rows_in old) shape_of in
-    let count_new = length-map (rows_in new) shape_of in
-    record {
-      old_shapes = those;
-      old_stops = found.0;
-      starts_are = starts_are ∙ sym (starts-of old (rows_on new.paper) those found.0 found.0 found.1 (ap rows_on paper) refl refl);
-      exchange = subst (λ n. AreExchanged (record { first = 0; old = n; new = now }) those found.0 others stops) (count ∙ sym olds)
-          (subst (λ n. AreExchanged (record { first = 0; old = length those; new = n }) those found.0 others stops) (count_new ∙ sym news)
-          (all-exchanged those found.0 others stops (subst (λ n. AreStops n found.0) (sym count) found.1.are) (subst (λ n. AreStops n stops) (sym count_new) are.are)));
-    }
+-- An accepted edit can be made.
+pub can-edit : (text : TextState) (records : RecordsOf) (edit : EditOf) (new : State) → refusal_of text edit ≡ None → IsWhole new → new ≡ edited_state (state_of text records) (replacement_of text.lines edit)
+    → CanEdit (state_of text records) (replacement_of text.lines edit)
+can-edit text records edit new taken whole led = record { inside = taken-inside text edit taken; text = subst (λ (s : State). IsText (state_text s)) led whole.text }
 
 -- Whether cues say that their speakers go on moves no page.
 pub speakers-pages : (text : TextState) (kept old : RecordsOf) (speakers : Bool) (starts : List ℕ) → kept ≡ old → IsWhole (state_of text old) → starts ≡ pages_of (state_of text old)

@@ -3,3 +3,4 @@ pub mod Entries
 pub mod Raised
 pub mod Openings
 pub mod Reads
+pub mod Fills

@@ -1,26 +1,34 @@
 //! What is made of a state after a change of its parts; where there is no memory for it the change is taken back.
-ghost use Rattle.std.specs.Prelude.{◌≡◌, length, IfErr, IfOk, OnOk, OnErr};
-ghost use Rattle.spec_text.specs.Edits.{refusal_of, replacement_of};
+ghost use Rattle.std.specs.Prelude.{◌≡◌, ℕ, length, IfErr, IfOk, OnOk, OnErr};
+ghost use Rattle.spec_text.specs.Edits.{Replacement, refusal_of, replacement_of};
 ghost use Rattle.spec_text.specs.Ranges.{range_of};
+ghost use Rattle.spec_state.specs.State.{State};
 ghost use Rattle.spec_state.specs.Changes.{edited_state};
 ghost use Rattle.spec_state.specs.Keeping.{IsWhole, state_of};
+ghost use Rattle.spec_locked_pages.specs.LockedPages.{IsWindowOf};
 ghost use Rattle.spec_locked_pages.specs.Segments.{pages_of};
+ghost use Rattle.spec_refill.specs.Exchanges.{edit_exchange};
 ghost use Rattle.sp_text.specs.Changing.{Refuses, edit_of};
 ghost use Rattle.sp_text.specs.Gap.{text_of};
 ghost use Rattle.sp_exchange.specs.Reads.{IsRefused};
 ghost use Rattle.sp_exchange.specs.Restoring.{text_stanzas};
 ghost use Rattle.sp_reflow.specs.Filling.{FilledAtMost};
 ghost use Rattle.sp_made.specs.Made.{IsMadeOf};
+ghost use Rattle.sp_refill.specs.Edits.{IsOfEdit, IsOfSomeEdit};
 ghost use Rattle.sp_state.specs.TextEntries.{CanRedoText, CanUndoText, HasTextRoom, IsTextRedone, IsTextUndone, redone_text, undone_text};
 ghost use Rattle.sp_state.specs.Entries.{CanRedo, CanUndo, IsSameEntry, LeadsBack, LeadsForth, done_range, redone_state, undone_range, undone_state};
+ghost use Rattle.sp_reflow.specs.Starts.{many_more};
 ghost use Rattle.sp_state.specs.Reads.{EditReads, EditReadsAtMost};
+ghost use Rattle.sp_state.specs.Fills.{EditFills, EditFillsAtMost};
 
 use crate::entry::{Entry, Unturned};
 use crate::text_entry::{TextEntry, UnturnedText, edit_entry, redo_entry, undo_entry};
 use crate::turning::{refilled, turned};
 use sp_kit::Steps;
-use sp_made::{Made, lay, make, make_of};
+use sp_layout::Body;
+use sp_made::{Laid, Made, lay, make, make_of};
 use sp_records::Records;
+use sp_refill::{ExchangedRows, exchanged_rows};
 use sp_reflow::{Pages, UnswappedPages};
 use sp_reread::Stanzas;
 use sp_text::{Edit, EditFault, Lines};
@@ -88,6 +96,7 @@ pub(crate) fn made_on<S: Steps>(
     ensures whole { OnOk result (IsWhole (state_of (text_of lines.now) records.new)) }
     ensures made { IfOk result (λ it. IsMadeOf (state_of (text_of lines.now) records.new) it.0) }
     ensures pages { IfOk result (λ it. it.1.starts ≡ pages_of (state_of (text_of lines.now) records.new)) }
+    ensures fills { OnOk result (S.fills steps.new ≡ many_more (S.fills steps.old) (length (pages_of (state_of (text_of lines.now) (record records.old { paper = paper }))))) }
     ensures at_most { FilledAtMost (S.fills steps.old) (S.fills steps.new) (length (pages_of (state_of (text_of lines.now) (record records.old { paper = paper })))) }
     ensures same { OnErr result (records.new ≡ records.old) }
     ensures reads { S.reads steps.new ≡ S.reads steps.old }
@@ -142,6 +151,21 @@ fn redo_in_room(
     }
 }
 
+/// The rows that an edit exchanges, which left this entry and this layout. `olds` are the rows of the body before it.
+fn edited_rows(
+    lines: &Lines,
+    stanzas: &Stanzas,
+    text: &TextEntry,
+    olds: &Body,
+    laid: &Laid,
+) -> ExchangedRows
+    requires { IsOfSomeEdit lines.now.lines stanzas.now.stanzas (text.now).stanzas olds.now.elements (laid.now).layout.body.elements }
+    ensures { (state : State) (it : Replacement) (a b : ℕ) → IsOfEdit state it lines.now.lines stanzas.now.stanzas (text.now).stanzas olds.now.elements (laid.now).layout.body.elements → IsWindowOf (range_of it) state (edited_state state it) a b → result ≡ edit_exchange (range_of it) state (edited_state state it) a b }
+{
+    let layout = &laid.layout;
+    exchanged_rows(lines, stanzas, &text.stanzas, olds, &layout.body)
+}
+
 /// Makes an edit. The pages of its page window are filled again, and all but stanzas and page starts is made anew. `before`
 /// is what was made of the state before it.
 pub(crate) fn edit_made<S: Steps>(
@@ -170,12 +194,16 @@ pub(crate) fn edit_made<S: Steps>(
     ensures reads { OnOk result (EditReads (state_of (text_of lines.old) records.old) (replacement_of lines.old.lines (edit_of edit)) (S.reads steps.old) (S.reads steps.new)) }
     ensures at_most { EditReadsAtMost (state_of (text_of lines.old) records.old) (replacement_of lines.old.lines (edit_of edit)) (S.reads steps.old) (S.reads steps.new) }
     ensures unread { IsRefused (refusal_of (text_of lines.old) (edit_of edit)) → S.reads steps.new ≡ S.reads steps.old }
+    ensures fills { OnOk result (EditFills (state_of (text_of lines.old) records.old) (replacement_of lines.old.lines (edit_of edit)) (S.fills steps.old) (S.fills steps.new)) }
+    ensures fills_at_most { EditFillsAtMost (state_of (text_of lines.old) records.old) (replacement_of lines.old.lines (edit_of edit)) (S.fills steps.old) (S.fills steps.new) }
+    ensures unfilled { IsRefused (refusal_of (text_of lines.old) (edit_of edit)) → S.fills steps.new ≡ S.fills steps.old }
 {
-    let olds = before.body.rows();
-    let (text, laid) = edit_entry(alloc, lines, stanzas, records, &before.body, edit, steps)?;
-    let layout = &laid.layout;
-    let news = layout.body.rows();
-    match refilled(alloc, lines, records, laid, pages, 0, olds, news, steps) {
+    let olds = &before.body;
+    let (text, laid) = edit_entry(alloc, lines, stanzas, records, olds, edit, steps)?;
+    let rows = edited_rows(lines, stanzas, &text, olds, &laid);
+    match refilled(
+        alloc, lines, records, laid, pages, rows.first, rows.old, rows.new, steps,
+    ) {
         Ok((swapped, made)) => Ok((
             Entry {
                 text,

@@ -20,6 +20,7 @@ ghost use Rattle.sp_reread.specs.Cache.{RisesWithin, counted_on};
 ghost use Rattle.sp_exchange.specs.Reads.{IsRefused};
 ghost use Rattle.sp_state.specs.Openings.{IsOpening};
 ghost use Rattle.sp_state.specs.Reads.{EditReads, EditReadsAtMost};
+ghost use Rattle.sp_state.specs.Fills.{EditFills, EditFillsAtMost};
 ghost use Rattle.sp_state.specs.Entries.{CanRedo, CanUndo, IsSameEntry, LeadsBack, LeadsForth, done_range, redone_state, undone_range, undone_state};
 
 use crate::editing::{edit_made, made_on, made_with_speakers, redo_made, undo_made};
@@ -172,8 +173,8 @@ impl Script {
         made_sheet(&self.lines, &self.made, i - count)
     }
 
-    /// Makes an edit, and answers the entry that undoes it. Each stanza of its window is read once (docs/RULES.md,
-    /// "Windows"), and all else is made anew. Where pages are locked their records are carried, and those whose rows differ
+    /// Makes an edit, and answers the entry that undoes it. Each stanza of its window is read once, each page of its page
+    /// window filled once (docs/RULES.md, "Windows"), and all else is made anew. Where pages are locked their records are carried, and those whose rows differ
     /// get the round (docs/RULES.md, "Edits and records"). On a fault nothing is changed; NoMemory may come in place of any
     /// answer, and the others come as docs/RULES.md says in "Edits".
     pub fn edit<S: Steps>(
@@ -191,6 +192,9 @@ impl Script {
         ensures reads { OnOk result (EditReads self.old (replacement_of self.old.lines (edit_of edit)) (S.reads steps.old) (S.reads steps.new)) }
         ensures at_most { EditReadsAtMost self.old (replacement_of self.old.lines (edit_of edit)) (S.reads steps.old) (S.reads steps.new) }
         ensures unread { IsRefused (refusal_of (state_text self.old) (edit_of edit)) → S.reads steps.new ≡ S.reads steps.old }
+        ensures fills { OnOk result (EditFills self.old (replacement_of self.old.lines (edit_of edit)) (S.fills steps.old) (S.fills steps.new)) }
+        ensures fills_at_most { EditFillsAtMost self.old (replacement_of self.old.lines (edit_of edit)) (S.fills steps.old) (S.fills steps.new) }
+        ensures unfilled { IsRefused (refusal_of (state_text self.old) (edit_of edit)) → S.fills steps.new ≡ S.fills steps.old }
     {
         let (entry, made) = edit_made(
             alloc,
@@ -272,8 +276,8 @@ impl Script {
         Ok(())
     }
 
-    /// Sets the paper. No stanza is read; all else is made anew. On an error there was no memory, and nothing is changed (docs/RULES.md, "The
-    /// desk").
+    /// Sets the paper. No stanza is read; each page on the new paper is filled once, and all else is made anew. On an error
+    /// there was no memory, and nothing is changed (docs/RULES.md, "The desk").
     pub fn set_paper<S: Steps>(
         &mut self,
         alloc: Global,
@@ -283,7 +287,8 @@ impl Script {
         ensures state { OnOk result (self.new ≡ record self.old { paper = paper }) }
         ensures same { OnErr result (self.new ≡ self.old) }
         ensures reads { S.reads steps.new ≡ S.reads steps.old }
-        ensures fills { FilledAtMost (S.fills steps.old) (S.fills steps.new) (length (pages_of (record self.old { paper = paper }))) }
+        ensures fills { OnOk result (S.fills steps.new ≡ many_more (S.fills steps.old) (length (pages_of (record self.old { paper = paper })))) }
+        ensures fills_at_most { FilledAtMost (S.fills steps.old) (S.fills steps.new) (length (pages_of (record self.old { paper = paper }))) }
     {
         let (made, pages) = made_on(
             alloc,

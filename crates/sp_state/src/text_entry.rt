@@ -1,6 +1,7 @@
 //! What an edit displaced.
 ghost use Rattle.std.specs.Prelude.{◌≡◌, IfOk, IfErr, IsOk, OnOk, OnErr};
 ghost use Rattle.spec_text.specs.Edits.{refusal_of, replacement_of};
+ghost use Rattle.spec_text.specs.Lines.{line_texts};
 ghost use Rattle.spec_text.specs.Ranges.{range_of};
 ghost use Rattle.spec_state.specs.Changes.{edited_state};
 ghost use Rattle.spec_state.specs.Keeping.{IsWhole, state_of};
@@ -8,7 +9,7 @@ ghost use Rattle.spec_state.specs.StateSheets.{keys_in, layout_in};
 ghost use Rattle.sp_text.specs.Changing.{Refuses, edit_of};
 ghost use Rattle.sp_text.specs.Gap.{text_of};
 ghost use Rattle.sp_exchange.specs.Reads.{IsRefused};
-ghost use Rattle.sp_exchange.specs.Restoring.{CanRestoreText, HasRoomFor, text_before, text_stanzas};
+ghost use Rattle.sp_exchange.specs.Restoring.{AreDisplaced, CanRestoreText, HasRoomFor, text_before, text_stanzas};
 ghost use Rattle.sp_state.specs.TextEntries.{CanUndoText, CanRedoText, HasTextRoom, IsTextRedone, IsSameTextEntry, IsTextUndone, LeadsTextBack, LeadsTextForth, undone_text, redone_text, undone_lines, done_lines};
 ghost use Rattle.sp_made.specs.Made.{IsLaidOf};
 ghost use Rattle.sp_state.specs.Reads.{EditReads, EditReadsAtMost};
@@ -87,10 +88,12 @@ pub(crate) fn edit_entry<S: Steps>(
     ensures room { IfOk result (λ it. HasTextRoom lines.new stanzas.new it.0) }
     ensures stanzas { stanzas.new.stanzas ≡ text_stanzas (text_of lines.new) }
     ensures laid { IfOk result (λ it. IsLaidOf (state_of (text_of lines.new) records.new) it.1) }
+    ensures window { IfOk result (λ it. AreDisplaced (line_texts lines.old.lines) (line_texts lines.new.lines) (range_of (replacement_of lines.old.lines (edit_of edit))) it.0.stanzas) }
     ensures same { OnErr result (state_of (text_of lines.new) records.new ≡ state_of (text_of lines.old) records.old) }
     ensures reads { OnOk result (EditReads (state_of (text_of lines.old) records.old) (replacement_of lines.old.lines (edit_of edit)) (S.reads steps.old) (S.reads steps.new)) }
     ensures at_most { EditReadsAtMost (state_of (text_of lines.old) records.old) (replacement_of lines.old.lines (edit_of edit)) (S.reads steps.old) (S.reads steps.new) }
     ensures unread { IsRefused (refusal_of (text_of lines.old) (edit_of edit)) → S.reads steps.new ≡ S.reads steps.old }
+    ensures fills { S.fills steps.new ≡ S.fills steps.old }
 {
     let _count = lines.len();
     let before = record_starts(alloc, lines, olds.keys(), &records.pages)?;

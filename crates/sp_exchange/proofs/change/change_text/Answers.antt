@@ -10,7 +10,7 @@ use Rattle.sp_text.specs.Gap.{text_of}
 use Rattle.sp_reread.specs.Cache.{GivesBack}
 use Rattle.sp_exchange.specs.Reads.{ReadsAtMost, ReadsWindow}
 use Rattle.sp_exchange.specs.Restoring.{CanRestoreText, text_stanzas}
-use Rattle.sp_exchange.proofs.ReadLaws.{reads-window, reads-within, window-at-most}
+use Rattle.sp_exchange.proofs.ReadLaws.{displaced-window, reads-window, reads-within, window-at-most}
 use Rattle.sp_exchange.proofs.RestoreLaws.{lines-room, room-back, was-list}
 use Rattle.sp_exchange.proofs.change.change_text.Given.{Over}
 use Rattle.sp_exchange.proofs.change.change_text.Goals as goal
@@ -24,6 +24,13 @@ restore_in_room-requires-clause-room g c =
     let ensures = c.in_ok-displaced.ensures in
     lines-room c.args.lines.now c.change.new.self c.in_ok-displaced.displaced ensures.place ensures.back c.len-count.ensures.room ensures.room
 
+-- The displaced stanzas lead back.
+leads : (g : Over) (c : goal.In-Ok g) → GivesBack c.in-Ok.swapped (text_stanzas (text_of c.change.new.self)) (text_stanzas (text_of c.args.lines.now))
+leads g c =
+    let new = text_of c.change.new.self in
+    subst (GivesBack c.in-Ok.swapped (text_stanzas new)) c.requires
+    (subst (λ (xs : List StanzaOf). GivesBack c.in-Ok.swapped xs c.args.stanzas.now.stanzas) c.in-Ok.ensures.list c.in-Ok.ensures.back)
+
 pub returns-in-Ok-clause-room : goal.returns-in-Ok-clause-room
 returns-in-Ok-clause-room g c =
     let new = text_of c.change.new.self in
@@ -32,11 +39,22 @@ returns-in-Ok-clause-room g c =
     let can : CanRestoreText new back c.in-Ok.swapped = record {
       place = ensures.place;
       keeps = ensures.again;
-      stanzas = subst (GivesBack c.in-Ok.swapped (text_stanzas new)) (c.requires ∙ ap text_stanzas (sym ensures.back))
-          (subst (λ (xs : List StanzaOf). GivesBack c.in-Ok.swapped xs c.args.stanzas.now.stanzas) c.in-Ok.ensures.list c.in-Ok.ensures.back);
+      stanzas = subst (GivesBack c.in-Ok.swapped (text_stanzas new)) (ap text_stanzas (sym ensures.back)) (leads g c);
     } in
     room-back c.args.lines.now c.change.new.self c.args.stanzas.now c.reread.new.stanzas back c.in-Ok.swapped can ensures.back c.requires c.in-Ok.ensures.list
     c.len-count.ensures.room ensures.room c.len-stanzas.ensures.enough c.in-Ok.ensures.room ensures.displaced_room c.in-Ok.ensures.back_room
+
+-- The window that was counted.
+counted : (g : Over) (c : goal.In-Ok g) → CountsWindow (text_stanzas (text_of c.args.lines.now)) (line_texts c.change.new.self.lines) c.in_ok-displaced.displaced.first (length c.in_ok-displaced.displaced.lines) c.in_ok-displaced.displaced.stands c.in-Ok.swapped.at c.in-Ok.swapped.stands
+counted g c =
+    subst (λ (xs : List StanzaOf). CountsWindow xs (line_texts c.change.new.self.lines) c.in_ok-displaced.displaced.first (length c.in_ok-displaced.displaced.lines) c.in_ok-displaced.displaced.stands c.in-Ok.swapped.at c.in-Ok.swapped.stands) c.requires c.in-Ok.ensures.window
+
+pub returns-in-Ok-clause-window : goal.returns-in-Ok-clause-window
+returns-in-Ok-clause-window g c =
+    let old = text_of c.args.lines.now in
+    let new = text_of c.change.new.self in
+    let ensures = c.in_ok-displaced.ensures in
+    displaced-window old new (edit_of c.args.edit) (displaced_of c.in_ok-displaced.displaced) c.in-Ok.swapped ensures.refuses ensures.displaced ensures.place ensures.back (counted g c) (leads g c)
 
 -- What was read where all went well.
 read : (g : Over) (c : goal.In-Ok g) → let old = text_of c.args.lines.now in let it = replacement_of old.lines (edit_of c.args.edit) in
@@ -45,8 +63,7 @@ read g c =
     let ensures = c.in_ok-displaced.ensures in
     reads-window (text_of c.args.lines.now) (text_of c.change.new.self) (edit_of c.args.edit) (displaced_of c.in_ok-displaced.displaced) c.in-Ok.swapped.at c.in-Ok.swapped.stands
     (g.S.Steps.reads c.args.steps.now) (g.S.Steps.reads c.reread.new.steps) ensures.refuses ensures.displaced ensures.place ensures.back
-    (subst (λ (xs : List StanzaOf). CountsWindow xs (line_texts c.change.new.self.lines) c.in_ok-displaced.displaced.first (length c.in_ok-displaced.displaced.lines) c.in_ok-displaced.displaced.stands c.in-Ok.swapped.at c.in-Ok.swapped.stands) c.requires c.in-Ok.ensures.window)
-    c.in-Ok.ensures.reads
+    (counted g c) c.in-Ok.ensures.reads
 
 pub returns-in-Ok-clause-reads : goal.returns-in-Ok-clause-reads
 returns-in-Ok-clause-reads g c =

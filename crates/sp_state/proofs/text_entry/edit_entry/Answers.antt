@@ -64,3 +64,6 @@ returns-in-Ok-clause-at_most g c =
     let it = replacement_of old.lines (edit_of c.args.edit) in
     subst (λ (r : RecordsOf). ReadsAtMost (line_texts old.lines) (line_texts (changed old it r.round).lines) (range_of it) (g.S.Steps.reads c.args.steps.now) (g.S.Steps.reads c.change_text.new.steps))
     c.records.view_is c.in_ok-displaced.ensures.at_most
+
+pub returns-in-Ok-clause-window : goal.returns-in-Ok-clause-window
+returns-in-Ok-clause-window g c = c.in_ok-displaced.ensures.window

@@ -1,0 +1,43 @@
+-- How many pages an edit fills.
+use Rattle.std.proofs.Common.{◌≡◌, ℕ, List, length, refl, ap, subst, ◌∙◌, arith}
+use Rattle.spec_text.specs.Edits.{Replacement}
+use Rattle.spec_text.specs.Ranges.{RangeOf, range_of}
+use Rattle.spec_pages.specs.Pages.{rows_on}
+use Rattle.spec_state.specs.State.{State}
+use Rattle.spec_state.specs.Changes.{edited_state}
+use Rattle.spec_reflow.specs.Windows.{Exchange, page_window}
+use Rattle.spec_locked_pages.specs.LockedPages.{IsWindowOf}
+use Rattle.spec_locked_pages.specs.Segments.{pages_of}
+use Rattle.spec_refill.specs.Exchanges.{edit_exchange, filled_pages}
+use Rattle.sp_reflow.specs.Filling.{FilledAtMost}
+use Rattle.sp_reflow.specs.Starts.{many_more}
+use Rattle.sp_state.specs.Fills.{EditFills, EditFillsAtMost, FillsAtMost}
+
+-- An exchange of rows is that of an edit.
+pub record IsExchangeOf (state : State) (it : Replacement) (edit : Exchange) : Type 0 where
+  pub is : (a b : ℕ) → IsWindowOf (range_of it) state (edited_state state it) a b → edit ≡ edit_exchange (range_of it) state (edited_state state it) a b
+
+-- The pages that are filled are those of the page window of the edit.
+window-edited : (old new : State) (it : Replacement) (edit : Exchange) (starts : List ℕ) (a b : ℕ) → new ≡ edited_state old it → starts ≡ pages_of old → IsExchangeOf old it edit → IsWindowOf (range_of it) old (edited_state old it) a b
+    → page_window (rows_on new.paper) edit starts (pages_of new) ≡ filled_pages (range_of it) old (edited_state old it) a b
+window-edited old new it edit starts a b led starts_are found window =
+    let after = edited_state old it in
+    ap (λ (s : State). page_window (rows_on s.paper) edit starts (pages_of s)) led
+    ∙ ap (λ (e : Exchange). page_window (rows_on after.paper) e starts (pages_of after)) (found.is a b window)
+    ∙ ap (λ (l : List ℕ). page_window (rows_on after.paper) (edit_exchange (range_of it) old after a b) l (pages_of after)) starts_are
+
+pub fills-edited : (old new : State) (it : Replacement) (edit : Exchange) (starts : List ℕ) (fills fills' : ℕ) → new ≡ edited_state old it → starts ≡ pages_of old → IsExchangeOf old it edit
+    → fills' ≡ many_more fills (length (page_window (rows_on new.paper) edit starts (pages_of new))) → EditFills old it fills fills'
+fills-edited old new it edit starts fills fills' led starts_are found counts = record {
+  counted = λ a b window. counts ∙ ap (λ (l : List ℕ). many_more fills (length l)) (window-edited old new it edit starts a b led starts_are found window);
+}
+
+pub fills-within : (old new : State) (it : Replacement) (edit : Exchange) (starts : List ℕ) (fills fills' : ℕ) → new ≡ edited_state old it → starts ≡ pages_of old → IsExchangeOf old it edit
+    → FilledAtMost fills fills' (length (page_window (rows_on new.paper) edit starts (pages_of new))) → EditFillsAtMost old it fills fills'
+fills-within old new it edit starts fills fills' led starts_are found counts = record {
+  counted = λ a b window. subst (λ (l : List ℕ). FilledAtMost fills fills' (length l)) (window-edited old new it edit starts a b led starts_are found window) counts;
+}
+
+-- An edit that finds no memory may fill no page.
+pub none-filled : (old new : State) (range : RangeOf) (fills : ℕ) → FillsAtMost old new range fills fills
+none-filled old new range fills = record { counted = λ a b w. record { count = 0; within = omega arith; is = refl } }
