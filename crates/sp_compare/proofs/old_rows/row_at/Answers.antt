@@ -1,7 +1,7 @@
 use Rattle.std.proofs.Common.{List, get_or, ap, sym, ◌∙◌}
 use Rattle.spec_pages.specs.Rows.{ElementOf}
 use Rattle.sp_compare.proofs.RowPlaces.{row-there}
-use Rattle.sp_compare.proofs.both.row_at.Goals as goal
+use Rattle.sp_compare.proofs.old_rows.row_at.Goals as goal
 
 pub returns : goal.returns
 returns c = λ d.
