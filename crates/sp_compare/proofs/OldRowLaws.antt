@@ -11,7 +11,7 @@ use Rattle.spec_state.specs.SameRows.{BareRow}
 use Rattle.sp_splice.specs.Moves.{shifted}
 use Rattle.sp_splice.specs.Runs.{exchanged}
 use Rattle.sp_layout.specs.Bodies.{KeyedElements, StandsIn, row_count}
-use Rattle.sp_layout.specs.Exchanges.{moved_element, with_run}
+use Rattle.sp_layout.specs.Exchanges.{CanMove, moved_element, with_run}
 use Rattle.sp_layout.proofs.BodyExchanges.{count-append, count-moved}
 use Rattle.sp_compare.specs.BareRows.{AreSameAround, StayOutside, bare_row, bare_rows}
 use Rattle.sp_compare.proofs.RowLists.{map-slice}
@@ -134,10 +134,21 @@ row-behind elements to less more row place start element it d stands begin is ow
     row-there moved row k (start - row_count (take to elements)) (moved_element less more element) it d at begins got
     (own ∙ ap (λ n. get_or element.rows n it) row_is)
 
+-- Its lines can be moved.
+pub moves-here : (elements : List ElementOf) (to less more row place : ℕ) (element : ElementOf) → StandsIn elements (row_count (take to elements) + row) place → element ≡ get_or elements place element
+    → All (CanMove less more) (drop to elements) → CanMove less more element
+moves-here elements to less more row place element stands is all =
+    let low = at-or-behind elements to row place stands in
+    let sum : to + (place - to) ≡ place = omega (arith, low) in
+    let inside = stands.inside in
+    let left = length-drop to elements in
+    subst (CanMove less more) (get_or-drop to elements (place - to) element ∙ ap (λ n. get_or elements n element) sum ∙ sym is)
+    (all (place - to) element (omega (arith, inside, low, left)))
+
 -- ---- keys
 
-pub keys-parts : (keys others : List RowKey) (row end : ℕ) → row ≤ length keys → (i : ℕ) (d : RowKey) → i < row → get_or (exchanged keys row end others) i d ≡ get_or keys i d
-keys-parts keys others row end within i d here =
+pub key-front : (keys others : List RowKey) (row end i : ℕ) (d : RowKey) → row ≤ length keys → i < row → get_or (exchanged keys row end others) i d ≡ get_or keys i d
+key-front keys others row end i d within here =
     let size = length-take-le row keys within in
     get_or-append (take row keys) (others ++ drop end keys) d i (omega (arith, size, here))
     ∙ sym (ap (λ (ks : List RowKey). get_or ks i d) (sym (take-append-drop row keys)) ∙ get_or-append (take row keys) (drop row keys) d i (omega (arith, size, here)))

@@ -121,17 +121,20 @@ impl<'a> BothTexts<'a> {
     {
         let one = self.olds.row(row);
         let it = row_at(self.news, other);
-        same_key(one.key, it.key)
-            && same_shape(one.row.shape, it.row.shape)
-            && one.row.mark == it.row.mark
-            && same_cells(
-                &self.old,
-                one.first,
-                &one.row.cells,
-                self.new,
-                it.first,
-                &it.row.cells,
-            )
+        let was = one.row;
+        let now = it.row;
+        if !same_key(one.key, it.key) {
+            return false;
+        }
+        if !same_shape(was.shape, now.shape) {
+            return false;
+        }
+        if was.mark != now.mark {
+            return false;
+        }
+        same_cells(
+            &self.old, one.first, &was.cells, self.new, it.first, &now.cells,
+        )
     }
 
     /// Whether so many rows before the change and after it are the same.
@@ -140,8 +143,8 @@ impl<'a> BothTexts<'a> {
         requires new { start + count ≤ row_count self.now.news }
         ensures { result ≡ same_list (bare_rows self.now.old self.now.olds from (from + count)) (bare_rows self.now.new self.now.news start (start + count)) }
     {
-        let _olds = self.olds.shapes();
-        let _news = self.news.shapes();
+        let _olds = self.olds.rows();
+        let _news = self.news.rows();
         for k in 0..count {
             if !self.same_row(from + k, start + k) {
                 return false;
@@ -159,9 +162,10 @@ impl<'a> BothTexts<'a> {
         if from == start && to <= self.same_to {
             return true;
         }
-        self.old_from <= from
-            && self.new_from <= start
-            && from - self.old_from == start - self.new_from
+        if from < self.old_from || start < self.new_from {
+            return false;
+        }
+        from - self.old_from == start - self.new_from
     }
 
     /// Whether the rows from one to before another, before the change, are the same as those after it: by their keys,
@@ -177,6 +181,9 @@ impl<'a> BothTexts<'a> {
         if to - from != end - start {
             return false;
         }
-        self.are_aside(from, to, start) || self.same_run(from, start, to - from)
+        if self.are_aside(from, to, start) {
+            return true;
+        }
+        self.same_run(from, start, to - from)
     }
 }

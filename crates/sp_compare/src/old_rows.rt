@@ -43,6 +43,7 @@ fn row_behind(body: &Body, to: usize, less: u64, more: u64, row: usize) -> Keyed
     ensures row { (d : RowValue) → slice_index_or (placed_in (map (moved_element less more) (drop to body.now.elements))) row d ≡ shifted_row result.first result.row.now }
     ensures key { (d : RowKeyValue) → slice_index_or body.now.keys (row_count (take to body.now.elements) + row) d ≡ result.key }
 {
+    let _len = body.len();
     let place = body.rows_before(to) + row;
     let it = body.element_of_row(place);
     let start = body.row_start(it);
