@@ -2,3 +2,5 @@ pub mod Exchanged
 pub mod CellLists
 pub mod RowLists
 pub mod RowPlaces
+pub mod OldRowLaws
+pub mod SameLaws

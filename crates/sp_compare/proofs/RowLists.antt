@@ -1,15 +1,18 @@
 -- Rows, compared one by one.
 use Rattle.std.proofs.Common.{◌≡◌, ◌≢◌, ℕ, zero, suc, ◌+◌, ◌-◌, ◌<◌, ◌≤◌, Bool, true, false, Option, List, [], ◌∷◌, ◌++◌, length, map, take, drop, get_or, refl, sym, ap, ap₂, ◌∙◌, arith, length-drop}
-use Rattle.std.specs.Prelude.{◌&&◌, slice_range}
-use Rattle.std.proofs.lemmas.List.{drop_more, length-map, length-take, map-append}
+use Rattle.std.specs.Prelude.{◌&&◌, nat_eq, slice_range}
+use Rattle.std.proofs.lemmas.Bool.{and_left, and_right}
+use Rattle.std.proofs.lemmas.List.{drop_more, get_or-map, length-map, length-take, map-append}
 use Rattle.spec_text.specs.Lines.{LineState, line_texts}
-use Rattle.spec_pages.specs.Rows.{Row, ElementOf, placed_rows}
+use Rattle.spec_pages.specs.Rows.{Row, ElementOf, placed_rows, shifted_row}
+use Rattle.spec_labels.specs.declared.RowKey.{RowKey}
 use Rattle.spec_labels.specs.Labels.{LabelOf}
 use Rattle.spec_layout.specs.Cells.{ShownCell}
 use Rattle.spec_layout.specs.Layout.{placed_in}
-use Rattle.spec_layout.specs.Shown.{element_cue, heading_label, labels_behind, shown_of, shown_rows}
-use Rattle.spec_state.specs.SameRows.{BareRow, bare_of, same_list, same_row}
-use Rattle.sp_compare.specs.BareRows.{bare_row, bare_rows}
+use Rattle.spec_layout.specs.Shown.{element_cue, heading_label, labels_behind, row_key, shown_of, shown_rows}
+use Rattle.spec_state.specs.SameRows.{BareRow, bare_of, same_cells, same_key, same_list, same_row, same_shape}
+use Rattle.sp_layout.specs.Bodies.{KeyedElements, row_count}
+use Rattle.sp_compare.specs.BareRows.{AreLaid, bare_cells, bare_row, bare_rows}
 
 -- ---- rows, as an edit sees them
 
@@ -83,3 +86,35 @@ pub rows-step : (old new : List LineState) (olds news : List ElementOf) (from to
     ≡ (same_row (bare_row old (get_or (placed_in olds) from d)) (bare_row new (get_or (placed_in news) start d)) && same_list (bare_rows old olds (from + 1) to) (bare_rows new news (start + 1) end))
 rows-step old new olds news from to start end d order within order' within' =
     ap₂ (λ (xs ys : List Row). same_list (map (bare_row old) xs) (map (bare_row new) ys)) (slice-more (placed_in olds) from to d order within) (slice-more (placed_in news) start end d order' within')
+
+-- ---- a row, by what stands of it in its element
+
+pub bare-at : (lines : List LineState) (body : KeyedElements) (row first : ℕ) (it : Row) (key : RowKey) (d : Row) → AreLaid lines body → row < row_count body.elements
+    → get_or (placed_in body.elements) row d ≡ shifted_row first it → ((e : RowKey) → get_or body.keys row e ≡ key)
+    → bare_row lines (get_or (placed_in body.elements) row d) ≡ (let bare : BareRow = record { key = key; shape = it.shape; mark = it.mark; cells = bare_cells (line_texts lines) first it.cells } in bare)
+bare-at lines body row first it key d laid inside there keyed =
+    let own : row_key lines (shifted_row first it) ≡ key =
+    ap (row_key lines) (sym there) ∙ sym (get_or-map (row_key lines) (placed_in body.elements) row d (row_key lines d) inside)
+    ∙ ap (λ (keys : List RowKey). get_or keys row (row_key lines d)) (sym laid.keys) ∙ keyed (row_key lines d) in
+    ap (bare_row lines) there
+    ∙ ap (λ (k : RowKey). let bare : BareRow = record { key = k; shape = it.shape; mark = it.mark; cells = bare_cells (line_texts lines) first it.cells } in bare) own
+
+pub other-key : (one other : BareRow) → same_key one.key other.key ≡ false → same_row one other ≡ false
+other-key one other differ = and_left (same_key one.key other.key) (same_shape one.shape other.shape && (nat_eq one.mark other.mark && same_cells one.cells other.cells)) differ
+
+pub other-shape : (one other : BareRow) → same_shape one.shape other.shape ≡ false → same_row one other ≡ false
+other-shape one other differ =
+    let rest = nat_eq one.mark other.mark && same_cells one.cells other.cells in
+    and_right (same_key one.key other.key) (same_shape one.shape other.shape && rest) (and_left (same_shape one.shape other.shape) rest differ)
+
+pub other-mark : (one other : BareRow) → nat_eq one.mark other.mark ≡ false → same_row one other ≡ false
+other-mark one other differ =
+    let rest = nat_eq one.mark other.mark && same_cells one.cells other.cells in
+    and_right (same_key one.key other.key) (same_shape one.shape other.shape && rest)
+    (and_right (same_shape one.shape other.shape) rest (and_left (nat_eq one.mark other.mark) (same_cells one.cells other.cells) differ))
+
+pub by-cells : (one other : BareRow) → same_key one.key other.key ≡ true → same_shape one.shape other.shape ≡ true → nat_eq one.mark other.mark ≡ true → same_row one other ≡ same_cells one.cells other.cells
+by-cells one other key shape mark =
+    ap (λ (b : Bool). b && (same_shape one.shape other.shape && (nat_eq one.mark other.mark && same_cells one.cells other.cells))) key
+    ∙ ap (λ (b : Bool). b && (nat_eq one.mark other.mark && same_cells one.cells other.cells)) shape
+    ∙ ap (λ (b : Bool). b && same_cells one.cells other.cells) mark

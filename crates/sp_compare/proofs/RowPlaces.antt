@@ -6,7 +6,7 @@ use Rattle.spec_pages.specs.Rows.{Row, ElementOf, placed_rows, shifted_row}
 use Rattle.spec_layout.specs.Layout.{placed_in}
 use Rattle.sp_layout.specs.Bodies.{StandsIn, row_count}
 
-placed_in-append : (elements others : List ElementOf) → placed_in (elements ++ others) ≡ placed_in elements ++ placed_in others
+pub placed_in-append : (elements others : List ElementOf) → placed_in (elements ++ others) ≡ placed_in elements ++ placed_in others
 placed_in-append [] others = refl
 placed_in-append (element ∷ elements) others =
     ap (λ (rows : List Row). placed_rows element ++ rows) (placed_in-append elements others) ∙ sym (append_assoc (placed_rows element) (placed_in elements) (placed_in others))

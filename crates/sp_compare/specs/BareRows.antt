@@ -1,5 +1,5 @@
 -- Rows of elements as an edit sees them (docs/RULES.md, "Edits and records").
-use Rattle.std.specs.Prelude.{◌≡◌, ◌+◌, ℕ, if◌then◌else◌, List, [], ◌∷◌, map, slice_range, All}
+use Rattle.std.specs.Prelude.{◌≡◌, ◌+◌, ◌≤◌, ℕ, if◌then◌else◌, List, [], ◌∷◌, map, take, drop, slice_range, All}
 use Rattle.spec_text.specs.Lines.{LineState, line_texts}
 use Rattle.spec_script.specs.declared.Run.{Run}
 use Rattle.spec_pages.specs.Rows.{Cell, Row, ElementOf, shifted_cell}
@@ -7,7 +7,8 @@ use Rattle.spec_layout.specs.Cells.{RowShows, ShownCell, continued, shown_cell, 
 use Rattle.spec_layout.specs.Layout.{placed_in}
 use Rattle.spec_layout.specs.Shown.{row_key}
 use Rattle.spec_state.specs.SameRows.{BareRow}
-use Rattle.sp_layout.specs.Bodies.{BodyOf}
+use Rattle.sp_layout.specs.Bodies.{KeyedElements, row_count}
+use Rattle.sp_layout.specs.Exchanges.{moved_element}
 
 -- Cells of an element that begins at a line, without a written number.
 abbrev pub bare_cells : List (List ℕ) → ℕ → List Cell → List ShownCell
@@ -28,13 +29,26 @@ abbrev pub own_runs : Cell → List Run
 own_runs cell = if cell.fixed then whole ∷ [] else cell.runs
 
 -- Elements of lines: rows show parts of the lines, and have their keys.
-pub record AreLaid (lines : List LineState) (body : BodyOf) : Type 0 where
+pub record AreLaid (lines : List LineState) (body : KeyedElements) : Type 0 where
   pub keys : body.keys ≡ map (row_key lines) (placed_in body.elements)
   pub show : All (RowShows (line_texts lines)) (placed_in body.elements)
 
 -- The rows from one to before another.
 abbrev pub bare_rows : List LineState → List ElementOf → ℕ → ℕ → List BareRow
 bare_rows lines elements from to = map (bare_row lines) (slice_range (placed_in elements) from to)
+
+-- The first rows of two texts are the same, and those from some row of the one on are those from some row of the other on.
+pub record AreSameAround (old : List LineState) (olds : List ElementOf) (new : List LineState) (news : List ElementOf) (same_to old_from new_from : ℕ) : Type 0 where
+  pub old_low : old_from ≤ row_count olds
+  pub new_low : new_from ≤ row_count news
+  pub front : take same_to (map (bare_row old) (placed_in olds)) ≡ take same_to (map (bare_row new) (placed_in news))
+  pub behind : drop old_from (map (bare_row old) (placed_in olds)) ≡ drop new_from (map (bare_row new) (placed_in news))
+
+-- An edit left the rows of elements but for those from one place to before another, whose lines were less and more by so much
+-- behind these.
+pub record StayOutside (old new : List LineState) (elements : List ElementOf) (from to less more : ℕ) : Type 0 where
+  pub front : map (bare_row old) (placed_in (take from elements)) ≡ map (bare_row new) (placed_in (take from elements))
+  pub behind : map (bare_row old) (placed_in (map (moved_element less more) (drop to elements))) ≡ map (bare_row new) (placed_in (drop to elements))
 
 -- A text and its elements before a change and after it.
 pub record Both : Type 0 where

@@ -5,6 +5,7 @@
 mod both;
 mod cells;
 mod old_lines;
+mod old_rows;
 mod shapes;
 
 pub use both::BothTexts;

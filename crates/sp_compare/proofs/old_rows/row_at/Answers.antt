@@ -1,10 +1,11 @@
 use Rattle.std.proofs.Common.{List, get_or, ap, sym, ◌∙◌}
 use Rattle.spec_pages.specs.Rows.{ElementOf}
+use Rattle.spec_labels.specs.declared.RowKey.{RowKey}
 use Rattle.sp_compare.proofs.RowPlaces.{row-there}
-use Rattle.sp_compare.proofs.both.row_at.Goals as goal
+use Rattle.sp_compare.proofs.old_rows.row_at.Goals as goal
 
-pub returns : goal.returns
-returns c = λ d.
+pub returns-clause-row : goal.returns-clause-row
+returns-clause-row c = λ d.
     let elements = c.args.body.now.elements in
     let place = c.element_of_row-place.result in
     let element : ElementOf = record { first = c.element.inside.first; rows = c.element.inside.rows.items } in
