@@ -2,7 +2,8 @@
 ghost use Rattle.std.specs.Prelude.{◌<◌, ◌≤◌, length, slice_index, AllPairs};
 ghost use Rattle.sp_layout.specs.Places.{CountsBelow, IsLastStart};
 
-/// How many of the places are below the bound. Each step halves the places that are left.
+/// How many of these places, which never fall, are below a bound, as page breaks are before a row (docs/RULES.md, "Pages").
+/// Each step halves the places that are left.
 pub fn count_below(places: &[usize], bound: usize) -> usize
     requires { AllPairs (λ one other. one ≤ other) places.now }
     ensures { CountsBelow places.now bound result }

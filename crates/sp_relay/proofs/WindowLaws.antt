@@ -1,10 +1,11 @@
 -- A layout before an edit, by the window of the edit.
-use Rattle.std.proofs.Common.{◌≡◌, ℕ, ◌+◌, ◌-◌, Bool, take, drop, slice_range, sym, ap, subst, ◌∙◌, arith, take-take, drop-drop}
-use Rattle.spec_text.specs.Lines.{TextState, IsText, line_texts}
+use Rattle.std.proofs.Common.{◌≡◌, ℕ, ◌+◌, ◌-◌, ◌≤◌, Bool, List, ◌++◌, take, drop, slice_range, sym, ap, subst, ◌∙◌, arith, take-take, drop-drop, length, length-append, length-take, append_assoc, take_at, drop_at}
+use Rattle.spec_text.specs.Lines.{LineState, TextState, IsText, line_texts}
 use Rattle.spec_script.specs.Stanzas.{stanzas_of}
 use Rattle.spec_layout.specs.Layout.{layout_of}
 use Rattle.spec_reread.specs.Windows.{IsEdited, IsWindow, stanza_lines_in, stanzas_between}
 use Rattle.spec_reread.proofs.Counts.{count-between}
+use Rattle.spec_reread.proofs.Edits.{edited-lines}
 use Rattle.spec_reread.proofs.Resync.{window-cuts, old-cuts}
 use Rattle.spec_relayout.proofs.WindowSides.{window-sides}
 use Rattle.spec_relay.proofs.StanzaBlocks.{lines-append}
@@ -55,3 +56,23 @@ was-laid before after swapped on layout first old new a b keeps was start rest e
       rest = ap (λ n. drop n before.lines) (was_is ∙ sym there) ∙ sym (drop-drop m (first + old) before.lines) ∙ ap (drop m) rest ∙ drop-drop m (first + new) after.lines
           ∙ ap (λ n. drop n after.lines) (here ∙ sym end_is);
     }
+
+-- The same where the edit put some lines in the place of others.
+pub was-laid-put : (before after : TextState) (others : List LineState) (swapped : SwappedState) (on : Bool) (layout : LayoutOf) (first old a b : ℕ) → IsText before → layout ≡ keyed before.lines (layout_of on before.lines)
+    → first + old ≤ length before.lines → after.lines ≡ take first before.lines ++ (others ++ drop (first + old) before.lines)
+    → IsWindow (line_texts before.lines) (line_texts after.lines) first old (length others) a b
+    → GivesBack swapped (stanzas_of (line_texts after.lines)) (stanzas_of (line_texts before.lines))
+    → take swapped.at (stanzas_of (line_texts after.lines)) ≡ stanzas_between (line_texts before.lines) 0 a
+    → take swapped.stands (drop swapped.at (stanzas_of (line_texts after.lines))) ≡ stanzas_between (line_texts after.lines) a b
+    → swapped.stanzas ≡ stanzas_between (line_texts before.lines) a (b + old - length others)
+    → WasLaid after.lines (stanzas_of (line_texts after.lines)) swapped on layout
+was-laid-put before after others swapped on layout first old a b keeps was low is window back front_are come_are gone_are =
+    let front = take first before.lines in
+    let rest = drop (first + old) before.lines in
+    let count : length front ≡ first = omega (arith, length-take first before.lines, low) in
+    let both : length (front ++ others) ≡ first + length others = omega (arith, length-append front others, count) in
+    let start : front ≡ take first after.lines = sym (ap (take first) is ∙ take_at front (others ++ rest) first count) in
+    let behind : rest ≡ drop (first + length others) after.lines =
+    sym (ap (drop (first + length others)) (is ∙ sym (append_assoc front others rest)) ∙ drop_at (front ++ others) rest (first + length others) both) in
+    let edited = subst (λ (ls : List LineState). IsEdited (line_texts before.lines) (line_texts ls) first old (length others)) (sym is) (edited-lines before.lines others first old low) in
+    was-laid before after swapped on layout first old (length others) a b keeps was start behind edited window back front_are come_are gone_are

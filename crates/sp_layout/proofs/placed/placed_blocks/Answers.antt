@@ -1,6 +1,5 @@
-use Rattle.std.proofs.Common.{◌≡◌, ◌-◌, List, take, slice_range, ap, ◌∙◌, arith, take_all}
+use Rattle.std.proofs.Common.{◌≡◌, ◌-◌, take, slice_range, ap, ◌∙◌, arith, take_all}
 use Rattle.std.proofs.lemmas.Result.{IfOk-weaker}
-use Rattle.spec_script.specs.BlockValues.{StanzaOf}
 use Rattle.spec_script.specs.Stanzas.{blocks_from}
 use Rattle.spec_reread.specs.Windows.{stanza_lines_in}
 use Rattle.sp_layout.proofs.placed.placed_blocks.Goals as goal
