@@ -35,7 +35,7 @@ use Rattle.spec_machine.proofs.PageKeeps.{edited-pages}
 use Rattle.spec_machine.proofs.WholeStates.{edit-whole}
 use Rattle.spec_state.proofs.StateKeys.{state-row_keys}
 use Rattle.spec_state.proofs.StateLaws.{state-AreAnchored, state-AreStarts}
-use Rattle.sp_layout.specs.Bodies.{BodyOf, row_count}
+use Rattle.sp_layout.specs.Bodies.{KeyedElements, row_count}
 use Rattle.sp_compare.specs.BareRows.{AreLaid, Both}
 use Rattle.sp_exchange.specs.Restoring.{CanRestoreText}
 use Rattle.sp_state.specs.TextEntries.{TextEntryState, FitRecords, LeadsTextBack, displaced, undone_records, with_text}
@@ -236,7 +236,7 @@ starts-segments state (Some records) place lines starts whole is begin =
 -- ---- a text laid out before an edit and after it
 
 -- The rows of a whole state lie in its lines.
-pub whole-laid : (state : State) (body : BodyOf) → IsWhole state → body.elements ≡ (layout_in state).body → body.keys ≡ keys_in state → AreLaid state.lines body
+pub whole-laid : (state : State) (body : KeyedElements) → IsWhole state → body.elements ≡ (layout_in state).body → body.keys ≡ keys_in state → AreLaid state.lines body
 whole-laid state body whole elements keys = record {
   keys = keys ∙ state-row_keys state ∙ ap (λ (es : List ElementOf). map (row_key state.lines) (placed_in es)) (sym elements);
   show = subst (λ (es : List ElementOf). All (RowShows (line_texts state.lines)) (placed_in es)) (sym elements) (layout_of-show state.speakers (text_of state) whole.text).1;

@@ -11,7 +11,7 @@ ghost use Rattle.sp_text.specs.DisplacedLines.{displaced_of};
 ghost use Rattle.sp_text.specs.Gap.{text_of};
 ghost use Rattle.sp_exchange.specs.Restoring.{text_stanzas};
 ghost use Rattle.sp_compare.specs.BareRows.{AreLaid};
-ghost use Rattle.sp_layout.specs.Bodies.{row_count};
+ghost use Rattle.sp_layout.specs.Bodies.{keyed_elements, row_count};
 ghost use Rattle.sp_layout.specs.LaidOut.{keyed};
 ghost use Rattle.sp_made.specs.Made.{IsLaidOf, key_starts};
 ghost use Rattle.sp_state.specs.Raised.{AreCarried, AreSegments, FitPages, put_back_in, raises_in, records_carried, records_raised, state_before};
@@ -71,7 +71,7 @@ fn raises_among(
     requires whole { IsWhole (state_of (text_of lines.now) records.now) }
     requires place { displaced.now.first + displaced.now.stands ≤ length lines.now.lines }
     requires text { IsText (restored (text_of lines.now) (displaced_of displaced.now)) }
-    requires olds { AreLaid (restored (text_of lines.now) (displaced_of displaced.now)).lines olds.now }
+    requires olds { AreLaid (restored (text_of lines.now) (displaced_of displaced.now)).lines (keyed_elements olds.now) }
     requires before { IfSome records.now.pages (λ those. AreSegments (row_count olds.now.elements) (length those) before.now) }
     requires layout { layout.now ≡ keyed lines.now.lines (layout_in (state_of (text_of lines.now) records.now)) }
     ensures { IfOk result (λ moved. (labels : Option (List LabelOf)) → moved.items ≡ raises_in (segment_rows (shown_rows (restored (text_of lines.now) (displaced_of displaced.now)).lines labels olds.now.elements) before.now) (state_of (text_of lines.now) records.now) records.now.pages) }
@@ -99,7 +99,7 @@ fn laid_with_raises(
     requires whole { IsWhole (state_of (text_of lines.now) records.now) }
     requires place { displaced.now.first + displaced.now.stands ≤ length lines.now.lines }
     requires text { IsText (restored (text_of lines.now) (displaced_of displaced.now)) }
-    requires olds { AreLaid (restored (text_of lines.now) (displaced_of displaced.now)).lines olds.now }
+    requires olds { AreLaid (restored (text_of lines.now) (displaced_of displaced.now)).lines (keyed_elements olds.now) }
     requires before { IfSome records.now.pages (λ those. AreSegments (row_count olds.now.elements) (length those) before.now) }
     ensures laid { IfOk result (λ it. IsLaidOf (state_of (text_of lines.now) records.now) it.0) }
     ensures raises { IfOk result (λ it. (labels : Option (List LabelOf)) → it.1.items ≡ raises_in (segment_rows (shown_rows (restored (text_of lines.now) (displaced_of displaced.now)).lines labels olds.now.elements) before.now) (state_of (text_of lines.now) records.now) records.now.pages) }

@@ -5,13 +5,14 @@ use Rattle.spec_state.specs.Changes.{segment_rows}
 use Rattle.spec_state.specs.Keeping.{state_of}
 use Rattle.sp_text.specs.DisplacedLines.{displaced_of}
 use Rattle.sp_text.specs.Gap.{text_of}
+use Rattle.sp_layout.specs.Bodies.{keyed_elements}
 use Rattle.sp_state.specs.Raised.{state_before}
 use Rattle.sp_state.proofs.CarriedLaws.{before-segments, raised-fit, raised-here, whole-laid}
 use Rattle.sp_state.proofs.carrying.carry_and_raise.Goals as goal
 
 pub laid_with_raises-requires-clause-olds : goal.laid_with_raises-requires-clause-olds
 laid_with_raises-requires-clause-olds c =
-    whole-laid (state_before (text_of c.args.lines.now) (displaced_of c.args.displaced.now) c.args.records.now) c.args.olds.now c.requires.whole c.requires.olds c.requires.keys
+    whole-laid (state_before (text_of c.args.lines.now) (displaced_of c.args.displaced.now) c.args.records.now) (keyed_elements c.args.olds.now) c.requires.whole c.requires.olds c.requires.keys
 
 pub laid_with_raises-requires-clause-before : goal.laid_with_raises-requires-clause-before
 laid_with_raises-requires-clause-before c =

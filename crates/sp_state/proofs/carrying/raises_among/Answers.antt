@@ -12,7 +12,7 @@ use Rattle.spec_text.specs.Edits.{restored}
 use Rattle.sp_text.specs.DisplacedLines.{displaced_of}
 use Rattle.sp_text.specs.Gap.{text_of}
 use Rattle.sp_compare.specs.BareRows.{Both}
-use Rattle.sp_layout.specs.Bodies.{row_count}
+use Rattle.sp_layout.specs.Bodies.{keyed_elements, row_count}
 use Rattle.sp_layout.specs.LaidOut.{LayoutOf}
 use Rattle.sp_state.specs.Raised.{AreSegments}
 use Rattle.sp_state.proofs.CarriedLaws.{own-segments, raises-made, some-pages, whole-laid}
@@ -31,7 +31,7 @@ pub new-texts-requires-clause-news : goal.new-texts-requires-clause-news
 new-texts-requires-clause-news c =
     let state : State = state_of (text_of c.args.lines.now) c.args.records.now in
     let laid = c.layout.view_is ∙ c.requires.layout in
-    whole-laid state c.layout.inside.body c.requires.whole (ap (λ (l : LayoutOf). l.body.elements) laid) (ap (λ (l : LayoutOf). l.body.keys) laid ∙ sym (state-row_keys state))
+    whole-laid state (keyed_elements c.layout.inside.body) c.requires.whole (ap (λ (l : LayoutOf). l.body.elements) laid) (ap (λ (l : LayoutOf). l.body.keys) laid ∙ sym (state-row_keys state))
 
 pub raises-requires-clause-after : goal.raises-requires-clause-after
 raises-requires-clause-after c =
