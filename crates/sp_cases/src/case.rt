@@ -10,6 +10,8 @@ pub const MOST: usize = 1 << 30;
 /// - `|` a line of the script, which stands under `f`, and is what the source has where there is no `>`; `-` where nothing
 ///   stands under `f`;
 /// - `(` a line of the script, `)` one of the source, of a text so many times, as `3*a`;
+/// - `^` bytes of the script, `"` of the source, `'` of the file under `g`, without an end of a line; each character is the byte of its
+///   number;
 /// - `@` a line of the file under `f.desk`; `&` one of the file under `g`;
 /// - `>` a line of the source;
 /// - `!` a call that fails, from 0: of the source, as `i0`, of the sink, as `o0`, of the shelf, as `s0`;
@@ -75,6 +77,14 @@ pub fn spaced(alloc: Global, row: &str) -> Result<Vec<u8>, AllocError> {
 fn add_line(bytes: &mut Vec<u8>, line: &[u8]) -> Result<(), AllocError> {
     bytes.extend_from_slice(line)?;
     bytes.push(b'\n')?;
+    Ok(())
+}
+
+/// Adds bytes, each written as the character of its number.
+fn add_bytes(bytes: &mut Vec<u8>, line: &str) -> Result<(), AllocError> {
+    for char in line.chars() {
+        bytes.push(u8::try_from(char).unwrap_or(b'?'))?;
+    }
     Ok(())
 }
 
@@ -144,6 +154,9 @@ fn add(alloc: Global, case: &mut Case, kind: u8, line: &str) -> Result<(), Alloc
         b'|' => add_line(&mut case.script, text),
         b'(' => add_line(&mut case.script, times(alloc, line)?.as_slice()),
         b')' => add_line(&mut case.commands, times(alloc, line)?.as_slice()),
+        b'^' => add_bytes(&mut case.script, line),
+        b'"' => add_bytes(&mut case.commands, line),
+        b'\'' => add_bytes(&mut case.other, line),
         b'@' => add_line(&mut case.records, text),
         b'&' => add_line(&mut case.other, text),
         b'>' => add_line(&mut case.commands, text),

@@ -2,11 +2,19 @@
 #![tactic(auto)]
 
 #[cfg(test)]
+mod blocks;
+#[cfg(test)]
 mod case;
+#[cfg(test)]
+mod commands;
 #[cfg(test)]
 mod counts;
 #[cfg(test)]
 mod desks;
+#[cfg(test)]
+mod forms;
+#[cfg(test)]
+mod labels;
 #[cfg(test)]
 mod outside;
 #[cfg(test)]
@@ -16,8 +24,16 @@ mod pages;
 #[cfg(test)]
 mod ran;
 #[cfg(test)]
+mod record_files;
+#[cfg(test)]
 mod records;
 #[cfg(test)]
 mod rooms;
+#[cfg(test)]
+mod rows;
+#[cfg(test)]
+mod saved_files;
+#[cfg(test)]
+mod texts;
 #[cfg(test)]
 mod views;

@@ -357,16 +357,6 @@ $desk f
 >{"do":"save"}
 >{"do":"save"}"##;
 
-/// Scripts as bytes, and what comes of them.
-const BYTES: [(&[u8], &str); 6] = [
-    (b"", ""),
-    (b"!Hello.", "#1\n:[15]Hello."),
-    (b"!\tx", "#1\n:[19]x"),
-    (b"!a\xef\xbb\xbf\x07b\r!c\r\n", "#1\n:[15]ab\n:[15]c"),
-    (b"!a\xff", "?4 fountain: not UTF-8 at byte 2"),
-    (b"\xef\xbb\xbf!a\xff", "?4 fountain: not UTF-8 at byte 5"),
-];
-
 #[test]
 fn faults_are_told(rt: HostRuntime) -> Result<(), Fail> {
     come_out(&rt, rt.alloc(), FAULTS)
@@ -385,16 +375,6 @@ fn hostile_commands_are_refused(rt: HostRuntime) -> Result<(), Fail> {
 #[test]
 fn hostile_records_are_refused(rt: HostRuntime) -> Result<(), Fail> {
     come_out(&rt, rt.alloc(), RECORDS)
-}
-
-#[test]
-fn scripts_are_bytes(rt: HostRuntime) -> Result<(), Fail> {
-    for (bytes, text) in BYTES {
-        let mut case = case_of(rt.alloc(), text)?;
-        case.script = bytes.to_vec(rt.alloc())?;
-        comes_out(&rt, rt.alloc(), &case, text)?;
-    }
-    Ok(())
 }
 
 /// The calls that fail of a case: of the source, of the sink or of the shelf.

@@ -19,6 +19,96 @@ $collate f f
 |x
 ?13 fountain: not printed sheets, file 0 sheet 0"##;
 
+/// Files of sheets, and their collation.
+const COLLATED: &str = "$collate f g
+|
+|
+|T
+|\x0c 1.
+|
+|a
+|\x0c 2.
+|
+|b
+^\x0c
+&
+&
+&S
+&\x0c 2.
+&
+&c
+'\x0c
+<
+<
+<S
+<\x0c 1.
+<
+<a
+<\x0c 2.
+<
+<c
++\x0c
+
+$collate f g
+| 1.
+|\x0c 2-4.
+|\x0c 5.
+^\x0c
+& 3.
+&x
+&\x0c 3A.
+&y
+'\x0c
+< 1.
+<\x0c 3.
+<x
+<\x0c 3A.
+<y
+<\x0c 5.
++\x0c
+
+$collate f g
+| 12.
+|\x0c 12A.
+^\x0c
+& 12.A.
+&new
+'\x0c
+< 12.
+<\x0c 12.A.
+<new
+<\x0c 12A.
++\x0c
+
+$collate f g
+& 1.
+&
+&x
+?13 fountain: not printed sheets, file 1 sheet 0
+
+$collate f g
+| 1.
+^\x0c
+& 2-2.
+'\x0c
+?13 fountain: not printed sheets, file 1 sheet 0
+
+$collate f f
+| 2.
+|\x0c 1.
+^\x0c
+?13 fountain: not printed sheets, file 0 sheet 1
+
+$collate f f
+| 1.
+|\x0c
+|
+|T
+^\x0c
+?13 fountain: not printed sheets, file 0 sheet 1
+
+$collate f f";
+
 /// What a session writes over what the shelf has.
 fn written(alloc: Global, text: &str, shelf: &mut MemoryShelf) -> Result<String, AllocError> {
     let (_, written) = ran_over(alloc, &case_of(alloc, text)?, shelf)?;
@@ -118,4 +208,9 @@ fn packets_bring_sheets_up_to_date(rt: HostRuntime) -> Result<(), Fail> {
 #[test]
 fn there_is_no_packet_of_pages_that_are_not_locked(rt: HostRuntime) -> Result<(), Fail> {
     come_out(&rt, rt.alloc(), UNLOCKED)
+}
+
+#[test]
+fn files_are_collated(rt: HostRuntime) -> Result<(), Fail> {
+    come_out(&rt, rt.alloc(), COLLATED)
 }

@@ -79,7 +79,7 @@ pub fn ran_over(
     let mut input = MemorySource::new(bytes, case.piece.max(1), case.input_fails.to_vec(alloc)?);
     let mut output = MemorySink::new(
         alloc,
-        1 << 20,
+        1 << 25,
         case.piece.max(1),
         case.output_fails.to_vec(alloc)?,
     )?;

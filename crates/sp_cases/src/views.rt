@@ -126,7 +126,10 @@ const SAMPLES: &str = "$sample 1
 <sample 1: 11 lines, 1 sheets, round 1, sha256 81334dbc7004ff72e7f88ecc9eb66175171b39cce4db22214304d59144941994
 
 $sample 5
-<sample 5: 55 lines, 2 sheets, round 1, sha256 b19efe982e62ab149678f4197821669b5f74e7d39056ce4755bead9a3cc30a35";
+<sample 5: 55 lines, 2 sheets, round 1, sha256 b19efe982e62ab149678f4197821669b5f74e7d39056ce4755bead9a3cc30a35
+
+$sample 10
+<sample 10: 120 lines, 3 sheets, round 1, sha256 cb35149923a70ea2e0ff922e5f6da19dc64c1f767bf919149ece7dc5e79c9117";
 
 /// Words that are no form.
 const USAGE: &str = "$sample 0

@@ -13,8 +13,6 @@ pub mod letters;
 mod notes;
 pub mod parts;
 pub mod spaces;
-#[cfg(test)]
-mod tests;
 
 pub use boneyards::{LineScan, scan};
 pub use forms::{is_cue, is_forced_heading, is_heading, is_transition};

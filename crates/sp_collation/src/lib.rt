@@ -9,6 +9,3 @@ mod sheets;
 
 pub use collation::collate;
 pub use fault::CollateFault;
-
-#[cfg(test)]
-mod tests;

@@ -12,6 +12,3 @@ pub use columns::width_of;
 pub use elements::{dual_rows, single_rows};
 pub use spec_pages::{RowKind, Shape};
 pub use values::{Cell, Element, Row};
-
-#[cfg(test)]
-mod tests;

@@ -13,6 +13,3 @@ mod visible;
 
 pub use spec_script::Run;
 pub use visible::runs;
-
-#[cfg(test)]
-mod tests;

@@ -7,6 +7,3 @@ mod rows;
 pub use ends::fill;
 pub use rows::{continues_speech, goes_on, height, is_speech, legal};
 pub use spec_pages::{Paper, RowKind, Shape};
-
-#[cfg(test)]
-mod tests;

@@ -14,6 +14,3 @@ pub use label::{Label, compare};
 pub use reading::parse;
 pub use width::columns;
 pub use writing::write;
-
-#[cfg(test)]
-mod tests;

@@ -8,6 +8,3 @@ mod rows;
 pub use clusters::columns;
 pub use rows::{WrapRow, wrap};
 pub use spec_script::Run;
-
-#[cfg(test)]
-mod tests;

@@ -10,6 +10,3 @@ mod session;
 pub use commands::sample_commands;
 pub use script::sample_script;
 pub use session::run_sample;
-
-#[cfg(test)]
-mod tests;

@@ -10,6 +10,3 @@ pub use answering::session;
 pub use lines::{CommandLines, LineStop, NextLine};
 pub use responder::Responder;
 pub use spec_session::SessionEnd;
-
-#[cfg(test)]
-mod tests;

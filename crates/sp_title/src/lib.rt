@@ -5,8 +5,6 @@
 #![tactic(auto)]
 
 mod keys;
-#[cfg(test)]
-mod tests;
 
 ghost use Rattle.std.specs.Prelude.{◌≡◌, ◌≤◌, ◌+◌, drop, not, length};
 ghost use Rattle.std.specs.List.{position_or_len};
