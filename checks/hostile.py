@@ -143,6 +143,7 @@ def statuses(place):
     for words in ((), ("print", "f", "f"), ("desk",), ("--help",)):
         yield from ends(f"{words}", place.run(*words, text=b"!Hello."), 2)
     yield from ends("outline", place.run("outline", "f"), 0)
+    yield from differs("a packet where pages aren't locked", place.run("packet", "f"), (14, b"", "fountain: pages are not locked\n"))
     told = [
         ("missing", None, 3, "fountain: no file f\n"),
         ("bytes that are no UTF-8", b"!a\xff", 4, "fountain: not UTF-8 at byte 2\n"),

@@ -1,5 +1,5 @@
 """Checks of the repository that no proof makes: the one line of HANDLES, the sizes of files, the sections that comments
-cite, and the names of definitions and calls that the documents cite."""
+cite, and the names of definitions, calls, tests and checks that the documents cite."""
 
 import pathlib
 import re
@@ -41,7 +41,8 @@ def sections():
 
 
 def names():
-    written = " ".join(path.read_text() for path in sources(".rt", ".antt"))
+    checks = sorted((TOP / "checks").glob("*.py"))
+    written = " ".join(path.read_text() for path in (*sources(".rt", ".antt"), *checks))
     known = set(re.findall(r"[A-Za-z_][A-Za-z0-9_'-]*", written)) | {path.name for path in CRATES.iterdir()}
     for document in ("RULES.md", "MAP.md", "PROMISES.md"):
         text = re.sub(r"```.*?```", "", (TOP / "docs" / document).read_text(), flags=re.S)

@@ -67,4 +67,6 @@ fn main(rt: HostRuntime) -> ExitCode {
 }
 
 #[cfg(test)]
+mod failing;
+#[cfg(test)]
 mod tests;
