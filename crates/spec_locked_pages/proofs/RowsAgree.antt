@@ -31,7 +31,8 @@ use Rattle.spec_relayout.specs.Touched.{line_of_block}
 use Rattle.spec_relayout.specs.TextItems.{Script, spoken_group, element_label, element_items}
 use Rattle.spec_relayout.proofs.AmongLaws.{rows_among-append}
 use Rattle.spec_relayout.proofs.ItemRows.{shown_texts, element-rows}
-use Rattle.spec_relayout.proofs.RowMoves.{RowAt, single-on}
+use Rattle.spec_relayout.specs.RowLines.{RowAt}
+use Rattle.spec_relayout.proofs.RowMoves.{single-on}
 use Rattle.spec_relayout.proofs.RowPlaces.{single-at}
 use Rattle.spec_relayout.proofs.SoundElements.{IsSound, SoundSteps, elements-sound}
 use Rattle.std.proofs.lemmas.List.{map-append}

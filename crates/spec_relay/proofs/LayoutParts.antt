@@ -89,7 +89,7 @@ module _ (less more : ℕ) (lines later : List LineState) where
       by true rest = ap (λ (those : List (Group Spoken)). moved_group less more g ∷ those) rest
       by false rest = rest
 
-  filter-stay : (among : Group Spoken → Bool) (groups : List (Group Spoken)) → All (GroupStays less more lines later) groups → All (GroupStays less more lines later) (filter among groups)
+  pub filter-stay : (among : Group Spoken → Bool) (groups : List (Group Spoken)) → All (GroupStays less more lines later) groups → All (GroupStays less more lines later) (filter among groups)
   filter-stay among [] all = all
   filter-stay among (g ∷ groups) all = by (among g) (filter-stay among groups (All-tail (GroupStays less more lines later) g groups all))
     where

@@ -2,6 +2,7 @@ pub mod Parts
 pub mod RowShifts
 pub mod MovedElements
 pub mod LayoutParts
+pub mod StayingRows
 pub mod RelaidParts
 pub mod StayingBlocks
 pub mod StanzaBlocks

@@ -20,7 +20,8 @@ use Rattle.spec_pages.specs.Columns.{width_of}
 use Rattle.spec_pages.specs.Wrapping.{wrapped}
 use Rattle.spec_layout.specs.Layout.{laid_beside, laid_out, placed_in}
 use Rattle.spec_layout.proofs.SpokenLaws.{spoken_alone, spoken_pair, spoken_elements-alone, spoken_elements-pair}
-use Rattle.spec_relayout.proofs.RowMoves.{row_to, RowAt, SameText, texts_at, single-on, pair-on, BlockMoves, single-moved, pair-moved}
+use Rattle.spec_relayout.specs.RowLines.{RowAt}
+use Rattle.spec_relayout.proofs.RowMoves.{row_to, SameText, texts_at, single-on, pair-on, BlockMoves, single-moved, pair-moved}
 use Rattle.spec_relayout.proofs.RowPlaces.{BlockAt, alone-at, beside-at, single-at, pair-at}
 use Rattle.spec_relayout.proofs.ItemMoves.{text-is}
 use Rattle.spec_relay.specs.Moved.{moved_place, moved_block, moved_spoken, moved_group, moved_laid, BlockStays, speaker_behind}

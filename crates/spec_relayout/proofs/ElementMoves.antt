@@ -22,7 +22,8 @@ use Rattle.spec_relayout.specs.Items.{Item, page_break, row as shown_row}
 use Rattle.spec_relayout.specs.Touched.{line_of_block}
 use Rattle.spec_relayout.specs.TextItems.{Script, spoken_by, element_label, text_rows, row_item, row_items, break_items, element_items}
 use Rattle.spec_relayout.proofs.Steps.{item_after, IsLeft}
-use Rattle.spec_relayout.proofs.RowMoves.{row_to, RowAt, SameText, texts_at, single-on, pair-on, BlockMoves, single-moved, pair-moved}
+use Rattle.spec_relayout.specs.RowLines.{RowAt}
+use Rattle.spec_relayout.proofs.RowMoves.{row_to, SameText, texts_at, single-on, pair-on, BlockMoves, single-moved, pair-moved}
 use Rattle.spec_relayout.proofs.RowPlaces.{BlockAt, alone-at, beside-at, single-at, pair-at}
 use Rattle.spec_relayout.proofs.ItemMoves.{LinesMoved, cue-moved, shown-moved}
 

@@ -10,7 +10,8 @@ use Rattle.spec_pages.specs.Rows.{Cell, Row, line_state, number_before, number_b
 use Rattle.spec_labels.specs.Labels.{LabelOf}
 use Rattle.spec_layout.specs.Cells.{ShownCell, text_at, shown_part, fixed_cell, continued, shown_cell, cell_text, label_cell, without_numbers, shown_cells, ends_continued, with_continued}
 use Rattle.spec_layout.specs.Shown.{is_cue, cue_rows, is_fixed, repeated_cells, element_cue, row_label, shown_of}
-use Rattle.spec_relayout.proofs.RowMoves.{cell_to, row_to, RowAt}
+use Rattle.spec_relayout.specs.RowLines.{RowAt}
+use Rattle.spec_relayout.proofs.RowMoves.{cell_to, row_to}
 
 pub text-is : (lines : List LineState) (place : ℕ) → text_at (line_texts lines) place ≡ (line_state lines place).text
 text-is [] place = refl

@@ -25,7 +25,8 @@ use Rattle.spec_relayout.specs.Items.{Item, page_break}
 use Rattle.spec_relayout.specs.Touched.{line_of_block}
 use Rattle.spec_relayout.specs.TextItems.{Script, element_label, text_rows, row_item, row_items, break_items, element_items}
 use Rattle.spec_relayout.proofs.Steps.{AreRising}
-use Rattle.spec_relayout.proofs.RowMoves.{RowAt, single-on, pair-on}
+use Rattle.spec_relayout.specs.RowLines.{RowAt}
+use Rattle.spec_relayout.proofs.RowMoves.{single-on, pair-on}
 use Rattle.spec_relayout.proofs.RowPlaces.{single-at, pair-at}
 use Rattle.spec_relayout.proofs.ItemRows.{break-none, break-some, no-break, pair-no-break}
 use Rattle.spec_relayout.proofs.SoundElements.{IsSound, SoundSteps, elements-sound}

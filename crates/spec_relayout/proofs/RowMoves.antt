@@ -18,6 +18,7 @@ use Rattle.spec_pages.specs.Wrapping.{WrappedRow, wrapped}
 use Rattle.spec_pages.specs.Rows.{Cell, Row, LineContext, line_state, own_lead, line_rows_from, line_rows, number_runs, with_number, shaped_row, shaped_rows, continued_cell, spoken_cells, put_cell, in_column_order, spoken_rows, with_speakers, is_title, title_row, half_row, joined_rows, single_rows, dual_rows, shifted_row, blocks_beside, block_alone}
 use Rattle.spec_pages.specs.Rows as rows
 use Rattle.spec_layout.proofs.ElementPlaces.{LinesRise}
+use Rattle.spec_relayout.specs.RowLines.{RowAt}
 
 -- A cell and a row whose lines move.
 abbrev pub cell_to : (ℕ → ℕ) → Cell → Cell
@@ -25,11 +26,6 @@ cell_to to cell = record cell { line = to cell.line }
 
 abbrev pub row_to : (ℕ → ℕ) → Row → Row
 row_to to row = record row { line = to row.line; cells = map (cell_to to) row.cells }
-
--- The line of a row, and the lines of its cells, stand at such places.
-pub record RowAt (P : ℕ → Type 0) (it : Row) : Type 0 where
-  pub row : P it.line
-  pub cells : All (λ (cell : Cell). P cell.line) it.cells
 
 everywhere : (P : ℕ → Type 0) → ((place : ℕ) → P place) → (those : List Row) → All (RowAt P) those
 everywhere P each those k d h = record { row = each _; cells = λ j e g. each _ }

@@ -15,7 +15,8 @@ use Rattle.spec_pages.specs.Rows.{Cell, Row, half_row, joined_rows, shaped_rows,
 use Rattle.spec_pages.specs.Rows as rows
 use Rattle.spec_pages.specs.Wrapping.{WrappedRow}
 use Rattle.spec_layout.proofs.ElementPlaces.{LinesRise}
-use Rattle.spec_relayout.proofs.RowMoves.{RowAt, rows_on, lines_on, block_on, number_on, numbered_on, said_on, spoken_on, speaking, texts_at, alone_on, single_on, beside_on, pair_on}
+use Rattle.spec_relayout.specs.RowLines.{RowAt}
+use Rattle.spec_relayout.proofs.RowMoves.{rows_on, lines_on, block_on, number_on, numbered_on, said_on, spoken_on, speaking, texts_at, alone_on, single_on, beside_on, pair_on}
 
 -- The lines of a block stand at such places.
 abbrev pub BlockAt : (ℕ → Type 0) → PlacedBlock → Type 0
