@@ -5,3 +5,4 @@ pub mod EdgeLaws
 pub mod SwapLaws
 pub mod EditedLaws
 pub mod WindowLaws
+mod OutsideLaws

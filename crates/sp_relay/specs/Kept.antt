@@ -34,6 +34,19 @@ with_part layout at part = record {
   breaks = with_breaks layout.breaks at.break_from at.break_to part.breaks (rows_to layout at.from) (rows_to layout at.to) (rows_to layout at.from + row_count part.body.elements);
 }
 
+-- Where the part stands that came, and where lines stood behind what it took the place of.
+abbrev pub places_back : PartPlaces → LayoutOf → PartPlaces
+places_back at part = record {
+  title_from = at.title_from;
+  title_to = at.title_from + length part.titles.elements;
+  from = at.from;
+  to = at.from + length part.body.elements;
+  break_from = at.break_from;
+  break_to = at.break_from + length part.breaks;
+  less = at.more;
+  more = at.less;
+}
+
 -- It can be put there.
 pub record CanSwap (layout : LayoutOf) (at : PartPlaces) (part : LayoutOf) : Type 0 where
   pub titles : CanExchange layout.titles at.title_from at.title_to at.less at.more

@@ -11,6 +11,7 @@ ghost use Rattle.spec_relay.specs.RelaidStanzas.{stanza_settles};
 ghost use Rattle.sp_relay.specs.Edges.{edge_places};
 ghost use Rattle.sp_relay.specs.Edited.{WasLaid};
 ghost use Rattle.sp_relay.specs.Kept.{CanSwap, HasPartRoom, KeepsRoom, laid_of, with_part};
+ghost use Rattle.sp_relay.specs.Outside.{StaysOutside};
 
 use crate::edges::{PartEdge, part_end, part_start, stanza_settles};
 use crate::{KeptLayout, LayoutPart, PartPlaces, relay};
@@ -97,8 +98,9 @@ fn places_between(start: PartEdge, stop: PartEdge, was: usize, end: usize) -> Pa
 
 /// Makes a kept layout that of the text after an edit (docs/RULES.md, "Windows"), by the text's stanzas and what their
 /// update displaced. It lays out the stanzas of the edit's window, and those round it that may be joined with them or whose
-/// speakers may go on otherwise, and moves what stands behind. What it answers leads back when it is swapped in its turn. The
-/// error is want of memory alone; the layout is then as it was.
+/// speakers may go on otherwise, and moves what stands behind. Each row outside this part stands on the lines, with their ids
+/// and marks, that it stood on before the edit. What it answers leads back when it is swapped in its turn. The error is want
+/// of memory alone; the layout is then as it was.
 pub fn relay_edit(
     alloc: Global,
     lines: &Lines,
@@ -110,6 +112,7 @@ pub fn relay_edit(
     requires list { stanzas.now.stanzas ≡ stanzas_of (line_texts lines.now.lines) }
     requires was { WasLaid lines.now.lines stanzas.now.stanzas swapped.now speakers (laid_of kept.old) }
     ensures layout { OnOk result (laid_of kept.new ≡ keyed lines.now.lines (layout_of speakers lines.now.lines)) }
+    ensures outside { (it : WasLaid lines.now.lines stanzas.now.stanzas swapped.now speakers (laid_of kept.old)) → IfOk result (λ part. StaysOutside it.before.lines lines.now.lines (laid_of kept.new).body.elements part.places) }
     ensures back { IfOk result (λ it. with_part (laid_of kept.new) it.places (laid_of it.kept) ≡ laid_of kept.old) }
     ensures again { IfOk result (λ it. CanSwap (laid_of kept.new) it.places (laid_of it.kept)) }
     ensures returns { IfOk result (λ it. HasPartRoom kept.new it.places it.kept) }

@@ -1,7 +1,7 @@
 //! A text laid out that is kept, and parts of it that are exchanged.
 ghost use Rattle.std.specs.Prelude.{◌≡◌, ◌≤◌, IfErr, IfOk, IsOk, OnErr, OnOk};
 ghost use Rattle.sp_layout.specs.LaidOut.{LayoutOf};
-ghost use Rattle.sp_relay.specs.Kept.{CanSwap, HasPartRoom, KeepsRoom, laid_of, with_part};
+ghost use Rattle.sp_relay.specs.Kept.{CanSwap, HasPartRoom, KeepsRoom, laid_of, places_back, with_part};
 
 use crate::runs::{exchange_breaks, exchange_run, make_break_room, make_run_room};
 use sp_layout::{Body, Layout};
@@ -94,6 +94,7 @@ fn exchange_part(kept: &mut KeptLayout, at: &PartPlaces, part: &mut KeptLayout) 
     requires can { CanSwap (laid_of kept.old) at.now (laid_of part.old) }
     requires room { HasPartRoom kept.old at.now part.old }
     ensures kept { laid_of kept.new ≡ with_part (laid_of kept.old) at.now (laid_of part.old) }
+    ensures places { result ≡ places_back at.now (laid_of part.old) }
     ensures back { with_part (laid_of kept.new) result (laid_of part.new) ≡ laid_of kept.old }
     ensures can { CanSwap (laid_of kept.new) result (laid_of part.new) }
     ensures room { HasPartRoom kept.new result part.new }
@@ -164,6 +165,7 @@ impl KeptLayout {
     pub fn swap(&mut self, back: LayoutPart) -> Result<LayoutPart, UnswappedLayout>
         requires { CanSwap (laid_of self.old) back.places (laid_of back.kept) }
         ensures layout { OnOk result (laid_of self.new ≡ with_part (laid_of self.old) back.places (laid_of back.kept)) }
+        ensures places { IfOk result (λ it. it.places ≡ places_back back.places (laid_of back.kept)) }
         ensures back { IfOk result (λ it. with_part (laid_of self.new) it.places (laid_of it.kept) ≡ laid_of self.old) }
         ensures can { IfOk result (λ it. CanSwap (laid_of self.new) it.places (laid_of it.kept)) }
         ensures returns { IfOk result (λ it. HasPartRoom self.new it.places it.kept) }

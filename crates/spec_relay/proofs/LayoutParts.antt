@@ -115,7 +115,7 @@ module _ (less more : ℕ) (lines later : List LineState) where
       (ap (λ n. breaks_from later n (map (moved_group less more) groups)) behind ∙ breaks-moved (rows_behind lines count g) groups (All-tail (GroupStays less more lines later) g groups all))
 
 -- Elements of a text that stay where they are are the same.
-still-place : (place : ℕ) → moved_place 0 0 place ≡ place
+pub still-place : (place : ℕ) → moved_place 0 0 place ≡ place
 still-place place = omega arith
 
 pub still-blocks : (blocks : List PlacedBlock) → map (moved_block 0 0) blocks ≡ blocks

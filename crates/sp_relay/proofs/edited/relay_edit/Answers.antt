@@ -82,3 +82,15 @@ returns-clause-layout c =
     (c.relay.ensures.layout c.requires.was.before.lines
     (edited-part (text_of c.args.lines.now) stanzas c.args.swapped.now c.args.speakers (laid_of c.args.kept.now) c.requires.was c.requires.list c.len-count.ensures.keeps _ _ _ _ _ _ _ _ _ at to was end
     c.part_start-start.ensures c.part_end-stop.ensures c.in_ok-last.ensures (c.deref.ensures.value ∙ c.in_ok-blocks.ensures) c.places_between-places.ensures).relaid)
+
+pub returns-clause-outside : goal.returns-clause-outside
+returns-clause-outside c it =
+    let stanzas = c.args.stanzas.now.stanzas in
+    let at : c.at-at.result ≡ c.args.swapped.now.at = c.at-at.ensures in
+    let to : c.at-at.result + c.stands.result ≡ c.args.swapped.now.at + c.args.swapped.now.stands = omega (arith, at, c.stands.ensures) in
+    let was : c.lines_before.result + c.lines_in.result ≡ window_was stanzas c.args.swapped.now =
+    ap₂ (λ n m. n + m) (c.lines_before.ensures ∙ ap (λ n. stanza_lines_in (take n stanzas)) at) (c.lines_in.ensures ∙ ap stanza_lines_in c.stanzas.ensures) in
+    let end : c.lines_before-end.result ≡ window_end stanzas c.args.swapped.now = c.lines_before-end.ensures ∙ ap (λ n. stanza_lines_in (take n stanzas)) to in
+    c.relay.ensures.outside it.before.lines
+    (edited-part (text_of c.args.lines.now) stanzas c.args.swapped.now c.args.speakers (laid_of c.args.kept.now) it c.requires.list c.len-count.ensures.keeps _ _ _ _ _ _ _ _ _ at to was end
+    c.part_start-start.ensures c.part_end-stop.ensures c.in_ok-last.ensures (c.deref.ensures.value ∙ c.in_ok-blocks.ensures) c.places_between-places.ensures).relaid
