@@ -1,5 +1,5 @@
 -- Rows outside a part of a layout that an edit changes.
-use Rattle.std.proofs.Common.{◌≡◌, ℕ, ◌+◌, ◌++◌, List, length, map, take, drop, sym, ap, ap₂, subst, ◌∙◌, arith, length-append, take_at, drop_at, append_assoc}
+use Rattle.std.proofs.Common.{◌≡◌, ℕ, ◌+◌, ◌++◌, List, length, map, take, drop, sym, ap, ap₂, subst, ◌∙◌, arith}
 use Rattle.std.specs.Prelude.{All}
 use Rattle.spec_text.specs.Lines.{LineState}
 use Rattle.spec_script.specs.Stanzas.{PlacedBlock}
