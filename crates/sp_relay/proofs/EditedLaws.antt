@@ -70,12 +70,12 @@ module _ (lines : TextState) (stanzas : List StanzaOf) (swapped : SwappedState) 
 
   -- The stanzas of the text before the edit.
   old-stanzas : olds ≡ take at stanzas ++ (swapped.stanzas ++ drop to stanzas)
-  old-stanzas = sym it.back.gives
+  old-stanzas = sym it.of.back.gives
 
   -- They have no more lines than a text.
   pub old-few : stanza_lines_in swapped.stanzas ≤ 200000
   old-few =
-      let few = it.keeps.count in
+      let few = it.of.keeps.count in
       let count = count-from (line_texts it.before.lines) 0 in
       let size = length-map it.before.lines (λ (line : LineState). line.text) in
       omega (arith, few, count, size, ap stanza_lines_in old-stanzas, lines-append (take at stanzas) (swapped.stanzas ++ drop to stanzas), lines-append swapped.stanzas (drop to stanzas))
@@ -86,7 +86,7 @@ module _ (lines : TextState) (stanzas : List StanzaOf) (swapped : SwappedState) 
         let behind = slice_range stanzas i at ++ (swapped.stanzas ++ drop to stanzas) in
         let is : olds ≡ take i stanzas ++ behind =
         old-stanzas ∙ ap (λ (ss : List StanzaOf). ss ++ (swapped.stanzas ++ drop to stanzas)) (take-split stanzas i at (omega (arith, low))) ∙ append_assoc (take i stanzas) (slice_range stanzas i at) (swapped.stanzas ++ drop to stanzas) in
-        can-part on it.before layout it.keeps it.was (take i stanzas) behind is (opens-more (slice_range stanzas i at) (swapped.stanzas ++ drop to stanzas) (opens-slice stanzas i at low opens));
+        can-part on it.before layout it.of.keeps it.of.was (take i stanzas) behind is (opens-more (slice_range stanzas i at) (swapped.stanzas ++ drop to stanzas) (opens-slice stanzas i at low opens));
   }
 
   pub can-end : CanEnd stanzas to was end layout
@@ -98,14 +98,14 @@ module _ (lines : TextState) (stanzas : List StanzaOf) (swapped : SwappedState) 
         let sum : stanza_lines_in (take i stanzas) ≡ end + stanza_lines_in (slice_range stanzas to i) = ap stanza_lines_in (take-split stanzas to i low) ∙ lines-append (take to stanzas) (slice_range stanzas to i) in
         let line : stanza_lines_in front ≡ moved_place end was (stanza_lines_in (take i stanzas)) =
         omega (arith, sum, lines-append (take at stanzas) (swapped.stanzas ++ slice_range stanzas to i), lines-append swapped.stanzas (slice_range stanzas to i)) in
-        subst (CanPart layout) line (can-part on it.before layout it.keeps it.was front (drop i stanzas) is opens);
+        subst (CanPart layout) line (can-part on it.before layout it.of.keeps it.of.was front (drop i stanzas) is opens);
   }
 
   -- The lines outside the window.
   lines-still : (place : ℕ) → place < window_start stanzas swapped → line_state lines.lines place ≡ line_state it.before.lines place
   lines-still place low =
       let d : LineState = record { id = 0; mark = 0; text = [] } in
-      sym (get_or-take (window_start stanzas swapped) lines.lines place d low) ∙ ap (λ (ls : List LineState). get_or ls place d) (sym it.front) ∙ get_or-take (window_start stanzas swapped) it.before.lines place d low
+      sym (get_or-take (window_start stanzas swapped) lines.lines place d low) ∙ ap (λ (ls : List LineState). get_or ls place d) (sym it.of.front) ∙ get_or-take (window_start stanzas swapped) it.before.lines place d low
 
   lines-moved : (place : ℕ) → was ≤ place → line_state lines.lines (moved_place was end place) ≡ line_state it.before.lines place
   lines-moved place low =
@@ -113,7 +113,7 @@ module _ (lines : TextState) (stanzas : List StanzaOf) (swapped : SwappedState) 
       let n = place - was in
       let here : moved_place was end place ≡ end + n = omega arith in
       let there : was + n ≡ place = omega (arith, low) in
-      ap (λ p. get_or lines.lines p d) here ∙ sym (get_or-drop end lines.lines n d) ∙ ap (λ (ls : List LineState). get_or ls n d) (sym it.rest) ∙ get_or-drop was it.before.lines n d ∙ ap (λ p. get_or it.before.lines p d) there
+      ap (λ p. get_or lines.lines p d) here ∙ sym (get_or-drop end lines.lines n d) ∙ ap (λ (ls : List LineState). get_or ls n d) (sym it.of.rest) ∙ get_or-drop was it.before.lines n d ∙ ap (λ p. get_or it.before.lines p d) there
 
   module _ (list : stanzas ≡ stanzas_of (line_texts lines.lines)) (keeps : IsText lines) (start stop : PartEdge) (begins : IsPartStart stanzas at layout start) (ends : IsPartEnd stanzas to was end layout stop) where
     abbrev front : List StanzaOf
@@ -193,7 +193,7 @@ module _ (lines : TextState) (stanzas : List StanzaOf) (swapped : SwappedState) 
     elements : ElementsRelaid on it.before.lines lines.lines was end (blocks_from 0 front) (blocks_from (stanza_lines_in front) (ahead ++ (gone ++ behind))) (blocks_from (stanza_lines_in front) (ahead ++ (come ++ behind)))
         (blocks_from (was + stanza_lines_in behind) rest)
     elements =
-        let are = IsText-texts it.before it.keeps in
+        let are = IsText-texts it.before it.of.keeps in
         elements-relaid on it.before.lines lines.lines was end (blocks_from 0 front) (blocks_from (stanza_lines_in front) (ahead ++ (gone ++ behind))) (blocks_from (stanza_lines_in front) (ahead ++ (come ++ behind)))
         (blocks_from (was + stanza_lines_in behind) rest)
         (stanzas-relaid it.before.lines lines.lines front ahead gone come behind rest (window_start stanzas swapped) was end parts are.utf8 are.few on)
@@ -210,14 +210,14 @@ module _ (lines : TextState) (stanzas : List StanzaOf) (swapped : SwappedState) 
     -- Where their elements begin.
     front-low : All (λ (g : Group Spoken). element_first g < first) elements.elements_front
     front-low =
-        let are = IsText-texts it.before it.keeps in
+        let are = IsText-texts it.before it.of.keeps in
         let stands = front-stands (line_texts it.before.lines) front ((ahead ++ (gone ++ behind)) ++ rest) are.utf8 are.few old-parts in
         subst (All (λ (g : Group Spoken). element_first g < first)) (sym elements.front_is)
         (spoken-firsts on it.before.lines None (λ (p : PlacedBlock). p.first < first) (blocks_from 0 front) (λ k d h. (stands.each k d h).below))
 
     gone-low : All (λ (g : Group Spoken). element_first g < past) elements.elements_gone
     gone-low =
-        let are = IsText-texts it.before it.keeps in
+        let are = IsText-texts it.before it.of.keeps in
         let mid = ahead ++ (gone ++ behind) in
         let both : olds ≡ (front ++ mid) ++ rest = old-parts ∙ sym (append_assoc front mid rest) in
         let stands = front-stands (line_texts it.before.lines) (front ++ mid) rest are.utf8 are.few both in
@@ -252,7 +252,7 @@ module _ (lines : TextState) (stanzas : List StanzaOf) (swapped : SwappedState) 
             breaks = ap (λ (e : PartEdge). e.breaks) zero ∙ sym (ap (λ (gs : List (Group Spoken)). length (breaks_from it.before.lines 0 gs)) nothing);
           }
       | inr both ↦
-          edge-is on it.before.lines layout it.was elements.elements_front (elements.elements_gone ++ elements.elements_rest) elements.old first start front-low
+          edge-is on it.before.lines layout it.of.was elements.elements_front (elements.elements_gone ++ elements.elements_rest) elements.old first start front-low
           (All-append (λ (g : Group Spoken). first ≤ element_first g) elements.elements_gone elements.elements_rest gone-high (rest-high first (omega (arith, window-lines)))) both.1
     ]
 
@@ -263,14 +263,14 @@ module _ (lines : TextState) (stanzas : List StanzaOf) (swapped : SwappedState) 
           | inl last ↦
               let none : rest ≡ [] = ap (λ (e : PartEdge). drop e.stanza stanzas) last ∙ drop_all (length stanzas) stanzas (omega arith) in
               let nothing : elements.elements_rest ≡ [] = elements.rest_is ∙ ap (λ ss. spoken_elements on it.before.lines (speaker_behind (line_texts it.before.lines) None (blocks_from 0 front ++ blocks_from first (ahead ++ (gone ++ behind)))) (blocks_from past ss)) none in
-              edge-last on it.before.lines layout it.was stanzas stop last (elements.elements_front ++ elements.elements_gone)
+              edge-last on it.before.lines layout it.of.was stanzas stop last (elements.elements_front ++ elements.elements_gone)
               (all ∙ ap (λ (gs : List (Group Spoken)). (elements.elements_front ++ elements.elements_gone) ++ gs) nothing ∙ append-nil (elements.elements_front ++ elements.elements_gone))
           | inr both ↦
               let sum : stanza_lines_in (take stop.stanza stanzas) ≡ end + stanza_lines_in behind = ap stanza_lines_in (take-split stanzas to stop.stanza ends.low) ∙ lines-append (take to stanzas) behind in
               let line : moved_place end was (stanza_lines_in (take stop.stanza stanzas)) ≡ past = omega (arith, sum) in
               let order : first ≤ past = omega (arith, window-lines) in
               let low : All (λ (g : Group Spoken). element_first g < past) elements.elements_front = λ k d h. let less = front-low k d h in omega (arith, less, order) in
-              edge-is on it.before.lines layout it.was (elements.elements_front ++ elements.elements_gone) elements.elements_rest all past stop
+              edge-is on it.before.lines layout it.of.was (elements.elements_front ++ elements.elements_gone) elements.elements_rest all past stop
               (All-append (λ (g : Group Spoken). element_first g < past) elements.elements_front elements.elements_gone low gone-low) (rest-high past (omega arith))
               (subst (λ n. IsEdge layout n stop) line both.2)
         ]
@@ -302,7 +302,7 @@ module _ (lines : TextState) (stanzas : List StanzaOf) (swapped : SwappedState) 
           front = elements.elements_front;
           gone = elements.elements_gone;
           rest = elements.elements_rest;
-          was = it.was;
+          was = it.of.was;
           old = elements.old;
           new = elements.new ∙ ap (λ (gs : List (Group Spoken)). elements.elements_front ++ (gs ++ moved)) same;
           still = elements.still;
@@ -312,7 +312,7 @@ module _ (lines : TextState) (stanzas : List StanzaOf) (swapped : SwappedState) 
 
     -- And the part can be put in.
     pub edit-can : CanSwap layout places (layout_behind lines.lines speakers blocks)
-    edit-can = relaid-can it.before lines speakers blocks places layout it.keeps keeps edit-relaid
+    edit-can = relaid-can it.before lines speakers blocks places layout it.of.keeps keeps edit-relaid
 
 -- What the call that lays a part out anew asks and is asked for.
 pub record EditedPart (before lines : List LineState) (layout : LayoutOf) (speakers : SpeakersOf) (blocks : List PlacedBlock) (places : PartPlaces) : Type 0 where
@@ -333,7 +333,7 @@ edited-part lines stanzas swapped on layout it list keeps from upto was end star
     (subst (λ (bs : List PlacedBlock). IsRelaid it.before.lines lines.lines speakers bs (edge_places start stop (window_was stanzas swapped) (window_end stanzas swapped)) layout) (sym blocks_are)
     (subst (λ (s : SpeakersOf). IsRelaid it.before.lines lines.lines s (blocks_from (stanza_lines_in (take start.stanza stanzas)) (slice_range stanzas start.stanza stop.stanza)) (edge_places start stop (window_was stanzas swapped) (window_end stanzas swapped)) layout) (sym speakers_are)
     (edit-relaid lines stanzas swapped on layout it list keeps start stop begin stops))) in
-    record { relaid = relaid; can = relaid-can it.before lines speakers blocks places layout it.keeps keeps relaid }
+    record { relaid = relaid; can = relaid-can it.before lines speakers blocks places layout it.of.keeps keeps relaid }
 
 pub can-end-at : (lines : TextState) (stanzas : List StanzaOf) (swapped : SwappedState) (on : Bool) (layout : LayoutOf) → WasLaid lines.lines stanzas swapped on layout → (upto was end : ℕ) → upto ≡ swapped.at + swapped.stands
     → was ≡ window_was stanzas swapped → end ≡ window_end stanzas swapped → CanEnd stanzas upto was end layout

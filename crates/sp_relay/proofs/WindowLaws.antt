@@ -11,19 +11,19 @@ use Rattle.spec_relayout.proofs.WindowSides.{window-sides}
 use Rattle.spec_relay.proofs.StanzaBlocks.{lines-append}
 use Rattle.sp_layout.specs.LaidOut.{LayoutOf, keyed}
 use Rattle.sp_reread.specs.Cache.{GivesBack, SwappedState}
-use Rattle.sp_relay.specs.Edited.{WasLaid, window_start, window_end, window_was}
+use Rattle.sp_relay.specs.Edited.{WasLaidOf, window_start, window_end, window_was}
 use Rattle.sp_relay.proofs.StanzaLists.{take-split}
 
 -- An edit displaced the stanzas of its window, and left the lines outside its range as they were.
-pub was-laid : (before after : TextState) (swapped : SwappedState) (on : Bool) (layout : LayoutOf) (first old new a b : ℕ) → IsText before → layout ≡ keyed before.lines (layout_of on before.lines)
+pub was-laid-of : (before after : TextState) (swapped : SwappedState) (on : Bool) (layout : LayoutOf) (first old new a b : ℕ) → IsText before → layout ≡ keyed before.lines (layout_of on before.lines)
     → take first before.lines ≡ take first after.lines → drop (first + old) before.lines ≡ drop (first + new) after.lines
     → IsEdited (line_texts before.lines) (line_texts after.lines) first old new → IsWindow (line_texts before.lines) (line_texts after.lines) first old new a b
     → GivesBack swapped (stanzas_of (line_texts after.lines)) (stanzas_of (line_texts before.lines))
     → take swapped.at (stanzas_of (line_texts after.lines)) ≡ stanzas_between (line_texts before.lines) 0 a
     → take swapped.stands (drop swapped.at (stanzas_of (line_texts after.lines))) ≡ stanzas_between (line_texts after.lines) a b
     → swapped.stanzas ≡ stanzas_between (line_texts before.lines) a (b + old - new)
-    → WasLaid after.lines (stanzas_of (line_texts after.lines)) swapped on layout
-was-laid before after swapped on layout first old new a b keeps was start rest edited window back front_are come_are gone_are =
+    → WasLaidOf before after.lines (stanzas_of (line_texts after.lines)) swapped on layout
+was-laid-of before after swapped on layout first old new a b keeps was start rest edited window back front_are come_are gone_are =
     let olds = line_texts before.lines in
     let news = line_texts after.lines in
     let stanzas = stanzas_of news in
@@ -48,7 +48,6 @@ was-laid before after swapped on layout first old new a b keeps was start rest e
     let there : first + old + m ≡ b + old - new = omega (arith, past) in
     let here : first + new + m ≡ b = omega (arith, past) in
     record {
-      before = before;
       keeps = keeps;
       was = was;
       back = back;

@@ -18,12 +18,16 @@ window_end stanzas swapped = stanza_lines_in (take (swapped.at + swapped.stands)
 abbrev pub window_was : List StanzaOf → SwappedState → ℕ
 window_was stanzas swapped = window_start stanzas swapped + stanza_lines_in swapped.stanzas
 
--- The layout is that of a text before an edit. What the edit displaced leads back to the stanzas of that text, and outside the window
+-- The layout is that of this text before an edit. What the edit displaced leads back to the stanzas of that text, and outside the window
 -- both texts have the same lines, with their ids and marks.
-pub record WasLaid (lines : List LineState) (stanzas : List StanzaOf) (swapped : SwappedState) (speakers : Bool) (layout : LayoutOf) : Type 0 where
-  pub before : TextState
+pub record WasLaidOf (before : TextState) (lines : List LineState) (stanzas : List StanzaOf) (swapped : SwappedState) (speakers : Bool) (layout : LayoutOf) : Type 0 where
   pub keeps : IsText before
   pub was : layout ≡ keyed before.lines (layout_of speakers before.lines)
   pub back : GivesBack swapped stanzas (stanzas_of (line_texts before.lines))
   pub front : take (window_start stanzas swapped) before.lines ≡ take (window_start stanzas swapped) lines
   pub rest : drop (window_was stanzas swapped) before.lines ≡ drop (window_end stanzas swapped) lines
+
+-- The layout is that of a text before an edit.
+pub record WasLaid (lines : List LineState) (stanzas : List StanzaOf) (swapped : SwappedState) (speakers : Bool) (layout : LayoutOf) : Type 0 where
+  pub before : TextState
+  pub of : WasLaidOf before lines stanzas swapped speakers layout

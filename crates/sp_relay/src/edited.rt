@@ -1,7 +1,7 @@
 //! A layout kept through an edit.
 ghost use Rattle.std.specs.Prelude.{◌≡◌, ◌⊎◌, ◌<◌, ◌≤◌, ◌+◌, true, length, take, slice_range, IfOk, OnErr, OnOk};
 ghost use Rattle.std.specs.List.{list_any};
-ghost use Rattle.spec_text.specs.Lines.{line_texts};
+ghost use Rattle.spec_text.specs.Lines.{TextState, line_texts};
 ghost use Rattle.spec_script.specs.Stanzas.{blocks_from, stanzas_of};
 ghost use Rattle.spec_layout.specs.Layout.{layout_of};
 ghost use Rattle.spec_reread.specs.Windows.{stanza_lines_in};
@@ -9,7 +9,7 @@ ghost use Rattle.sp_layout.specs.LaidOut.{keyed};
 ghost use Rattle.sp_layout.specs.Speaking.{speakers_after};
 ghost use Rattle.spec_relay.specs.RelaidStanzas.{stanza_settles};
 ghost use Rattle.sp_relay.specs.Edges.{edge_places};
-ghost use Rattle.sp_relay.specs.Edited.{WasLaid};
+ghost use Rattle.sp_relay.specs.Edited.{WasLaid, WasLaidOf};
 ghost use Rattle.sp_relay.specs.Kept.{CanSwap, HasPartRoom, KeepsRoom, laid_of, with_part};
 ghost use Rattle.sp_relay.specs.Outside.{StaysOutside};
 
@@ -112,7 +112,7 @@ pub fn relay_edit(
     requires list { stanzas.now.stanzas ≡ stanzas_of (line_texts lines.now.lines) }
     requires was { WasLaid lines.now.lines stanzas.now.stanzas swapped.now speakers (laid_of kept.old) }
     ensures layout { OnOk result (laid_of kept.new ≡ keyed lines.now.lines (layout_of speakers lines.now.lines)) }
-    ensures outside { (it : WasLaid lines.now.lines stanzas.now.stanzas swapped.now speakers (laid_of kept.old)) → IfOk result (λ part. StaysOutside it.before.lines lines.now.lines (laid_of kept.new).body.elements part.places) }
+    ensures outside { (before : TextState) → WasLaidOf before lines.now.lines stanzas.now.stanzas swapped.now speakers (laid_of kept.old) → IfOk result (λ it. StaysOutside before.lines lines.now.lines (laid_of kept.new).body.elements it.places) }
     ensures back { IfOk result (λ it. with_part (laid_of kept.new) it.places (laid_of it.kept) ≡ laid_of kept.old) }
     ensures again { IfOk result (λ it. CanSwap (laid_of kept.new) it.places (laid_of it.kept)) }
     ensures returns { IfOk result (λ it. HasPartRoom kept.new it.places it.kept) }

@@ -10,7 +10,7 @@ use Rattle.sp_layout.specs.LaidOut.{keyed}
 use Rattle.sp_layout.specs.Speaking.{SpeakersOf}
 use Rattle.sp_relay.specs.Kept.{laid_of}
 use Rattle.sp_relay.specs.Edges.{CanBegin}
-use Rattle.sp_relay.specs.Edited.{window_was, window_end}
+use Rattle.sp_relay.specs.Edited.{WasLaid, window_was, window_end}
 use Rattle.sp_relay.proofs.EditedLaws.{edited-part, can-begin, can-end-at, old-few, few-lines, slice-lies}
 use Rattle.sp_relay.proofs.edited.relay_edit.Goals as goal
 
@@ -84,13 +84,14 @@ returns-clause-layout c =
     c.part_start-start.ensures c.part_end-stop.ensures c.in_ok-last.ensures (c.deref.ensures.value ∙ c.in_ok-blocks.ensures) c.places_between-places.ensures).relaid)
 
 pub returns-clause-outside : goal.returns-clause-outside
-returns-clause-outside c it =
+returns-clause-outside c before of =
     let stanzas = c.args.stanzas.now.stanzas in
+    let it : WasLaid c.args.lines.now.lines stanzas c.args.swapped.now c.args.speakers (laid_of c.args.kept.now) = record { before = before; of = of } in
     let at : c.at-at.result ≡ c.args.swapped.now.at = c.at-at.ensures in
     let to : c.at-at.result + c.stands.result ≡ c.args.swapped.now.at + c.args.swapped.now.stands = omega (arith, at, c.stands.ensures) in
     let was : c.lines_before.result + c.lines_in.result ≡ window_was stanzas c.args.swapped.now =
     ap₂ (λ n m. n + m) (c.lines_before.ensures ∙ ap (λ n. stanza_lines_in (take n stanzas)) at) (c.lines_in.ensures ∙ ap stanza_lines_in c.stanzas.ensures) in
     let end : c.lines_before-end.result ≡ window_end stanzas c.args.swapped.now = c.lines_before-end.ensures ∙ ap (λ n. stanza_lines_in (take n stanzas)) to in
-    c.relay.ensures.outside it.before.lines
+    c.relay.ensures.outside before.lines
     (edited-part (text_of c.args.lines.now) stanzas c.args.swapped.now c.args.speakers (laid_of c.args.kept.now) it c.requires.list c.len-count.ensures.keeps _ _ _ _ _ _ _ _ _ at to was end
     c.part_start-start.ensures c.part_end-stop.ensures c.in_ok-last.ensures (c.deref.ensures.value ∙ c.in_ok-blocks.ensures) c.places_between-places.ensures).relaid
