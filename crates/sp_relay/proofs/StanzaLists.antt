@@ -44,6 +44,9 @@ drop-at stanzas i s at =
 pub opens-at : (stanzas : List StanzaOf) (i : ℕ) (s : StanzaOf) → slice_get stanzas i ≡ Some s → first_apart s.blocks ≡ true → OpensApart (drop i stanzas)
 opens-at stanzas i s at is = subst OpensApart (sym (drop-at stanzas i s at)) is
 
+pub opens-first : (stanzas : List StanzaOf) (i : ℕ) (s : StanzaOf) → slice_get stanzas i ≡ Some s → OpensApart (drop i stanzas) → first_apart s.blocks ≡ true
+opens-first stanzas i s at is = subst OpensApart (drop-at stanzas i s at) is
+
 -- Whether one of them has a heading or a speech, up to a place and with the next one.
 pub settles-none : (stanzas : List StanzaOf) (i : ℕ) → list_any stanza_settles (slice_range stanzas i i) ≡ false
 settles-none stanzas i = let none : i - i ≡ 0 = omega arith in ap (λ n. list_any stanza_settles (take n (drop i stanzas))) none

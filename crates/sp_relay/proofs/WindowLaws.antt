@@ -64,7 +64,7 @@ pub was-laid-put : (before after : TextState) (others : List LineState) (swapped
     → take swapped.at (stanzas_of (line_texts after.lines)) ≡ stanzas_between (line_texts before.lines) 0 a
     → take swapped.stands (drop swapped.at (stanzas_of (line_texts after.lines))) ≡ stanzas_between (line_texts after.lines) a b
     → swapped.stanzas ≡ stanzas_between (line_texts before.lines) a (b + old - length others)
-    → WasLaid after.lines (stanzas_of (line_texts after.lines)) swapped on layout
+    → WasLaidOf before after.lines (stanzas_of (line_texts after.lines)) swapped on layout
 was-laid-put before after others swapped on layout first old a b keeps was low is window back front_are come_are gone_are =
     let front = take first before.lines in
     let rest = drop (first + old) before.lines in
@@ -74,4 +74,4 @@ was-laid-put before after others swapped on layout first old a b keeps was low i
     let behind : rest ≡ drop (first + length others) after.lines =
     sym (ap (drop (first + length others)) (is ∙ sym (append_assoc front others rest)) ∙ drop_at (front ++ others) rest (first + length others) both) in
     let edited = subst (λ (ls : List LineState). IsEdited (line_texts before.lines) (line_texts ls) first old (length others)) (sym is) (edited-lines before.lines others first old low) in
-    was-laid before after swapped on layout first old (length others) a b keeps was start behind edited window back front_are come_are gone_are
+    was-laid-of before after swapped on layout first old (length others) a b keeps was start behind edited window back front_are come_are gone_are

@@ -47,6 +47,14 @@ pub record IsEdge (layout : LayoutOf) (line : ℕ) (edge : PartEdge) : Type 0 wh
   pub breaks : CountsBelow layout.breaks (rows_to layout edge.body) edge.breaks
   pub none : (i : ℕ) → edge.breaks ≤ i → i < length layout.breaks → rows_to layout edge.body < slice_index layout.breaks i
 
+-- No edge lies there: right before the row that is then the next a page break stands.
+pub record BreaksAt (layout : LayoutOf) (line : ℕ) : Type 0 where
+  pub count : ℕ
+  pub body : CountsBefore layout.body.elements line count
+  pub place : ℕ
+  pub inside : place < length layout.breaks
+  pub is : slice_index layout.breaks place ≡ rows_to layout count
+
 -- Before all, and behind all.
 abbrev pub first_edge : PartEdge
 first_edge = record { stanza = 0; titles = 0; body = 0; breaks = 0 }
@@ -90,3 +98,11 @@ edge_places start stop was end = record {
   less = was;
   more = end;
 }
+
+-- No edge lies before any stanza behind the first edge, up to the window, that begins with a block without a caret.
+pub record IsNearestStart (stanzas : List StanzaOf) (at : ℕ) (layout : LayoutOf) (place : ℕ) : Type 0 where
+  pub passed : (i : ℕ) → place < i → i < at → OpensApart (drop i stanzas) → BreaksAt layout (stanza_lines_in (take i stanzas))
+
+-- The same from the window on before the last edge, where a heading or a speech stands between.
+pub record IsNearestEnd (stanzas : List StanzaOf) (to was end : ℕ) (layout : LayoutOf) (place : ℕ) : Type 0 where
+  pub passed : (i : ℕ) → to ≤ i → i < place → OpensApart (drop i stanzas) → list_any stanza_settles (slice_range stanzas to i) ≡ true → BreaksAt layout (moved_place end was (stanza_lines_in (take i stanzas)))

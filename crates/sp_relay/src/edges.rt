@@ -1,9 +1,9 @@
 //! Where the part of a layout that an edit changes begins and ends.
-ghost use Rattle.std.specs.Prelude.{◌≡◌, ◌<◌, ◌≤◌, ◌+◌, length, take, AllPairs, IfSome};
+ghost use Rattle.std.specs.Prelude.{◌≡◌, ◌<◌, ◌≤◌, ◌+◌, length, take, AllPairs, IfNone, IfSome};
 ghost use Rattle.spec_reread.specs.Windows.{stanza_lines_in};
 ghost use Rattle.spec_relay.specs.Moved.{moved_place};
 ghost use Rattle.spec_relay.specs.RelaidStanzas.{block_settles, first_apart, stanza_settles};
-ghost use Rattle.sp_relay.specs.Edges.{CanBegin, CanEnd, CanPart, CountsBefore, IsEdge, IsPartEnd, IsPartStart, PartsAt};
+ghost use Rattle.sp_relay.specs.Edges.{BreaksAt, CanBegin, CanEnd, CanPart, CountsBefore, IsEdge, IsNearestEnd, IsNearestStart, IsPartEnd, IsPartStart, PartsAt};
 ghost use Rattle.sp_relay.specs.Kept.{laid_of};
 
 use crate::KeptLayout;
@@ -65,6 +65,7 @@ fn edge_at(kept: &KeptLayout, stanza: usize, line: usize) -> Option<PartEdge>
     requires { CanPart (laid_of kept.now) line }
     ensures is { IfSome result (IsEdge (laid_of kept.now) line) }
     ensures stanza { IfSome result (λ edge. edge.stanza ≡ stanza) }
+    ensures none { IfNone result (BreaksAt (laid_of kept.now) line) }
 {
     let titles = count_before(kept.titles.elements(), line as u64);
     let body = count_before(kept.body.elements(), line as u64);
@@ -85,7 +86,8 @@ fn edge_at(kept: &KeptLayout, stanza: usize, line: usize) -> Option<PartEdge>
 pub fn part_start(stanzas: &Stanzas, at: usize, kept: &KeptLayout) -> PartEdge
     requires within { at ≤ length stanzas.now.stanzas }
     requires can { CanBegin stanzas.now.stanzas at (laid_of kept.now) }
-    ensures { IsPartStart stanzas.now.stanzas at (laid_of kept.now) result }
+    ensures is { IsPartStart stanzas.now.stanzas at (laid_of kept.now) result }
+    ensures nearest { IsNearestStart stanzas.now.stanzas at (laid_of kept.now) result.stanza }
 {
     let mut place = at;
     while place > 0 {
@@ -110,7 +112,8 @@ pub fn part_end(stanzas: &Stanzas, to: usize, was: usize, end: usize, kept: &Kep
     requires end { end ≡ stanza_lines_in (take to stanzas.now.stanzas) }
     requires low { was + stanza_lines_in stanzas.now.stanzas ≤ 9223372036854775807 }
     requires can { CanEnd stanzas.now.stanzas to was end (laid_of kept.now) }
-    ensures { IsPartEnd stanzas.now.stanzas to was end (laid_of kept.now) result }
+    ensures is { IsPartEnd stanzas.now.stanzas to was end (laid_of kept.now) result }
+    ensures nearest { IsNearestEnd stanzas.now.stanzas to was end (laid_of kept.now) result.stanza }
 {
     let mut settled = false;
     for place in to..stanzas.len() {

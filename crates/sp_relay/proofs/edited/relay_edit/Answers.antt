@@ -50,8 +50,8 @@ part_end-stop-requires-clause-can c =
 
 pub relay-requires-clause-lie : goal.relay-requires-clause-lie
 relay-requires-clause-lie c =
-    let one = c.part_start-start.ensures.within in
-    let two = c.part_end-stop.ensures.low in
+    let one = c.part_start-start.ensures.is.within in
+    let two = c.part_end-stop.ensures.is.low in
     subst (All (PlacedLies (line_texts c.args.lines.now.lines))) (sym (c.deref.ensures.value ∙ c.in_ok-blocks.ensures))
     (slice-lies (text_of c.args.lines.now) c.args.stanzas.now.stanzas c.part_start-start.result.stanza c.part_end-stop.result.stanza c.len-count.ensures.keeps c.requires.list (omega (arith, one, two)))
 
@@ -67,7 +67,7 @@ relay-requires-clause-can c =
     ap₂ (λ n m. n + m) (c.lines_before.ensures ∙ ap (λ n. stanza_lines_in (take n stanzas)) at) (c.lines_in.ensures ∙ ap stanza_lines_in c.stanzas.ensures) in
     let end : c.lines_before-end.result ≡ window_end stanzas c.args.swapped.now = c.lines_before-end.ensures ∙ ap (λ n. stanza_lines_in (take n stanzas)) to in
     (edited-part (text_of c.args.lines.now) stanzas c.args.swapped.now c.args.speakers (laid_of c.args.kept.now) c.requires.was c.requires.list c.len-count.ensures.keeps _ _ _ _ _ _ _ _ _ at to was end
-    c.part_start-start.ensures c.part_end-stop.ensures c.in_ok-last.ensures (c.deref.ensures.value ∙ c.in_ok-blocks.ensures) c.places_between-places.ensures).can
+    c.part_start-start.ensures.is c.part_end-stop.ensures.is c.in_ok-last.ensures (c.deref.ensures.value ∙ c.in_ok-blocks.ensures) c.places_between-places.ensures).can
 
 pub returns-clause-layout : goal.returns-clause-layout
 returns-clause-layout c =
@@ -81,7 +81,7 @@ returns-clause-layout c =
     subst (λ on. OnOk c.relay.result (laid_of c.relay.new.kept ≡ keyed lines (layout_of on lines))) (ap (λ (s : SpeakersOf). s.on) c.in_ok-last.ensures)
     (c.relay.ensures.layout c.requires.was.before.lines
     (edited-part (text_of c.args.lines.now) stanzas c.args.swapped.now c.args.speakers (laid_of c.args.kept.now) c.requires.was c.requires.list c.len-count.ensures.keeps _ _ _ _ _ _ _ _ _ at to was end
-    c.part_start-start.ensures c.part_end-stop.ensures c.in_ok-last.ensures (c.deref.ensures.value ∙ c.in_ok-blocks.ensures) c.places_between-places.ensures).relaid)
+    c.part_start-start.ensures.is c.part_end-stop.ensures.is c.in_ok-last.ensures (c.deref.ensures.value ∙ c.in_ok-blocks.ensures) c.places_between-places.ensures).relaid)
 
 pub returns-clause-outside : goal.returns-clause-outside
 returns-clause-outside c before of =
@@ -94,4 +94,4 @@ returns-clause-outside c before of =
     let end : c.lines_before-end.result ≡ window_end stanzas c.args.swapped.now = c.lines_before-end.ensures ∙ ap (λ n. stanza_lines_in (take n stanzas)) to in
     c.relay.ensures.outside before.lines
     (edited-part (text_of c.args.lines.now) stanzas c.args.swapped.now c.args.speakers (laid_of c.args.kept.now) it c.requires.list c.len-count.ensures.keeps _ _ _ _ _ _ _ _ _ at to was end
-    c.part_start-start.ensures c.part_end-stop.ensures c.in_ok-last.ensures (c.deref.ensures.value ∙ c.in_ok-blocks.ensures) c.places_between-places.ensures).relaid
+    c.part_start-start.ensures.is c.part_end-stop.ensures.is c.in_ok-last.ensures (c.deref.ensures.value ∙ c.in_ok-blocks.ensures) c.places_between-places.ensures).relaid
