@@ -4,8 +4,6 @@
 #[cfg(test)]
 mod case;
 #[cfg(test)]
-mod counts;
-#[cfg(test)]
 mod desks;
 #[cfg(test)]
 mod outside;
