@@ -3,4 +3,3 @@ pub mod Owners
 pub mod Asking
 pub mod Answers
 pub mod Inside
-pub mod Counts

@@ -9,7 +9,6 @@ ghost use Rattle.sp_text.specs.Changing.{edit_of};
 ghost use Rattle.sp_wire.specs.Values.{command_of, reply_of};
 ghost use Rattle.sp_room.specs.Asking.{MakesNoChange};
 ghost use Rattle.sp_room.specs.Answers.{line_of, IsRoomAnswer};
-ghost use Rattle.sp_room.specs.Counts.{RoomFills, RoomReads};
 
 use crate::ask::ask;
 use crate::change::{Change, edit_change, is_forgetting, moved_to, turned};
@@ -97,10 +96,6 @@ impl Room {
         // An edit takes away or changes just the lines that its seat saw.
         ensures seen { (texts : List Text) → StandsFor self.old texts → OnOk result (KeepsSeen self.old texts seen (kind_of (command_of command)) self.new) }
         ensures stands { (texts : List Text) → StandsFor self.old texts → OnOk result (StandsFor self.new (texts_after texts (kind_of (command_of command)) self.new.desk.state.lines)) }
-
-        // A command reads and fills what the desk does for what the room asks of it, and else nothing.
-        ensures reads { RoomReads self.old (line_of seat.now seen (command_of command)) result (S.reads steps.old) (S.reads steps.new) }
-        ensures fills { RoomFills self.old (line_of seat.now seen (command_of command)) result (S.fills steps.old) (S.fills steps.new) }
     {
         let lines = self.desk.lines().len() as u64;
         match command {
@@ -124,8 +119,6 @@ impl Room {
         requires version { self.old.version + 1 < 2 ^ 64 }
         ensures step { IsRoomAnswer self.old (line_of seat.now seen (commands.edit (edit_of edit))) self.new result }
         ensures unrefused { IfOk result (λ reply. is_refused (reply_of reply) ≡ false) }
-        ensures reads { RoomReads self.old (line_of seat.now seen (commands.edit (edit_of edit))) result (S.reads steps.old) (S.reads steps.new) }
-        ensures fills { RoomFills self.old (line_of seat.now seen (commands.edit (edit_of edit))) result (S.fills steps.old) (S.fills steps.new) }
     {
         let range = edit_change(&edit);
         let place = match present_place(&self.changes, self.version, lines, seen, range) {
@@ -161,8 +154,6 @@ impl Room {
         requires version { self.old.version + 1 < 2 ^ 64 }
         ensures step { (seen : ℕ) → IsRoomAnswer self.old (line_of seat.now seen commands.undo) self.new result }
         ensures unrefused { IfOk result (λ reply. is_refused (reply_of reply) ≡ false) }
-        ensures reads { S.reads steps.new ≡ S.reads steps.old }
-        ensures fills { S.fills steps.new ≡ S.fills steps.old }
     {
         let Some(owner) = last_owner(&self.done) else {
             return ask(self.alloc, &mut self.desk, Command::Undo, steps);
@@ -185,8 +176,6 @@ impl Room {
         requires version { self.old.version + 1 < 2 ^ 64 }
         ensures step { (seen : ℕ) → IsRoomAnswer self.old (line_of seat.now seen commands.redo) self.new result }
         ensures unrefused { IfOk result (λ reply. is_refused (reply_of reply) ≡ false) }
-        ensures reads { S.reads steps.new ≡ S.reads steps.old }
-        ensures fills { S.fills steps.new ≡ S.fills steps.old }
     {
         let Some(owner) = last_owner(&self.undone) else {
             return ask(self.alloc, &mut self.desk, Command::Redo, steps);
@@ -209,8 +198,6 @@ impl Room {
         requires kind { MakesNoChange (kind_of (command_of command)) }
         ensures step { (seat : List ℕ) (seen : ℕ) → IsRoomAnswer self.old (line_of seat seen (command_of command)) self.new result }
         ensures unrefused { IfOk result (λ reply. is_refused (reply_of reply) ≡ false) }
-        ensures reads { (seat : List ℕ) (seen : ℕ) → RoomReads self.old (line_of seat seen (command_of command)) result (S.reads steps.old) (S.reads steps.new) }
-        ensures fills { (seat : List ℕ) (seen : ℕ) → RoomFills self.old (line_of seat seen (command_of command)) result (S.fills steps.old) (S.fills steps.new) }
     {
         let forgets = is_forgetting(&command);
         let reply = ask(self.alloc, &mut self.desk, command, steps)?;

@@ -1,9 +1,13 @@
-use Rattle.std.proofs.Common.{◌≡◌, ◌∷◌, [], ◌++◌, ap, ◌∙◌}
+use Rattle.std.proofs.Common.{◌≡◌, ◌∷◌, [], ◌++◌, ap, rules, subst, ◌∙◌}
+use Rattle.spec_text.specs.Edits.{refusal_of, replacement_of}
+use Rattle.spec_state.specs.State.{text_of}
 use Rattle.spec_wire.specs.Commands as commands
 use Rattle.spec_machine.specs.Machine.{Memory}
 use Rattle.spec_machine.specs.Answers.{step_of}
 use Rattle.sp_journal.specs.Entries.{Entries}
+use Rattle.sp_exchange.specs.Reads.{IsRefused}
 use Rattle.sp_state.specs.Entries.{EntryState}
+use Rattle.sp_state.specs.Fills.{EditFills, EditFillsAtMost}
 use Rattle.sp_text.specs.Changing.{edit_of}
 use Rattle.sp_desk.specs.Memories.{memory_by}
 use Rattle.sp_desk.specs.Answers.{step_to}
@@ -25,3 +29,17 @@ pub returns-clause-step : goal.returns-clause-step
 returns-clause-step g c =
     ap (step_to (memory_by c.edit.new.self c.push.new.self.done c.push.new.self.undone)) c.edited_reply.ensures.reply ∙ (stepped g c).step
     ∙ ap (λ (m : Memory). step_of m (commands.edit (edit_of c.args.edit))) c.self.view_is
+
+pub returns-in_err-entry-clause-fills : goal.returns-in_err-entry-clause-fills
+returns-in_err-entry-clause-fills g c = record {
+  exact = search rules;
+  at_most = subst (λ (m : Memory). EditFillsAtMost m.state (replacement_of m.state.lines (edit_of c.args.edit)) (g.S.Steps.fills c.args.steps.now) (g.S.Steps.fills c.edit.new.steps)) c.self.view_is c.edit.ensures.fills_at_most;
+  unfilled = subst (λ (m : Memory). IsRefused (refusal_of (text_of m.state) (edit_of c.args.edit)) → g.S.Steps.fills c.edit.new.steps ≡ g.S.Steps.fills c.args.steps.now) c.self.view_is c.edit.ensures.unfilled;
+}
+
+pub returns-clause-fills : goal.returns-clause-fills
+returns-clause-fills g c = record {
+  exact = subst (λ (m : Memory). EditFills m.state (replacement_of m.state.lines (edit_of c.args.edit)) (g.S.Steps.fills c.args.steps.now) (g.S.Steps.fills c.edit.new.steps)) c.self.view_is c.in_ok-entry.ensures.fills;
+  at_most = subst (λ (m : Memory). EditFillsAtMost m.state (replacement_of m.state.lines (edit_of c.args.edit)) (g.S.Steps.fills c.args.steps.now) (g.S.Steps.fills c.edit.new.steps)) c.self.view_is c.edit.ensures.fills_at_most;
+  unfilled = subst (λ (m : Memory). IsRefused (refusal_of (text_of m.state) (edit_of c.args.edit)) → g.S.Steps.fills c.edit.new.steps ≡ g.S.Steps.fills c.args.steps.now) c.self.view_is c.edit.ensures.unfilled;
+}

@@ -43,13 +43,3 @@ returns-clause-step g c = λ (seat : List ℕ) (seen : ℕ).
           c.self.invariant few (no-change-looks (kind_of (command_of c.args.command)) c.requires.kind (sym w.if-forgets.ensures)) c.in_ok-reply.ensures.step c.in_ok-reply.ensures.unrefused).step
           ∙ whole
     ]
-
-pub returns-clause-reads : goal.returns-clause-reads
-returns-clause-reads g c = λ (seat : List ℕ) (seen : ℕ).
-    look-reads Reply DeskFault c.args.self.now (line_of seat seen (command_of c.args.command)) (Ok c.in_ok-reply.reply) (g.S.Steps.reads c.args.steps.now) (g.S.Steps.reads c.ask.new.steps) c.requires.kind
-    (subst (λ (r : RoomState). CommandReads r.desk.state (command_of c.args.command) (Ok c.in_ok-reply.reply) (g.S.Steps.reads c.args.steps.now) (g.S.Steps.reads c.ask.new.steps)) c.self.view_is c.in_ok-reply.ensures.reads)
-
-pub returns-clause-fills : goal.returns-clause-fills
-returns-clause-fills g c = λ (seat : List ℕ) (seen : ℕ).
-    look-fills Reply DeskFault c.args.self.now (line_of seat seen (command_of c.args.command)) (Ok c.in_ok-reply.reply) (g.S.Steps.fills c.args.steps.now) (g.S.Steps.fills c.ask.new.steps) c.requires.kind
-    (subst (λ (r : RoomState). CommandFills r.desk.state (command_of c.args.command) (Ok c.in_ok-reply.reply) (g.S.Steps.fills c.args.steps.now) (g.S.Steps.fills c.ask.new.steps)) c.self.view_is c.in_ok-reply.ensures.fills)
