@@ -13,7 +13,7 @@ fn tell_cell(
     cell: &Cell,
     told: &mut Vec<u8>,
 ) -> Result<(), AllocError> {
-    let (start, end) = match (cell.fixed, cell.number) {
+    let (start, end) = match (cell.is_fixed(), cell.is_number()) {
         (true, _) => ("(CONT'D", ")"),
         (_, true) => ("#", "#"),
         _ => ("[", "]"),
@@ -23,7 +23,7 @@ fn tell_cell(
     let place = first.saturating_add(cell.line as usize);
     if place < lines.len() {
         let text = lines.line(place).text.as_bytes();
-        for run in &cell.runs {
+        for run in cell.runs() {
             if let Some(part) = text.get(run.from as usize..run.to as usize) {
                 told.extend_from_slice(part)?;
             }
