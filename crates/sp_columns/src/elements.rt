@@ -35,13 +35,8 @@ fn number_runs(alloc: Global, spans: &[Span]) -> Result<Vec<Run>, AllocError>
 fn number_cell(alloc: Global, block: &Block, column: u32) -> Result<Cell, AllocError>
     ensures { IfOk result (λ cell. cell ≡ number_cell block.now column) }
 {
-    Ok(Cell {
-        column,
-        line: block.first,
-        runs: number_runs(alloc, &block.number)?,
-        fixed: false,
-        number: true,
-    })
+    let runs = number_runs(alloc, &block.number)?;
+    Cell::number(alloc, column, block.first, runs)
 }
 
 /// Puts a written number before and behind the cells of its heading's first row.

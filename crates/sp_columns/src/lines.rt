@@ -91,13 +91,8 @@ fn line_row(
     let kind = row_kind(context.kind, line.part);
     let sentence_end = is_dialogue(kind) && ends_sentence(context.text, &row.runs);
     let mut cells = Vec::with_capacity(alloc, 1)?;
-    cells.push(Cell {
-        column: column_of(context.side, context.kind, line.part, row.width),
-        line: place,
-        runs: row.runs,
-        fixed: false,
-        number: false,
-    })?;
+    let column = column_of(context.side, context.kind, line.part, row.width);
+    cells.push(Cell::new(alloc, column, place, row.runs)?)?;
     Ok(Row {
         line: place,
         row: number,
@@ -127,8 +122,10 @@ fn add_rows(
     ensures few { OnOk result (length rows.new.items ≤ length rows.old.items + 4096) }
 {
     let width = width_of(context.side, context.kind, line.part);
+    let wrapped = wrap(alloc, context.text, &line.runs, width)?;
+    rows.reserve(wrapped.len())?;
     let mut number = 0;
-    for row in wrap(alloc, context.text, &line.runs, width)? {
+    for row in wrapped {
         rows.push(line_row(alloc, context, line, number, row)?)?;
         number += 1;
     }

@@ -60,7 +60,7 @@ fn same_parts(old: &str, olds: &[Run], new: &str, news: &[Run]) -> bool
 fn own_runs(cell: &Cell) -> &[Run]
     ensures { result.now ≡ own_runs cell.now }
 {
-    if cell.fixed { WHOLE } else { &cell.runs }
+    if cell.is_fixed() { WHOLE } else { cell.runs() }
 }
 
 /// The text of a cell before the change.
@@ -68,7 +68,7 @@ fn old_text<'a>(old: &OldLines<'a>, first: u64, cell: &Cell) -> &'a str
     requires { first + cell.now.line < length (line_texts old.now) }
     ensures { result.now ≡ own_text (line_texts old.now) first cell.now }
 {
-    if cell.fixed {
+    if cell.is_fixed() {
         CONTINUED
     } else {
         old.text(first, cell.line)
@@ -80,7 +80,7 @@ fn new_text<'a>(new: &'a Lines, first: u64, cell: &Cell) -> &'a str
     requires { first + cell.now.line < length (line_texts new.now.lines) }
     ensures { result.now ≡ own_text (line_texts new.now.lines) first cell.now }
 {
-    if cell.fixed {
+    if cell.is_fixed() {
         return CONTINUED;
     }
     let count = new.len() as u64;
@@ -106,13 +106,6 @@ fn same_cell(
     one.column == other.column && same_parts(was, own_runs(one), is, own_runs(other))
 }
 
-/// Whether a cell is a written number.
-fn is_number(cell: &Cell) -> bool
-    ensures { result ≡ cell.now.number }
-{
-    cell.number
-}
-
 /// The first cell from a place on that isn't a written number.
 fn next_bare(cells: &[Cell], from: usize) -> usize
     requires { from ≤ length cells.now }
@@ -121,7 +114,7 @@ fn next_bare(cells: &[Cell], from: usize) -> usize
     ensures bare { (d : Cell) → result < length cells.now → (slice_index_or cells.now result d).number ≡ false }
 {
     let mut place = from;
-    while place < cells.len() && is_number(&cells[place]) {
+    while place < cells.len() && cells[place].is_number() {
         place += 1;
     }
     place
@@ -142,7 +135,7 @@ pub(crate) fn same_cells(
 {
     let mut place = 0;
     for one in olds {
-        if is_number(one) {
+        if one.is_number() {
             continue;
         }
         place = next_bare(news, place);

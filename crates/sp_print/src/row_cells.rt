@@ -7,7 +7,6 @@ ghost use Rattle.sp_print.specs.Views.{IsSlice, cell_views, cells_views, kept_ce
 use crate::views::{CONTINUED, CellText, CellView};
 use sp_columns::{Cell, Row};
 use sp_text::Lines;
-use spec_script::Run;
 use std::marker::Model;
 
 /// The cells of a row, and the place of the line from which they count their lines. `unnumbered` leaves out a written number.
@@ -48,7 +47,7 @@ pub(crate) fn line_text<'a>(lines: &'a Lines, first: u64, line: u32) -> &'a str
 fn is_left_out(unnumbered: bool, cell: &Cell) -> bool
     ensures { result ≡ (unnumbered && cell.now.number) }
 {
-    unnumbered && cell.number
+    unnumbered && cell.is_number()
 }
 
 /// How many parts a cell has.
@@ -56,11 +55,10 @@ fn part_count(cell: &Cell) -> usize
     ensures value { result ≡ part_count cell.now }
     ensures bound { result < 2 ^ 60 }
 {
-    if cell.fixed {
+    if cell.is_fixed() {
         return 1;
     }
-    let runs: &[Run] = &cell.runs;
-    runs.len()
+    cell.runs().len()
 }
 
 /// The part at a place of a cell.
@@ -70,7 +68,7 @@ fn cell_part<'a>(lines: &'a Lines, first: u64, cell: &Cell, place: usize) -> Cel
     ensures view { slice_get (cell_views (shown_cell (line_texts lines.now.lines) (shifted_cell first cell.now))) place ≡ Some (view_of result) }
     ensures slice { IsSlice result.text }
 {
-    if cell.fixed {
+    if cell.is_fixed() {
         return CellView {
             column: cell.column,
             first: true,
@@ -89,7 +87,7 @@ fn run_part<'a>(lines: &'a Lines, first: u64, cell: &Cell, place: usize) -> Cell
     ensures slice { IsSlice result.text }
 {
     let text = line_text(lines, first, cell.line);
-    let run = cell.runs[place];
+    let run = cell.runs()[place];
     CellView {
         column: cell.column,
         first: place == 0,
