@@ -174,9 +174,9 @@ impl Script {
     }
 
     /// Makes an edit, and answers the entry that undoes it. Each stanza of its window is read once, each page of its page
-    /// window filled once (docs/RULES.md, "Windows"), and all else is made anew. Where pages are locked their records are carried, and those whose rows differ
-    /// get the round (docs/RULES.md, "Edits and records"). On a fault nothing is changed; NoMemory may come in place of any
-    /// answer, and the others come as docs/RULES.md says in "Edits".
+    /// window filled once (docs/RULES.md, "Windows"), and all else is made anew. Where pages are locked their records are
+    /// carried, and those whose rows differ get the round (docs/RULES.md, "Edits and records"). On a fault nothing is changed;
+    /// NoMemory may come in place of any answer, and the others come as docs/RULES.md says in "Edits".
     pub fn edit<S: Steps>(
         &mut self,
         alloc: Global,

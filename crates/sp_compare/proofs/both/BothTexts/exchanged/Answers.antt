@@ -9,8 +9,7 @@ invariant_of-result c =
     let same_to = c.rows_before-same_to.result in
     let around = outside-around c.args.old c.args.new.now.lines (keyed_elements c.args.news.now) (keyed_elements c.args.gone.now) c.args.from c.args.to c.args.less c.args.more
     same_to (same_to + c.rows.result) c.rows_before-new_from.result c.requires.outside
-    c.rows_before-same_to.ensures (ap₂ (λ (n m : ℕ). n + m) c.rows_before-same_to.ensures c.rows.ensures) c.rows_before-new_from.ensures in
-    (
+    c.rows_before-same_to.ensures (ap₂ (λ (n m : ℕ). n + m) c.rows_before-same_to.ensures c.rows.ensures) c.rows_before-new_from.ensures in (
       subst (AreLaid c.args.old) (sym c.new-olds.ensures) c.requires.olds,
       c.requires.news,
       subst (λ (k : KeyedElements). AreSameAround c.args.old k.elements c.args.new.now.lines c.args.news.now.elements same_to (same_to + c.rows.result) c.rows_before-new_from.result) (sym c.new-olds.ensures) around,
