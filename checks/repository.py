@@ -42,8 +42,9 @@ def sections():
 
 def names():
     checks = sorted((TOP / "checks").glob("*.py"))
-    written = " ".join(path.read_text() for path in (*sources(".rt", ".antt"), *checks))
+    written = " ".join(path.read_text() for path in sources(".rt", ".antt"))
     known = set(re.findall(r"[A-Za-z_][A-Za-z0-9_'-]*", written)) | {path.name for path in CRATES.iterdir()}
+    known |= {name for path in checks for name in re.findall(r"^def (\w+)", path.read_text(), re.M)}
     for document in ("RULES.md", "MAP.md", "PROMISES.md"):
         text = re.sub(r"```.*?```", "", (TOP / "docs" / document).read_text(), flags=re.S)
         for cited in re.findall(r"`([a-z][a-z_]+[a-z](?:::[A-Za-z_]+)*)`", text):
