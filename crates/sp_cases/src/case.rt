@@ -19,6 +19,7 @@ pub const MOST: usize = 1 << 30;
 /// - `<` a line that is written; `+` bytes that are, without an end of a line;
 /// - `#` the label of a sheet that is written, none for a title sheet; `:` a row of it;
 /// - `?` the number of the status, and its line, where it isn't 0;
+/// - `;` how many stanzas were read and how many pages filled, where that is asked for;
 /// - `=` a line of what stands under `f` at the end, `~` one of what stands under `f.desk`, where that is asked for.
 ///
 /// Any other line is a remark. A number with `*` before a line stands for so many of it. In what is written `[n]` stands for n spaces, but
@@ -37,6 +38,7 @@ pub struct Case {
     pub shelf_fails: Vec<u64>,
     pub written: Vec<u8>,
     pub status: String,
+    pub counts: String,
     pub script_kept: Vec<u8>,
     pub records_kept: Vec<u8>,
 }
@@ -171,6 +173,10 @@ fn add(alloc: Global, case: &mut Case, kind: u8, line: &str) -> Result<(), Alloc
             case.status = format!(in alloc; "{line}{end}")?;
             Ok(())
         }
+        b';' => {
+            case.counts = String::from_str(alloc, line)?;
+            Ok(())
+        }
         b'%' => {
             case.piece = line.parse().unwrap_or(MOST);
             Ok(())
@@ -207,6 +213,7 @@ fn no_case(alloc: Global) -> Case {
         shelf_fails: Vec::new(alloc),
         written: Vec::new(alloc),
         status: String::new(alloc),
+        counts: String::new(alloc),
         script_kept: Vec::new(alloc),
         records_kept: Vec::new(alloc),
     }

@@ -8,6 +8,8 @@ mod case;
 #[cfg(test)]
 mod commands;
 #[cfg(test)]
+mod counts;
+#[cfg(test)]
 mod desks;
 #[cfg(test)]
 mod forms;

@@ -111,7 +111,7 @@ $collate f f";
 
 /// What a session writes over what the shelf has.
 fn written(alloc: Global, text: &str, shelf: &mut MemoryShelf) -> Result<String, AllocError> {
-    let (_, written) = ran_over(alloc, &case_of(alloc, text)?, shelf)?;
+    let (_, written, _) = ran_over(alloc, &case_of(alloc, text)?, shelf)?;
     Ok(written)
 }
 

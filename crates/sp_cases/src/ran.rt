@@ -57,20 +57,22 @@ fn shelf_of(alloc: Global, case: &Case) -> Result<MemoryShelf, AllocError> {
     Ok(shelf)
 }
 
-/// What a run told and wrote, and what it left on the shelf.
+/// What a run told, wrote and counted, and what it left on the shelf.
 #[derive(Drop)]
 pub struct Outcome {
     pub told: String,
     pub written: String,
+    pub counts: String,
     pub shelf: MemoryShelf,
 }
 
-/// Runs the program on a case, over a shelf that stands already, and answers what it told and what it wrote.
+/// Runs the program on a case, over a shelf that stands already, and answers what it told, what it wrote and what it
+/// counted.
 pub fn ran_over(
     alloc: Global,
     case: &Case,
     shelf: &mut MemoryShelf,
-) -> Result<(String, String), AllocError> {
+) -> Result<(String, String, String), AllocError> {
     let bytes = if case.commands.is_empty() {
         case.script.to_vec(alloc)?
     } else {
@@ -83,24 +85,27 @@ pub fn ran_over(
         case.piece.max(1),
         case.output_fails.to_vec(alloc)?,
     )?;
+    let mut steps = Counter::new();
     let status = run(
         alloc,
         &case.words,
         &mut input,
         &mut output,
         shelf,
-        &mut Counter::new(),
+        &mut steps,
     );
-    Ok((told(alloc, &status)?, shown(alloc, output.taken())?))
+    let counts = format!(in alloc; "{} {}", steps.reads(), steps.fills())?;
+    Ok((told(alloc, &status)?, shown(alloc, output.taken())?, counts))
 }
 
 /// Runs the program on a case.
 pub fn ran(alloc: Global, case: &Case) -> Result<Outcome, AllocError> {
     let mut shelf = shelf_of(alloc, case)?;
-    let (told, written) = ran_over(alloc, case, &mut shelf)?;
+    let (told, written, counts) = ran_over(alloc, case, &mut shelf)?;
     Ok(Outcome {
         told,
         written,
+        counts,
         shelf,
     })
 }
@@ -118,9 +123,13 @@ pub fn comes_out(rt: &impl Abort, alloc: Global, case: &Case, text: &str) -> Res
     let Outcome {
         told,
         written,
+        counts,
         mut shelf,
     } = ran(alloc, case)?;
     assert!(rt; told.starts_with(case.status.as_str()), "{told} {text}");
+    if !case.counts.is_empty() {
+        assert_eq!(rt; counts.as_str(), case.counts.as_str(), "{text}");
+    }
     let expected = shown(alloc, case.written.as_slice())?;
     assert_eq!(rt; written.as_str(), expected.as_str(), "{text}");
     for (name, bytes) in [("f", &case.script_kept), ("f.desk", &case.records_kept)] {
