@@ -17,15 +17,15 @@ pub enum RowKind {
     Centred,
 }
 
-/// A row as page ends see it: the empty rows before it, its kind, how many rows of its element stand before it
-/// and after it, and whether its text ends a sentence.
+/// A row as page ends see it: the empty rows before it, its kind, whether its text ends a sentence, and how many rows of its
+/// element stand before it and after it. The small fields stand together, since fields lie in this order.
 #[derive(Debug, Clone, Copy, PartialEq, Eq, Drop)]
 pub struct Shape {
     pub lead: u8,
     pub kind: RowKind,
+    pub sentence_end: bool,
     pub index: u32,
     pub rest: u32,
-    pub sentence_end: bool,
 }
 
 /// A cluster of a line (docs/RULES.md, "Columns"): its place by bytes, its columns, its style, and whether it is a space.
