@@ -1,7 +1,7 @@
 -- Rows of elements of which some made way for others.
-use Rattle.std.proofs.Common.{◌≡◌, ℕ, zero, suc, ◌+◌, ◌-◌, ◌<◌, ◌≤◌, List, [], ◌∷◌, ◌++◌, length, map, take, drop, get_or, append-nil, refl, sym, ap, ap₂, subst, ◌∙◌, arith, length-append, length-drop, take_at, drop_at, take-append-drop}
+use Rattle.std.proofs.Common.{◌≡◌, ℕ, zero, suc, ◌+◌, ◌-◌, ◌<◌, ◌≤◌, List, [], ◌∷◌, ◌++◌, length, map, take, drop, get_or, refl, sym, ap, ap₂, subst, ◌∙◌, arith, length-append, length-drop, take_at, drop_at, take-append-drop}
 use Rattle.std.proofs.Math.ListN.{get_or-append}
-use Rattle.std.proofs.lemmas.List.{drop_all, drop-drop, drop-take, take-take, get_or-append-add, get_or-append_right, get_or-drop, get_or-map, length-map, length-take-le, map-append}
+use Rattle.std.proofs.lemmas.List.{drop-drop, drop-take, take-take, get_or-append-add, get_or-append_right, get_or-drop, get_or-map, length-map, length-take-le, map-append}
 use Rattle.std.specs.Prelude.{slice_range, All}
 use Rattle.spec_text.specs.Lines.{LineState}
 use Rattle.spec_pages.specs.Rows.{Row, ElementOf, placed_rows, shifted_row}
@@ -168,19 +168,6 @@ key-moved keys others row end i behind d within at =
     ∙ get_or-append-add (take row keys) (others ++ drop end keys) (length others + behind) d
     ∙ get_or-append-add others (drop end keys) behind d ∙ get_or-drop end keys behind d
 
--- ---- elements that are laid out by themselves
-
-pub whole-run : (body : KeyedElements) (count : ℕ) → count ≡ length body.elements → length body.keys ≡ row_count body.elements → with_run body 0 count body 0 0 ≡ body
-whole-run body count all keys =
-    let none : drop count body.elements ≡ [] = drop_all count body.elements (omega (arith, all)) in
-    let rows : row_count (take count body.elements) ≡ row_count body.elements =
-    (let sum = count-parts body.elements count in let rest = ap row_count none in omega (arith, sum, rest)) in
-    let elements : body.elements ++ map (moved_element 0 0) (drop count body.elements) ≡ body.elements =
-    ap (λ (es : List ElementOf). body.elements ++ map (moved_element 0 0) es) none ∙ append-nil body.elements in
-    let those : body.keys ++ drop (row_count (take count body.elements)) body.keys ≡ body.keys =
-    ap (λ (ks : List RowKey). body.keys ++ ks) (drop_all (row_count (take count body.elements)) body.keys (omega (arith, rows, keys))) ∙ append-nil body.keys in
-    ap₂ (λ (es : List ElementOf) (ks : List RowKey). let it : KeyedElements = record { elements = es; keys = ks } in it) elements those
-
 -- ---- rows that stay
 
 abbrev bare : List LineState → List ElementOf → List BareRow
@@ -221,16 +208,6 @@ outside-around old new body gone from to less more same_to old_from new_from out
     append3 : (xs ys zs : List BareRow) → (xs ++ ys) ++ zs ≡ xs ++ (ys ++ zs)
     append3 [] ys zs = refl
     append3 (x ∷ xs) ys zs = ap (λ (rows : List BareRow). x ∷ rows) (append3 xs ys zs)
-
--- Texts of which nothing is known to be the same.
-pub nothing-around : (old : List LineState) (olds : List ElementOf) (new : List LineState) (news : List ElementOf) (old_from new_from : ℕ) → old_from ≡ row_count olds → new_from ≡ row_count news
-    → AreSameAround old olds new news 0 old_from new_from
-nothing-around old olds new news old_from new_from old_is new_is = record {
-  old_low = omega (arith, old_is);
-  new_low = omega (arith, new_is);
-  front = refl;
-  behind = drop_all old_from (bare old olds) (omega (arith, bare-size old olds, old_is)) ∙ sym (drop_all new_from (bare new news) (omega (arith, bare-size new news, new_is)));
-}
 
 module _ (old : List LineState) (olds : List ElementOf) (new : List LineState) (news : List ElementOf) (same_to old_from new_from : ℕ) (around : AreSameAround old olds new news same_to old_from new_from) where
   -- Rows before those that may differ.

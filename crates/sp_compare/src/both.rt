@@ -43,25 +43,6 @@ impl<'a> Model for BothTexts<'a> {
 }
 
 impl<'a> BothTexts<'a> {
-    /// A text before a change and after it, with its rows.
-    pub fn new(old: OldLines<'a>, olds: &'a Body, new: &'a Lines, news: &'a Body) -> BothTexts<'a>
-        requires olds { AreLaid old (keyed_elements olds.now) }
-        requires news { AreLaid new.now.lines (keyed_elements news.now) }
-        ensures { result ≡ record { old = old.entry; olds = olds.now.elements; new = new.now.lines; news = news.now.elements } }
-    {
-        let old_from = olds.rows();
-        let new_from = news.rows();
-        BothTexts {
-            old,
-            olds: OldRows::whole(olds),
-            new,
-            news,
-            same_to: 0,
-            old_from,
-            new_from,
-        }
-    }
-
     /// A text before a change and after it, where the elements of `news` from one place to before another stand in the place
     /// of `gone`, and the lines of those behind them were `less` less and `more` more. No row is copied.
     pub fn exchanged(

@@ -107,22 +107,6 @@ impl<'a> OldRows<'a> {
         }
     }
 
-    /// The elements of a text that is laid out by itself.
-    pub fn whole(olds: &'a Body) -> OldRows<'a>
-        ensures { result ≡ keyed_elements olds.now }
-    {
-        let count = olds.len();
-        let _rows = olds.rows();
-        OldRows {
-            news: olds,
-            gone: olds,
-            from: 0,
-            to: count,
-            less: 0,
-            more: 0,
-        }
-    }
-
     /// How many rows there were.
     pub(crate) fn rows(&self) -> usize
         ensures { result ≡ row_count self.now.elements }

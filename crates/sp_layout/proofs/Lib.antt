@@ -7,3 +7,4 @@ mod LayoutAhead
 mod Places
 mod TextLayout
 pub mod BodyExchanges
+pub mod ElementCounts

@@ -13,5 +13,5 @@ pub use body::Body;
 pub use layout::{Layout, lay_out, lay_out_behind, lay_out_text};
 pub use page::Page;
 pub use placed::{PlacedBlock, placed_blocks, placed_blocks_between};
-pub use search::count_below;
+pub use search::{count_below, elements_before};
 pub use speakers::{Speakers, speaker_name};

@@ -22,5 +22,7 @@ pub fn move_elements(elements: &mut Vec<Element>, from: usize, less: u64, more: 
     ensures len { vec_len elements.new ≡ vec_len elements.old }
     ensures room { vec_capacity elements.new ≡ vec_capacity elements.old }
 {
-    move_all(&mut elements[from..], less, more);
+    if less != more {
+        move_all(&mut elements[from..], less, more);
+    }
 }

@@ -52,7 +52,7 @@ pub fn placed_blocks_between(
 {
     let mut placed = Vec::new(alloc);
     for i in from..to {
-        add_stanza(&mut placed, stanzas.first(i), stanzas.stanza(i))?;
+        add_stanza(&mut placed, stanzas.lines_before(i), stanzas.stanza(i))?;
     }
     Ok(placed)
 }

@@ -1,6 +1,8 @@
-//! Look-ups in lists of places that never fall.
+//! Look-ups in lists that never fall: of places, and of elements by their lines.
 ghost use Rattle.std.specs.Prelude.{◌<◌, ◌≤◌, length, slice_index, AllPairs};
-ghost use Rattle.sp_layout.specs.Places.{CountsBelow, IsLastStart};
+ghost use Rattle.sp_layout.specs.Places.{ArePartedAt, CountsBefore, CountsBelow, IsLastStart};
+
+use sp_columns::Element;
 
 /// How many of these places, which never fall, are below a bound, as page breaks are before a row (docs/RULES.md, "Pages").
 /// Each step halves the places that are left.
@@ -19,4 +21,13 @@ pub fn last_start(starts: &[usize], place: usize) -> usize
     ensures { IsLastStart starts.now place result }
 {
     starts.partition_point(|start| *start <= place) - 1
+}
+
+/// How many elements begin before a line. Each step halves the elements that are left.
+pub fn elements_before(elements: &[Element], line: usize) -> usize
+    requires { ArePartedAt elements.now line }
+    ensures { CountsBefore elements.now line result }
+{
+    let line = line as u64;
+    elements.partition_point(|element| element.first < line)
 }

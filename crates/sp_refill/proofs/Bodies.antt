@@ -1,9 +1,9 @@
 -- The elements of a body, by the groups of blocks that they are of.
-use Rattle.std.proofs.Common.{◌≡◌, ℕ, ◌+◌, ◌-◌, ◌<◌, ◌≤◌, Bool, true, false, not, cond, List, [], ◌∷◌, ◌++◌, length, map, take, inl, inr, refl, sym, ap, ap₂, subst, ◌∙◌, arith, length-append, take_at}
+use Rattle.std.proofs.Common.{◌≡◌, ℕ, ◌+◌, ◌-◌, ◌<◌, ◌≤◌, Bool, true, false, not, cond, List, [], ◌∷◌, ◌++◌, length, map, take, refl, sym, ap, ap₂, subst, ◌∙◌, arith, length-append, take_at}
 use Rattle.std.specs.Prelude.{All, filter}
 use Rattle.std.specs.List.{flat_map}
-use Rattle.std.proofs.lemmas.Bool.{cases_lt, true≢false}
-use Rattle.std.proofs.lemmas.List.{length-map, map-append, get_or_append_left, get_or-append_right}
+use Rattle.std.proofs.lemmas.Bool.{true≢false}
+use Rattle.std.proofs.lemmas.List.{length-map, map-append}
 use Rattle.std.proofs.lemmas.List.Elements.{All-nil, All-cons, All-head, All-tail, filter-append}
 use Rattle.spec_text.specs.Lines.{LineState}
 use Rattle.spec_script.specs.declared.Kind.{Kind}
@@ -19,7 +19,9 @@ use Rattle.spec_relayout.specs.TextItems.{Script, spoken_by, spoken_group, text_
 use Rattle.spec_refill.specs.Exchanges.{body_rows, count_rows}
 use Rattle.spec_refill.proofs.ElementMarks.{row_mark, rows-marks}
 use Rattle.sp_layout.specs.Bodies.{row_count}
-use Rattle.sp_refill.specs.Counts.{CountsBefore, HasFront, HasRest, RowsBefore, RowsUpTo, one_if}
+use Rattle.sp_layout.specs.Places.{CountsBefore}
+use Rattle.sp_layout.proofs.ElementCounts.{counts-one, counts-parts}
+use Rattle.sp_refill.specs.Counts.{HasFront, HasRest, RowsBefore, RowsUpTo, one_if}
 use Rattle.sp_refill.proofs.Groups.{Begins}
 
 -- The body of these groups, with the speakers of a script.
@@ -71,34 +73,6 @@ body-all P script (group ∷ groups) all =
 
 -- ---- counts
 
-counts-parts : (line : ℕ) (xs ys : List ElementOf) → All (λ (e : ElementOf). e.first < line) xs → All (λ (e : ElementOf). line ≤ e.first) ys → CountsBefore (xs ++ ys) line (length xs)
-counts-parts line xs ys one other = record {
-  within = omega (arith, length-append xs ys);
-  before = λ i d low. subst (λ (e : ElementOf). e.first < line) (sym (get_or_append_left xs ys d i low)) (one i d low);
-  behind = λ i d from inside.
-      subst (λ (e : ElementOf). line ≤ e.first) (sym (get_or-append_right xs ys (length xs) i d refl from)) (other (i - length xs) d (omega (arith, length-append xs ys, from, inside)));
-}
-
-pub counts-one : (elements : List ElementOf) (line m n : ℕ) → CountsBefore elements line m → CountsBefore elements line n → m ≡ n
-counts-one elements line m n one other = elim (cases_lt m n) [
-  | inl less ↦
-      let low = other.within in
-      let x = one.behind m none (omega arith) (omega (arith, less, low)) in
-      let y = other.before m none less in
-      absurd (omega (arith, x, y))
-  | inr more ↦ elim (cases_lt n m) [
-    | inl less ↦
-        let low = one.within in
-        let x = other.behind n none (omega arith) (omega (arith, less, low)) in
-        let y = one.before n none less in
-        absurd (omega (arith, x, y))
-    | inr same ↦ omega (arith, more, same)
-  ]
-]
-  where
-    none : ElementOf
-    none = record { first = 0; rows = [] }
-
 abbrev pub Low : ℕ → PlacedBlock → Type 0
 Low line placed = placed.first < line
 
@@ -143,14 +117,26 @@ one-more script xs group speech =
 
 -- ---- rows by counts
 
-pub before-found : (elements : List ElementOf) (line place count : ℕ) (relaid : Bool) → CountsBefore elements line place → RowsBefore elements line relaid count → row_count (take (place - one_if relaid) elements) ≡ count
-before-found elements line place count relaid is found = ap (λ n. row_count (take (n - one_if relaid) elements)) (counts-one elements line place found.place is found.is) ∙ found.are
+pub before-one : (elements : List ElementOf) (line m n : ℕ) (relaid : Bool) → RowsBefore elements line relaid m → RowsBefore elements line relaid n → m ≡ n
+before-one elements line m n relaid one other =
+    sym one.are ∙ ap (λ p. row_count (take (p - one_if relaid) elements)) (counts-one elements line one.place other.place one.is other.is) ∙ other.are
 
-pub up-to-found : (elements : List ElementOf) (line place count : ℕ) (relaid : Bool) → CountsBefore elements line place → RowsUpTo elements line relaid count → row_count (take (place + one_if relaid) elements) ≡ count
-up-to-found elements line place count relaid is found = ap (λ n. row_count (take (n + one_if relaid) elements)) (counts-one elements line place found.place is found.is) ∙ found.are
+pub up-to-one : (elements : List ElementOf) (line m n : ℕ) (relaid : Bool) → RowsUpTo elements line relaid m → RowsUpTo elements line relaid n → m ≡ n
+up-to-one elements line m n relaid one other =
+    sym one.are ∙ ap (λ p. row_count (take (p + one_if relaid) elements)) (counts-one elements line one.place other.place one.is other.is) ∙ other.are
 
-pub front-some : (elements : List ElementOf) (line place : ℕ) → CountsBefore elements line place → HasFront elements line true → 1 ≤ place
-front-some elements line place is has = let same = counts-one elements line place has.place is has.is in let some = has.some in omega (arith, same, some)
+pub front-some : (elements : List ElementOf) (line place : ℕ) (relaid : Bool) → CountsBefore elements line place → HasFront elements line relaid → one_if relaid ≤ place
+front-some elements line place relaid is has = let same = counts-one elements line place has.place is has.is in let some = has.some in omega (arith, same, some)
 
-pub rest-some : (elements : List ElementOf) (line place : ℕ) → CountsBefore elements line place → HasRest elements line true → place + 1 ≤ length elements
-rest-some elements line place is has = let same = counts-one elements line place has.place is has.is in let some = has.some in omega (arith, same, some)
+pub rest-some : (elements : List ElementOf) (line place : ℕ) (relaid : Bool) → CountsBefore elements line place → HasRest elements line relaid → place + one_if relaid ≤ length elements
+rest-some elements line place relaid is has = let same = counts-one elements line place has.place is has.is in let some = has.some in omega (arith, same, some)
+
+pub before-found : (elements : List ElementOf) (line place count : ℕ) (relaid flag : Bool) → relaid ≡ flag → CountsBefore elements line place → HasFront elements line relaid
+    → count ≡ row_count (take (place - one_if flag) elements) → RowsBefore elements line relaid count
+before-found elements line place count relaid flag same is has found =
+    record { place = place; is = is; some = front-some elements line place relaid is has; are = ap (λ b. row_count (take (place - one_if b) elements)) same ∙ sym found }
+
+pub up-to-found : (elements : List ElementOf) (line place count : ℕ) (relaid flag : Bool) → relaid ≡ flag → CountsBefore elements line place → HasRest elements line relaid
+    → count ≡ row_count (take (place + one_if flag) elements) → RowsUpTo elements line relaid count
+up-to-found elements line place count relaid flag same is has found =
+    record { place = place; is = is; some = rest-some elements line place relaid is has; are = ap (λ b. row_count (take (place + one_if b) elements)) same ∙ sym found }

@@ -1,5 +1,5 @@
 -- The rows that an edit of a state exchanges, by what is found.
-use Rattle.std.proofs.Common.{◌≡◌, ℕ, ◌+◌, ◌-◌, ◌≤◌, Bool, Option, List, [], ◌∷◌, ◌++◌, length, map, take, drop, sym, ap, ap₂, subst, ◌∙◌, arith, take-add}
+use Rattle.std.proofs.Common.{◌≡◌, ℕ, ◌+◌, ◌-◌, ◌≤◌, Bool, Option, List, [], ◌∷◌, ◌++◌, length, map, take, drop, refl, sym, ap, ap₂, subst, ◌∙◌, arith, take-add}
 use Rattle.std.specs.Prelude.{filter, min}
 use Rattle.std.proofs.lemmas.List.Sums.{sum_by-cons}
 use Rattle.spec_text.specs.Lines.{IsText, LineState, line_texts}
@@ -34,11 +34,11 @@ use Rattle.spec_refill.proofs.ElementMarks.{count-marks}
 use Rattle.spec_refill.proofs.EditExchange.{state-rows, around, olds-are, news-are, sound, rows-parted}
 use Rattle.sp_reread.specs.Cache.{SwappedState}
 use Rattle.sp_layout.specs.Bodies.{row_count}
-use Rattle.sp_refill.specs.Edits.{IsOfEdit, IsOfSomeEdit}
+use Rattle.sp_refill.specs.Edits.{AreAhead, IsBehindSomeEdit, IsOfEdit, IsOfSomeEdit, RowsAheadOf}
 use Rattle.sp_refill.specs.Neighbours.{nearer, first_in, last_in, relays_front, parts_rest, relays_before, parts_behind}
 use Rattle.sp_refill.specs.Counts.{RowsBefore, RowsUpTo}
 use Rattle.sp_refill.proofs.NextBlocks.{block_by, last-in-append, first-is, last-is, rest_parted, front-relaid, rest-parts}
-use Rattle.sp_refill.proofs.Bodies.{body_in, body-rows}
+use Rattle.sp_refill.proofs.Bodies.{body_in, body-rows, before-one, up-to-one}
 use Rattle.sp_refill.proofs.Relaid.{old-found, new-found}
 
 -- What is found of an edit, and the rows that it exchanges.
@@ -203,59 +203,84 @@ module _ (state : State) (it : Replacement) (whole : IsWhole state) (can : CanEd
         }
 
 -- What is found of the edit of a state.
-pub window-found : (state : State) (it : Replacement) (lines : List LineState) (stanzas : List StanzaOf) (swapped : SwappedState) (olds news : List ElementOf) (a b : ℕ)
-    → IsOfEdit state it lines stanzas swapped olds news → IsWindowOf (range_of it) state (edited_state state it) a b
-    → WindowFound stanzas swapped.at swapped.stands swapped.stanzas olds news (edit_exchange (range_of it) state (edited_state state it) a b)
-window-found state it lines stanzas swapped olds news a b is window =
+pub window-found : (state : State) (it : Replacement) (lines : List LineState) (stanzas : List StanzaOf) (swapped : SwappedState) (news : List ElementOf) (a b : ℕ)
+    → IsOfEdit state it lines stanzas swapped → news ≡ (layout_in (edited_state state it)).body → IsWindowOf (range_of it) state (edited_state state it) a b
+    → WindowFound stanzas swapped.at swapped.stands swapped.stanzas (layout_in state).body news (edit_exchange (range_of it) state (edited_state state it) a b)
+window-found state it lines stanzas swapped news a b is news_are window =
     let after = edited_state state it in
     let exchange = edit_exchange (range_of it) state after a b in
     let displaces : DisplacesWindow (line_texts state.lines) (line_texts after.lines) it.first it.old (length it.texts) swapped.at swapped.stands swapped.stanzas =
     subst (λ (ls : List LineState). DisplacesWindow (line_texts state.lines) (line_texts ls) it.first it.old (length it.texts) swapped.at swapped.stands swapped.stanzas) is.lines_are is.window in
     let own : stanzas ≡ stanzas_of (line_texts after.lines) = is.stanzas_are ∙ ap (λ (ls : List LineState). stanzas_of (line_texts ls)) is.lines_are in
-    subst (λ (ss : List StanzaOf). WindowFound ss swapped.at swapped.stands swapped.stanzas olds news exchange) (sym own)
-    (subst (λ (es : List ElementOf). WindowFound (stanzas_of (line_texts after.lines)) swapped.at swapped.stands swapped.stanzas es news exchange) (sym is.olds_are)
-    (subst (λ (es : List ElementOf). WindowFound (stanzas_of (line_texts after.lines)) swapped.at swapped.stands swapped.stanzas (layout_in state).body es exchange) (sym is.news_are)
-    (found state it is.whole is.can a b window swapped.at swapped.stands swapped.stanzas (displaces.are a b window))))
+    subst (λ (ss : List StanzaOf). WindowFound ss swapped.at swapped.stands swapped.stanzas (layout_in state).body news exchange) (sym own)
+    (subst (λ (es : List ElementOf). WindowFound (stanzas_of (line_texts after.lines)) swapped.at swapped.stands swapped.stanzas (layout_in state).body es exchange) (sym news_are)
+    (found state it is.whole is.can a b window swapped.at swapped.stands swapped.stanzas (displaces.are a b window)))
 
 -- Of some edit.
 pub record SomeFound (stanzas : List StanzaOf) (swapped : SwappedState) (olds news : List ElementOf) : Type 0 where
   pub exchange : Exchange
   pub found : WindowFound stanzas swapped.at swapped.stands swapped.stanzas olds news exchange
 
-pub some-found : (lines : List LineState) (stanzas : List StanzaOf) (swapped : SwappedState) (olds news : List ElementOf) → IsOfSomeEdit lines stanzas swapped olds news → SomeFound stanzas swapped olds news
-some-found lines stanzas swapped olds news some =
-    let it = some.it in
-    let exists = window-exists (line_texts some.state.lines) (line_texts (edited_state some.state it).lines) it.first it.old (length it.texts) in
+some-found : (state : State) (it : Replacement) (lines : List LineState) (stanzas : List StanzaOf) (swapped : SwappedState) (news : List ElementOf) → IsOfEdit state it lines stanzas swapped
+    → news ≡ (layout_in (edited_state state it)).body → SomeFound stanzas swapped (layout_in state).body news
+some-found state it lines stanzas swapped news is news_are =
+    let exists = window-exists (line_texts state.lines) (line_texts (edited_state state it).lines) it.first it.old (length it.texts) in
     record {
-      exchange = edit_exchange (range_of it) some.state (edited_state some.state it) exists.0 exists.1;
-      found = window-found some.state it lines stanzas swapped olds news exists.0 exists.1 some.is exists.2;
+      exchange = edit_exchange (range_of it) state (edited_state state it) exists.0 exists.1;
+      found = window-found state it lines stanzas swapped news exists.0 exists.1 is news_are exists.2;
     }
+
+pub ahead-found : (lines : List LineState) (stanzas : List StanzaOf) (swapped : SwappedState) (olds : List ElementOf) (some : IsOfSomeEdit lines stanzas swapped olds)
+    → SomeFound stanzas swapped olds (layout_in (edited_state some.state some.it)).body
+ahead-found lines stanzas swapped olds some =
+    let news = (layout_in (edited_state some.state some.it)).body in
+    subst (λ (es : List ElementOf). SomeFound stanzas swapped es news) (sym some.olds_are) (some-found some.state some.it lines stanzas swapped news some.is refl)
+
+pub behind-found : (lines : List LineState) (stanzas : List StanzaOf) (swapped : SwappedState) (rows : RowsAheadOf) (news : List ElementOf) (some : IsBehindSomeEdit lines stanzas swapped rows news)
+    → SomeFound stanzas swapped (layout_in some.state).body news
+behind-found lines stanzas swapped rows news some = some-found some.state some.it lines stanzas swapped news some.is some.news_are
 
 -- ---- by the numbers of a search
 
-pub has-front : (elements : List ElementOf) (line other count : ℕ) (relaid flag : Bool) → RowsBefore elements line relaid count → other ≡ line → flag ≡ relaid → RowsBefore elements other flag count
-has-front elements line other count relaid flag found line_is flag_is = subst (λ n. RowsBefore elements n flag count) (sym line_is) (subst (λ f. RowsBefore elements line f count) (sym flag_is) found)
+pub at-front : (elements : List ElementOf) (line other count : ℕ) (relaid flag : Bool) → line ≡ other → relaid ≡ flag → RowsBefore elements line relaid count → RowsBefore elements other flag count
+at-front elements line other count relaid flag line_is flag_is found = subst (λ n. RowsBefore elements n flag count) line_is (subst (λ f. RowsBefore elements line f count) flag_is found)
 
-pub has-rest : (elements : List ElementOf) (line other count : ℕ) (relaid flag : Bool) → RowsUpTo elements line relaid count → other ≡ line → flag ≡ relaid → RowsUpTo elements other flag count
-has-rest elements line other count relaid flag found line_is flag_is = subst (λ n. RowsUpTo elements n flag count) (sym line_is) (subst (λ f. RowsUpTo elements line f count) (sym flag_is) found)
+pub at-rest : (elements : List ElementOf) (line other count : ℕ) (relaid flag : Bool) → line ≡ other → relaid ≡ flag → RowsUpTo elements line relaid count → RowsUpTo elements other flag count
+at-rest elements line other count relaid flag line_is flag_is found = subst (λ n. RowsUpTo elements n flag count) line_is (subst (λ f. RowsUpTo elements line f count) flag_is found)
 
--- A search found the first row and the row up to which rows are exchanged.
-pub record AreFound (stanzas : List StanzaOf) (swapped : SwappedState) (olds news : List ElementOf) (first past : ℕ) : Type 0 where
-  pub first_is : (n : ℕ) → RowsBefore olds (stanza_lines_in (take swapped.at stanzas)) (relays_before stanzas swapped.at swapped.stands swapped.stanzas) n → first ≡ n
-  pub past_is : (n : ℕ) → RowsUpTo news (stanza_lines_in (take (swapped.at + swapped.stands) stanzas)) (parts_behind stanzas swapped.at swapped.stands swapped.stanzas) n → past ≡ n
+-- So many rows of the new body stand before those behind the exchanged ones.
+abbrev pub IsPast : List StanzaOf → SwappedState → List ElementOf → ℕ → Type 0
+IsPast stanzas swapped news past =
+    RowsUpTo news (stanza_lines_in (take (swapped.at + swapped.stands) stanzas)) (parts_behind stanzas swapped.at swapped.stands swapped.stanzas) past
+
+-- What a search found is the same.
+record SameRows (rows : RowsAheadOf) (past : ℕ) (olds : List ElementOf) (first last : ℕ) : Type 0 where
+  first_is : rows.first ≡ first
+  past_is : past ≡ last
+  all_is : rows.all ≡ row_count olds
+
+same-rows : (stanzas : List StanzaOf) (swapped : SwappedState) (olds news : List ElementOf) (rows : RowsAheadOf) (past : ℕ) (it : Exchange) → AreAhead stanzas swapped olds rows → IsPast stanzas swapped news past
+    → (found : WindowFound stanzas swapped.at swapped.stands swapped.stanzas olds news it) → SameRows rows past olds it.first found.past
+same-rows stanzas swapped olds news rows past it are up_to found = record {
+  first_is = before-one olds (stanza_lines_in (take swapped.at stanzas)) rows.first it.first (relays_before stanzas swapped.at swapped.stands swapped.stanzas) are.first found.first;
+  past_is = up-to-one news (stanza_lines_in (take (swapped.at + swapped.stands) stanzas)) past found.past (parts_behind stanzas swapped.at swapped.stands swapped.stanzas) up_to found.up_to;
+  all_is = are.all;
+}
 
 exchange-one : (one other : Exchange) → one.first ≡ other.first → one.old ≡ other.old → one.new ≡ other.new → one ≡ other
 exchange-one one other first old new =
     ap₂ (λ n m. record { first = n; old = m; new = one.new }) first old ∙ ap (λ n. record { first = other.first; old = other.old; new = n }) new
 
-pub same-exchange : (stanzas : List StanzaOf) (swapped : SwappedState) (olds news : List ElementOf) (first past : ℕ) (one it : Exchange) → AreFound stanzas swapped olds news first past
-    → WindowFound stanzas swapped.at swapped.stands swapped.stanzas olds news it → one.first ≡ first → one.old ≡ row_count olds - first - (row_count news - past) + min 1 (row_count news - past)
-    → one.new ≡ past - first + min 1 (row_count news - past) → one ≡ it
-same-exchange stanzas swapped olds news first past one it are found first_is old_is new_is =
-    let begin = are.first_is it.first found.first in
-    let end = are.past_is found.past found.up_to in
+pub same-exchange : (stanzas : List StanzaOf) (swapped : SwappedState) (olds news : List ElementOf) (rows : RowsAheadOf) (past : ℕ) (one it : Exchange) → AreAhead stanzas swapped olds rows → IsPast stanzas swapped news past
+    → WindowFound stanzas swapped.at swapped.stands swapped.stanzas olds news it → one.first ≡ rows.first → one.old ≡ rows.all - rows.first - (row_count news - past) + min 1 (row_count news - past)
+    → one.new ≡ past - rows.first + min 1 (row_count news - past) → one ≡ it
+same-exchange stanzas swapped olds news rows past one it are up_to found first_is old_is new_is =
+    let same = same-rows stanzas swapped olds news rows past it are up_to found in
+    let begin = same.first_is in
+    let end = same.past_is in
     exchange-one one it (first_is ∙ begin)
-    (old_is ∙ ap₂ (λ n m. row_count olds - n - (row_count news - m) + min 1 (row_count news - m)) begin end ∙ sym found.old_is)
+    (old_is ∙ ap (λ k. k - rows.first - (row_count news - past) + min 1 (row_count news - past)) same.all_is
+    ∙ ap₂ (λ n m. row_count olds - n - (row_count news - m) + min 1 (row_count news - m)) begin end ∙ sym found.old_is)
     (new_is ∙ ap₂ (λ n m. m - n + min 1 (row_count news - m)) begin end ∙ sym found.new_is)
 
 -- Then rows are exchanged that there are.
@@ -264,12 +289,11 @@ pub record InOrder (first past olds news : ℕ) : Type 0 where
   pub inside : past ≤ news
   pub old_inside : first + (news - past) ≤ olds
 
-pub found-order : (stanzas : List StanzaOf) (swapped : SwappedState) (olds news : List ElementOf) (first past : ℕ) → AreFound stanzas swapped olds news first past → SomeFound stanzas swapped olds news
-    → InOrder first past (row_count olds) (row_count news)
-found-order stanzas swapped olds news first past are some =
-    let it = some.exchange in
+pub found-order : (stanzas : List StanzaOf) (swapped : SwappedState) (olds news : List ElementOf) (rows : RowsAheadOf) (past : ℕ) → AreAhead stanzas swapped olds rows → IsPast stanzas swapped news past
+    → SomeFound stanzas swapped olds news → InOrder rows.first past rows.all (row_count news)
+found-order stanzas swapped olds news rows past are up_to some =
     let found = some.found in
-    let begin = are.first_is it.first found.first in
-    let end = are.past_is found.past found.up_to in
-    subst (λ n. InOrder n past (row_count olds) (row_count news)) (sym begin)
-    (subst (λ n. InOrder it.first n (row_count olds) (row_count news)) (sym end) (record { order = found.order; inside = found.inside; old_inside = found.old_inside }))
+    let same = same-rows stanzas swapped olds news rows past some.exchange are up_to found in
+    subst (λ k. InOrder rows.first past k (row_count news)) (sym same.all_is)
+    (subst (λ n. InOrder n past (row_count olds) (row_count news)) (sym same.first_is)
+    (subst (λ n. InOrder some.exchange.first n (row_count olds) (row_count news)) (sym same.past_is) (record { order = found.order; inside = found.inside; old_inside = found.old_inside })))

@@ -1,5 +1,4 @@
 pub mod NextBlocks
-pub mod Searches
 pub mod Groups
 pub mod Bodies
 pub mod Relaid

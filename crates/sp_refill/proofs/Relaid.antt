@@ -30,7 +30,8 @@ use Rattle.spec_refill.proofs.Marks.{rows, shapes-moved}
 use Rattle.spec_refill.proofs.ElementMarks.{marks_of, count-marks}
 use Rattle.spec_refill.proofs.MovedMarks.{all-moved}
 use Rattle.sp_layout.specs.Bodies.{row_count}
-use Rattle.sp_refill.specs.Counts.{CountsBefore, RowsBefore, RowsUpTo}
+use Rattle.sp_layout.specs.Places.{CountsBefore}
+use Rattle.sp_refill.specs.Counts.{RowsBefore, RowsUpTo}
 use Rattle.sp_refill.proofs.NextBlocks.{block_by, last-there, last-append, joins-pair, rest_parted}
 use Rattle.sp_refill.proofs.Groups.{Begins, all-begin, PartedElements, parted-elements, first-element, joined-last}
 use Rattle.sp_refill.proofs.Bodies.{body_in, Low, High, counts-groups, rows-before, one-more}

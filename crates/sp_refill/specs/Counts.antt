@@ -1,18 +1,8 @@
--- How many elements begin before a line (docs/RULES.md, "Windows").
-use Rattle.std.specs.Prelude.{◌≡◌, ℕ, ◌+◌, ◌-◌, ◌<◌, ◌≤◌, Bool, true, false, List, length, take, slice_index_or}
+-- How many rows stand before the elements that begin from a line on (docs/RULES.md, "Windows").
+use Rattle.std.specs.Prelude.{◌≡◌, ℕ, ◌+◌, ◌-◌, ◌≤◌, Bool, true, false, List, length, take}
 use Rattle.spec_pages.specs.Rows.{ElementOf}
 use Rattle.sp_layout.specs.Bodies.{row_count}
-
--- So many elements begin before a line, by the lines that their rows count from, and the others from it on.
-pub record CountsBefore (elements : List ElementOf) (line count : ℕ) : Type 0 where
-  pub within : count ≤ length elements
-  pub before : (i : ℕ) (d : ElementOf) → i < count → (slice_index_or elements i d).first < line
-  pub behind : (i : ℕ) (d : ElementOf) → count ≤ i → i < length elements → line ≤ (slice_index_or elements i d).first
-
--- No element that begins from a line on stands before one that doesn't.
-pub record ArePartedAt (elements : List ElementOf) (line : ℕ) : Type 0 where
-  pub count : ℕ
-  pub is : CountsBefore elements line count
+use Rattle.sp_layout.specs.Places.{CountsBefore}
 
 abbrev pub one_if : Bool → ℕ
 one_if true = 1

@@ -5,4 +5,4 @@ mod blocks;
 mod elements;
 mod finder;
 
-pub use finder::{ExchangedRows, exchanged_rows};
+pub use finder::{ExchangedRows, RowsAhead, exchanged_rows, rows_ahead};

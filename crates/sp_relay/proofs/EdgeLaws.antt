@@ -1,9 +1,7 @@
 -- What stands before the edges of a part of a layout.
-use Rattle.std.proofs.Common.{◌≡◌, ℕ, ◌+◌, ◌-◌, ◌<◌, ◌≤◌, true, Bool, None, List, [], ◌++◌, length, get_or, ltb, take, drop, slice_range, inl, inr, refl, sym, ap, ap₂, subst, ◌∙◌, arith, length-append, take_at, All}
+use Rattle.std.proofs.Common.{◌≡◌, ℕ, ◌+◌, ◌-◌, ◌<◌, ◌≤◌, true, Bool, None, List, [], ◌++◌, length, get_or, take, drop, slice_range, inl, inr, refl, sym, ap, ap₂, subst, ◌∙◌, arith, length-append, take_at, All}
 use Rattle.std.specs.Prelude.{AllPairs}
-use Rattle.std.specs.List.{list_any}
-use Rattle.std.specs.List.Sorted.{IsPartitionedBy}
-use Rattle.std.proofs.lemmas.Bool.{cases_lt, lt-ltb, ltb-true}
+use Rattle.std.proofs.lemmas.Bool.{cases_lt}
 use Rattle.std.proofs.lemmas.List.{get_or_append_left, get_or-append_right}
 use Rattle.spec_text.specs.Lines.{LineState, TextState, IsText, line_texts}
 use Rattle.spec_script.specs.BlockValues.{StanzaOf}
@@ -17,7 +15,7 @@ use Rattle.spec_layout.proofs.RowLaws.{IsText-texts}
 use Rattle.spec_reread.specs.Windows.{stanza_lines_in}
 use Rattle.spec_reread.proofs.WindowBlocks.{blocks-append}
 use Rattle.spec_relay.specs.Moved.{speaker_behind}
-use Rattle.spec_relay.specs.RelaidStanzas.{OpensApart, stanza_settles}
+use Rattle.spec_relay.specs.RelaidStanzas.{OpensApart}
 use Rattle.spec_relay.proofs.Parts.{spoken-append}
 use Rattle.spec_relay.proofs.LayoutParts.{laid_of, laid-append, rows_in, breaks-append}
 use Rattle.spec_relay.proofs.PlacedElements.{element_first, spoken-firsts, laid-firsts, breaks-low, breaks-high}
@@ -25,50 +23,12 @@ use Rattle.spec_relay.proofs.RelaidStanzas.{front-stands}
 use Rattle.spec_relay.proofs.StanzaBlocks.{lines-append, blocks-past, opens-apart}
 use Rattle.sp_layout.specs.Bodies.{row_count}
 use Rattle.sp_layout.specs.LaidOut.{LayoutOf, keyed}
+use Rattle.sp_layout.specs.Places.{CountsBefore}
+use Rattle.sp_layout.proofs.ElementCounts.{counts-one, counts-parts}
 use Rattle.sp_relay.specs.declared.edges.PartEdge.{PartEdge}
 use Rattle.sp_relay.specs.Kept.{rows_to}
-use Rattle.sp_relay.specs.Edges.{BeginsBefore, BeginsFrom, PartsAt, CountsBefore, CanPart, IsEdge, IsPartStart, IsPartEnd, last_edge}
+use Rattle.sp_relay.specs.Edges.{CanPart, IsEdge, IsPartStart, IsPartEnd, last_edge, settled_by}
 use Rattle.sp_relay.proofs.StanzaLists.{take-split, opens-slice}
-
--- Elements that a line parts are in order, as far as it tells, and the place found by halves is that of the line.
-parted : (front behind : List ElementOf) (line : ℕ) → All (BeginsBefore line) front → All (BeginsFrom line) behind → IsPartitionedBy (λ (e : ElementOf). ltb e.first line) (front ++ behind)
-parted front behind line before from i j d order inside is =
-    elim (cases_lt j (length front)) [
-      | inl less ↦
-          let low : i < length front = omega (arith, order, less) in
-          ap (λ (e : ElementOf). ltb e.first line) (get_or_append_left front behind d i low) ∙ lt-ltb (get_or front i d).first line (before i d low)
-      | inr more ↦
-          let here = from (j - length front) d (omega (arith, inside, more, length-append front behind)) in
-          let there = ltb-true _ line is in
-          let same = ap (λ (e : ElementOf). e.first) (get_or-append_right front behind (length front) j d refl more) in
-          absurd (omega (arith, here, there, same))
-    ]
-
-pub parted-at : (elements : List ElementOf) (line : ℕ) → PartsAt elements line → IsPartitionedBy (λ (e : ElementOf). ltb e.first line) elements
-parted-at elements line it = subst (IsPartitionedBy (λ (e : ElementOf). ltb e.first line)) (sym it.are) (parted it.front it.behind line it.before it.from)
-
--- So many of these elements begin before a line.
-pub count-is : (front behind : List ElementOf) (line count : ℕ) → All (BeginsBefore line) front → All (BeginsFrom line) behind → CountsBefore (front ++ behind) line count → count ≡ length front
-count-is front behind line count before from it =
-    let d : ElementOf = record { first = 0; rows = [] } in
-    let size = length-append front behind in
-    let within = it.within in
-    elim (cases_lt count (length front)) [
-      | inl less ↦
-          let here = before count d less in
-          let there = it.from count d (omega arith) (omega (arith, size, less)) in
-          let same = ap (λ (e : ElementOf). e.first) (get_or_append_left front behind d count less) in
-          absurd (omega (arith, here, there, same))
-      | inr more ↦ elim (cases_lt (length front) count) [
-        | inr done ↦ omega (arith, more, done)
-        | inl past ↦
-            let none : length front - length front ≡ 0 = omega arith in
-            let here = it.before (length front) d past in
-            let there = from 0 d (omega (arith, size, within, past)) in
-            let same = ap (λ (e : ElementOf). e.first) (get_or-append_right front behind (length front) (length front) d refl (omega arith) ∙ ap (λ n. get_or behind n d) none) in
-            absurd (omega (arith, here, there, same))
-      ]
-    ]
 
 -- So many of these page breaks stand before a row, and none at it.
 stops-are : (front behind : List ℕ) (row count : ℕ) → All (λ (stop : ℕ). stop ≤ row) front → All (λ (stop : ℕ). row ≤ stop) behind → count ≤ length (front ++ behind)
@@ -108,22 +68,32 @@ module _ (on : Bool) (before : List LineState) (layout : LayoutOf) (was : layout
   breaks-are : layout.breaks ≡ breaks_from before 0 front ++ breaks_from before (0 + rows_in before front) behind
   breaks-are = ap (λ (l : LayoutOf). l.breaks) was ∙ ap (breaks_from before 0) all ∙ breaks-append before 0 front behind
 
-  -- It does where so many begin before a line.
+  -- So many begin before a line.
+  titles-count : (line : ℕ) → All (λ (g : Group Spoken). element_first g < line) front → All (λ (g : Group Spoken). line ≤ element_first g) behind
+      → CountsBefore layout.titles.elements line (length (laid_of is_title_element before front))
+  titles-count line low high =
+      subst (λ (es : List ElementOf). CountsBefore es line (length (laid_of is_title_element before front))) (sym titles-are)
+      (counts-parts line (laid_of is_title_element before front) (laid_of is_title_element before behind)
+      (laid-firsts (λ n. n < line) is_title_element before front low) (laid-firsts (λ n. line ≤ n) is_title_element before behind high))
+
+  body-count : (line : ℕ) → All (λ (g : Group Spoken). element_first g < line) front → All (λ (g : Group Spoken). line ≤ element_first g) behind
+      → CountsBefore layout.body.elements line (length (laid_of in_body before front))
+  body-count line low high =
+      subst (λ (es : List ElementOf). CountsBefore es line (length (laid_of in_body before front))) (sym body-is)
+      (counts-parts line (laid_of in_body before front) (laid_of in_body before behind)
+      (laid-firsts (λ n. n < line) in_body before front low) (laid-firsts (λ n. line ≤ n) in_body before behind high))
+
+  -- The edge at the line stands there.
   pub edge-is : (line : ℕ) (edge : PartEdge) → All (λ (g : Group Spoken). element_first g < line) front → All (λ (g : Group Spoken). line ≤ element_first g) behind → IsEdge layout line edge → EdgeIs before front edge
   edge-is line edge low high it =
-      let low_titles = laid-firsts (λ n. n < line) is_title_element before front low in
-      let high_titles = laid-firsts (λ n. line ≤ n) is_title_element before behind high in
-      let low_body = laid-firsts (λ n. n < line) in_body before front low in
-      let high_body = laid-firsts (λ n. line ≤ n) in_body before behind high in
-      let titles = count-is (laid_of is_title_element before front) (laid_of is_title_element before behind) line edge.titles low_titles high_titles (subst (λ (es : List ElementOf). CountsBefore es line edge.titles) titles-are it.titles) in
-      let body = count-is (laid_of in_body before front) (laid_of in_body before behind) line edge.body low_body high_body (subst (λ (es : List ElementOf). CountsBefore es line edge.body) body-is it.body) in
+      let body = counts-one layout.body.elements line edge.body (length (laid_of in_body before front)) it.body (body-count line low high) in
       let row = 0 + rows_in before front in
       let row_is : rows_to layout edge.body ≡ row =
       ap₂ (λ n (es : List ElementOf). row_count (take n es)) body body-is
       ∙ ap row_count (take_at (laid_of in_body before front) (laid_of in_body before behind) (length (laid_of in_body before front)) refl) ∙ omega arith in
       let within = it.breaks.within in
       record {
-        titles = titles;
+        titles = counts-one layout.titles.elements line edge.titles (length (laid_of is_title_element before front)) it.titles (titles-count line low high);
         body = body;
         breaks = stops-are (breaks_from before 0 front) (breaks_from before row behind) row edge.breaks (breaks-high before 0 front) (breaks-low before row behind) (omega (arith, within, ap (λ (those : List ℕ). length those) breaks-are))
             (λ i less. let below = it.breaks.below i less in omega (arith, below, row_is, ap (λ (those : List ℕ). get_or those i 0) breaks-are))
@@ -136,20 +106,8 @@ module _ (on : Bool) (before : List LineState) (layout : LayoutOf) (was : layout
   -- A line parts the layout so.
   pub parts-at : (line : ℕ) → All (λ (g : Group Spoken). element_first g < line) front → All (λ (g : Group Spoken). line ≤ element_first g) behind → CanPart layout line
   parts-at line low high = record {
-    titles = record {
-      front = laid_of is_title_element before front;
-      behind = laid_of is_title_element before behind;
-      are = titles-are;
-      before = laid-firsts (λ n. n < line) is_title_element before front low;
-      from = laid-firsts (λ n. line ≤ n) is_title_element before behind high;
-    };
-    body = record {
-      front = laid_of in_body before front;
-      behind = laid_of in_body before behind;
-      are = body-is;
-      before = laid-firsts (λ n. n < line) in_body before front low;
-      from = laid-firsts (λ n. line ≤ n) in_body before behind high;
-    };
+    titles = record { count = length (laid_of is_title_element before front); is = titles-count line low high };
+    body = record { count = length (laid_of in_body before front); is = body-count line low high };
     breaks = subst (λ (l : LayoutOf). AllPairs (λ (one other : ℕ). one ≤ other) l.breaks) (sym was) (layout_of-breaks on before);
   }
 
@@ -193,14 +151,14 @@ start-found stanzas at layout edge place line stanza low opens is it = record {
   );
 }
 
-pub end-found : (stanzas : List StanzaOf) (to was end : ℕ) (layout : LayoutOf) (edge : PartEdge) (place line : ℕ) → edge.stanza ≡ place → to ≤ place → place < length stanzas → OpensApart (drop place stanzas)
-    → list_any stanza_settles (slice_range stanzas to place) ≡ true → line ≡ stanza_lines_in (take place stanzas) - end + was → IsEdge layout line edge → IsPartEnd stanzas to was end layout edge
-end-found stanzas to was end layout edge place line stanza low inside opens settles is it = record {
+pub end-found : (stanzas : List StanzaOf) (to was end : ℕ) (quiet : Bool) (layout : LayoutOf) (edge : PartEdge) (place line : ℕ) → edge.stanza ≡ place → to ≤ place → place < length stanzas → OpensApart (drop place stanzas)
+    → settled_by stanzas to quiet place ≡ true → line ≡ stanza_lines_in (take place stanzas) - end + was → IsEdge layout line edge → IsPartEnd stanzas to was end quiet layout edge
+end-found stanzas to was end quiet layout edge place line stanza low inside opens settles is it = record {
   low = omega (arith, stanza, low);
   within = omega (arith, stanza, inside);
   is = inr (
     subst (λ n. OpensApart (drop n stanzas)) (sym stanza) opens,
-    ap (λ n. list_any stanza_settles (slice_range stanzas to n)) stanza ∙ settles,
+    ap (settled_by stanzas to quiet) stanza ∙ settles,
     subst (λ n. IsEdge layout n edge) (is ∙ sym (ap (λ n. stanza_lines_in (take n stanzas) - end + was) stanza)) it,
   );
 }

@@ -1,6 +1,7 @@
 -- The part of a layout that an edit changes, by the stanzas round its window.
-use Rattle.std.proofs.Common.{◌≡◌, ◌⊎◌, ℕ, ◌+◌, ◌-◌, ◌<◌, ◌≤◌, Bool, true, false, cond, Option, None, List, [], ◌++◌, length, map, get_or, take, drop, slice_range, inl, inr, refl, sym, ap, ap₂, subst, ◌∙◌, arith, append_assoc, length-append, take-append-drop, get_or-take, get_or-drop, All}
+use Rattle.std.proofs.Common.{◌≡◌, ◌⊎◌, ℕ, ◌+◌, ◌-◌, ◌<◌, ◌≤◌, Bool, true, false, not, cond, Option, None, List, [], ◌++◌, length, map, get_or, take, drop, slice_range, inl, inr, refl, sym, ap, ap₂, subst, ◌∙◌, arith, append_assoc, length-append, take-append-drop, get_or-take, get_or-drop, All}
 use Rattle.std.specs.List.{list_any}
+use Rattle.std.proofs.lemmas.Bool.{not-true, or_cases, or_parts}
 use Rattle.std.proofs.lemmas.List.{append-nil, drop_all, length-map}
 use Rattle.std.proofs.lemmas.List.Elements.{All-append}
 use Rattle.spec_text.specs.Lines.{LineState, TextState, IsText, line_texts}
@@ -17,7 +18,8 @@ use Rattle.spec_reread.specs.Windows.{stanza_lines_in}
 use Rattle.spec_reread.proofs.Counts.{count-from}
 use Rattle.spec_relayout.proofs.WindowSides.{all-front, all-back}
 use Rattle.spec_relay.specs.Moved.{moved_place, moved_group, speaker_behind}
-use Rattle.spec_relay.specs.RelaidStanzas.{StanzasRelaid, stanza_settles}
+use Rattle.spec_relay.specs.RelaidBlocks.{AreRelaid}
+use Rattle.spec_relay.specs.RelaidStanzas.{OpensApart, StanzasRelaid, stanza_settles}
 use Rattle.spec_relay.proofs.PlacedElements.{element_first, spoken-firsts}
 use Rattle.spec_relay.proofs.LayoutParts.{laid_of, laid-append, rows_in, breaks-append}
 use Rattle.spec_relay.proofs.RelaidParts.{ElementsRelaid, elements-relaid}
@@ -34,8 +36,10 @@ use Rattle.sp_relay.specs.declared.kept.PartPlaces.{PartPlaces}
 use Rattle.sp_relay.specs.Kept.{CanSwap}
 use Rattle.sp_relay.specs.Relaid.{IsRelaid, places_of}
 use Rattle.sp_relay.specs.Edges.{CanPart, CanBegin, CanEnd, IsEdge, IsPartStart, IsPartEnd, edge_places}
-use Rattle.sp_relay.specs.Edited.{WasLaid, window_start, window_end, window_was}
+use Rattle.sp_relay.specs.Edited.{AreAlike, WasLaid, window_start, window_end, window_was, windows_settle}
 use Rattle.sp_relay.proofs.StanzaLists.{drop-split, take-split, slice-split, part-four, opens-slice}
+use Rattle.sp_relay.proofs.SpeakerLaws.{behind-quiet}
+use Rattle.sp_relay.proofs.QuietLaws.{quiet-relaid}
 use Rattle.sp_relay.proofs.EdgeLaws.{EdgeIs, edge-is, edge-last, can-part}
 use Rattle.sp_relay.proofs.SwapLaws.{relaid-can}
 
@@ -115,7 +119,8 @@ module _ (lines : TextState) (stanzas : List StanzaOf) (swapped : SwappedState) 
       let there : was + n ≡ place = omega (arith, low) in
       ap (λ p. get_or lines.lines p d) here ∙ sym (get_or-drop end lines.lines n d) ∙ ap (λ (ls : List LineState). get_or ls n d) (sym it.of.rest) ∙ get_or-drop was it.before.lines n d ∙ ap (λ p. get_or it.before.lines p d) there
 
-  module _ (list : stanzas ≡ stanzas_of (line_texts lines.lines)) (keeps : IsText lines) (start stop : PartEdge) (begins : IsPartStart stanzas at layout start) (ends : IsPartEnd stanzas to was end layout stop) where
+  module _ (list : stanzas ≡ stanzas_of (line_texts lines.lines)) (keeps : IsText lines) (start stop : PartEdge) (quiet : Bool) (begins : IsPartStart stanzas at layout start) (ends : IsPartEnd stanzas to was end quiet layout stop)
+      (told : quiet ≡ not (windows_settle stanzas swapped)) where
     abbrev front : List StanzaOf
     front = take start.stanza stanzas
 
@@ -152,18 +157,22 @@ module _ (lines : TextState) (stanzas : List StanzaOf) (swapped : SwappedState) 
         let two = ends.low in
         slice-split stanzas start.stanza at stop.stanza one (omega (arith, two)) ∙ ap (λ (ss : List StanzaOf). ahead ++ ss) (slice-split stanzas at to stop.stanza (omega arith) two)
 
-    new-parts : stanzas ≡ front ++ ((ahead ++ (come ++ behind)) ++ rest)
-    new-parts =
-        let one = begins.within in
-        let two = ends.low in
-        sym (take-append-drop start.stanza stanzas) ∙ ap (λ (ss : List StanzaOf). front ++ ss) (drop-split stanzas start.stanza stop.stanza (omega (arith, one, two)) ∙ ap (λ (ss : List StanzaOf). ss ++ rest) window)
+    -- The stanzas of both texts, of which some behind the window are laid out anew.
+    old-front : olds ≡ front ++ (ahead ++ (gone ++ drop to stanzas))
+    old-front =
+        old-stanzas ∙ ap (λ (ss : List StanzaOf). ss ++ (gone ++ drop to stanzas)) (take-split stanzas start.stanza at begins.within)
+        ∙ append_assoc front ahead (gone ++ drop to stanzas)
+
+    new-front : stanzas ≡ front ++ (ahead ++ (come ++ drop to stanzas))
+    new-front =
+        sym (take-append-drop start.stanza stanzas)
+        ∙ ap (λ (ss : List StanzaOf). front ++ ss) (drop-split stanzas start.stanza at begins.within ∙ ap (λ (ss : List StanzaOf). ahead ++ ss) (drop-split stanzas at to (omega arith)))
+
+    part-to : (mid those others : List StanzaOf) → drop to stanzas ≡ those ++ others → front ++ (ahead ++ (mid ++ drop to stanzas)) ≡ front ++ ((ahead ++ (mid ++ those)) ++ others)
+    part-to mid those others is = ap (λ (ss : List StanzaOf). front ++ ss) (ap (λ (ss : List StanzaOf). ahead ++ (mid ++ ss)) is ∙ part-four ahead mid those others)
 
     old-parts : olds ≡ front ++ ((ahead ++ (gone ++ behind)) ++ rest)
-    old-parts =
-        old-stanzas
-        ∙ ap₂ (λ (xs ys : List StanzaOf). xs ++ (gone ++ ys)) (take-split stanzas start.stanza at begins.within) inner
-        ∙ append_assoc front ahead (gone ++ (behind ++ rest))
-        ∙ ap (λ (ss : List StanzaOf). front ++ ss) (part-four ahead gone behind rest)
+    old-parts = old-front ∙ part-to gone behind rest inner
 
     start-lines : window_start stanzas swapped ≡ stanza_lines_in front + stanza_lines_in ahead
     start-lines = ap stanza_lines_in (take-split stanzas start.stanza at begins.within) ∙ lines-append front ahead
@@ -171,10 +180,11 @@ module _ (lines : TextState) (stanzas : List StanzaOf) (swapped : SwappedState) 
     end-lines : end ≡ window_start stanzas swapped + stanza_lines_in come
     end-lines = ap stanza_lines_in (take-split stanzas at to (omega arith)) ∙ lines-append (take at stanzas) come
 
-    parts : StanzasRelaid it.before.lines lines.lines front ahead gone come behind rest (window_start stanzas swapped) was end
-    parts = record {
-      old = old-parts;
-      new = sym list ∙ new-parts;
+    parts-to : (those others : List StanzaOf) → drop to stanzas ≡ those ++ others → (others ≡ []) ⊎ (OpensApart others × (list_any stanza_settles those ≡ true))
+        → StanzasRelaid it.before.lines lines.lines front ahead gone come those others (window_start stanzas swapped) was end
+    parts-to those others is apart = record {
+      old = old-front ∙ part-to gone those others is;
+      new = sym list ∙ new-front ∙ part-to come those others is;
       start_is = start-lines;
       was_is = refl;
       end_is = end-lines;
@@ -182,21 +192,43 @@ module _ (lines : TextState) (stanzas : List StanzaOf) (swapped : SwappedState) 
         | inl first ↦ inl (ap (λ (e : PartEdge). take e.stanza stanzas) first)
         | inr both ↦ inr both.0
       ];
-      rest_apart = elim ends.is [
-        | inl last ↦ inl (ap (λ (e : PartEdge). drop e.stanza stanzas) last ∙ drop_all (length stanzas) stanzas (omega arith))
-        | inr both ↦ inr (both.0, both.1)
-      ];
+      rest_apart = apart;
       still = lines-still;
       moved = lines-moved;
     }
 
+    abbrev Relaid : Type 0
+    Relaid = AreRelaid on it.before.lines lines.lines was end (blocks_from 0 front) (blocks_from (stanza_lines_in front) (ahead ++ (gone ++ behind))) (blocks_from (stanza_lines_in front) (ahead ++ (come ++ behind)))
+        (blocks_from (was + stanza_lines_in behind) rest)
+
+    -- Where a heading or a speech stands between the window and the end of the part, or the part ends behind all.
+    relaid-settled : (rest ≡ []) ⊎ (OpensApart rest × (list_any stanza_settles behind ≡ true)) → Relaid
+    relaid-settled apart =
+        let are = IsText-texts it.before it.of.keeps in
+        stanzas-relaid it.before.lines lines.lines front ahead gone come behind rest (window_start stanzas swapped) was end (parts-to behind rest inner apart) are.utf8 are.few on
+
+    -- Where neither window has one.
+    relaid-quiet : OpensApart rest → quiet ≡ true → Relaid
+    relaid-quiet opens is =
+        let are = IsText-texts it.before it.of.keeps in
+        let none = or_parts (list_any stanza_settles gone) (list_any stanza_settles come) (not-true (windows_settle stanzas swapped) (sym told ∙ is)) in
+        quiet-relaid it.before.lines lines.lines front ahead gone come behind rest (window_start stanzas swapped) was end
+        (parts-to (behind ++ rest) [] (inner ∙ sym (append-nil (behind ++ rest))) (inl refl)) are.utf8 are.few on opens none.0 none.1
+
+    relaid : Relaid
+    relaid = elim ends.is [
+      | inl last ↦ relaid-settled (inl (ap (λ (e : PartEdge). drop e.stanza stanzas) last ∙ drop_all (length stanzas) stanzas (omega arith)))
+      | inr both ↦ elim (or_cases quiet (list_any stanza_settles behind) both.1) [
+        | inl is ↦ relaid-quiet both.0 is
+        | inr between ↦ relaid-settled (inr (both.0, between))
+      ]
+    ]
+
     elements : ElementsRelaid on it.before.lines lines.lines was end (blocks_from 0 front) (blocks_from (stanza_lines_in front) (ahead ++ (gone ++ behind))) (blocks_from (stanza_lines_in front) (ahead ++ (come ++ behind)))
         (blocks_from (was + stanza_lines_in behind) rest)
     elements =
-        let are = IsText-texts it.before it.of.keeps in
         elements-relaid on it.before.lines lines.lines was end (blocks_from 0 front) (blocks_from (stanza_lines_in front) (ahead ++ (gone ++ behind))) (blocks_from (stanza_lines_in front) (ahead ++ (come ++ behind)))
-        (blocks_from (was + stanza_lines_in behind) rest)
-        (stanzas-relaid it.before.lines lines.lines front ahead gone come behind rest (window_start stanzas swapped) was end parts are.utf8 are.few on)
+        (blocks_from (was + stanza_lines_in behind) rest) relaid
 
     abbrev first : ℕ
     first = stanza_lines_in front
@@ -310,9 +342,23 @@ module _ (lines : TextState) (stanzas : List StanzaOf) (swapped : SwappedState) 
           at = places-are;
         }
 
-    -- And the part can be put in.
-    pub edit-can : CanSwap layout places (layout_behind lines.lines speakers blocks)
-    edit-can = relaid-can it.before lines speakers blocks places layout it.of.keeps keeps edit-relaid
+-- A part is laid out anew also behind other speakers, where its blocks are the same elements behind them.
+relaid-alike : (before lines : List LineState) (speakers others : SpeakersOf) (blocks : List PlacedBlock) (places : PartPlaces) (layout : LayoutOf) → AreAlike lines blocks speakers others
+    → IsRelaid before lines others blocks places layout → IsRelaid before lines speakers blocks places layout
+relaid-alike before lines speakers others blocks places layout alike it =
+    let P : Bool → Type 0 = λ on. IsRelaid before lines (record { on = on; last = speakers.last }) blocks places layout in
+    let moved = map (moved_group places.less places.more) it.rest in
+    subst P (sym alike.on) (record {
+      front = it.front;
+      gone = it.gone;
+      rest = it.rest;
+      was = it.was;
+      old = it.old;
+      new = it.new ∙ ap (λ (gs : List (Group Spoken)). it.front ++ (gs ++ moved)) (sym alike.same);
+      still = it.still;
+      moved = it.moved;
+      at = it.at;
+    })
 
 -- What the call that lays a part out anew asks and is asked for.
 pub record EditedPart (before lines : List LineState) (layout : LayoutOf) (speakers : SpeakersOf) (blocks : List PlacedBlock) (places : PartPlaces) : Type 0 where
@@ -320,19 +366,21 @@ pub record EditedPart (before lines : List LineState) (layout : LayoutOf) (speak
   pub can : CanSwap layout places (layout_behind lines speakers blocks)
 
 pub edited-part : (lines : TextState) (stanzas : List StanzaOf) (swapped : SwappedState) (on : Bool) (layout : LayoutOf) (it : WasLaid lines.lines stanzas swapped on layout) → stanzas ≡ stanzas_of (line_texts lines.lines) → IsText lines
-    → (from upto was end : ℕ) (start stop : PartEdge) (speakers : SpeakersOf) (blocks : List PlacedBlock) (places : PartPlaces) → from ≡ swapped.at → upto ≡ swapped.at + swapped.stands → was ≡ window_was stanzas swapped → end ≡ window_end stanzas swapped
-    → IsPartStart stanzas from layout start → IsPartEnd stanzas upto was end layout stop → speakers ≡ speakers_after (line_texts lines.lines) on (blocks_from 0 (take start.stanza stanzas))
-    → blocks ≡ blocks_from (stanza_lines_in (take start.stanza stanzas)) (slice_range stanzas start.stanza stop.stanza) → places ≡ edge_places start stop was end
+    → (from upto was end : ℕ) (start stop : PartEdge) (quiet : Bool) (speakers : SpeakersOf) (blocks : List PlacedBlock) (places : PartPlaces) → from ≡ swapped.at → upto ≡ swapped.at + swapped.stands → was ≡ window_was stanzas swapped
+    → end ≡ window_end stanzas swapped → IsPartStart stanzas from layout start → IsPartEnd stanzas upto was end quiet layout stop → quiet ≡ not (windows_settle stanzas swapped)
+    → blocks ≡ blocks_from (stanza_lines_in (take start.stanza stanzas)) (slice_range stanzas start.stanza stop.stanza)
+    → AreAlike lines.lines blocks speakers (speakers_after (line_texts lines.lines) on (blocks_from 0 (take start.stanza stanzas))) → places ≡ edge_places start stop was end
     → EditedPart it.before.lines lines.lines layout speakers blocks places
-edited-part lines stanzas swapped on layout it list keeps from upto was end start stop speakers blocks places from_is upto_is was_is end_is begins ends speakers_are blocks_are places_are =
+edited-part lines stanzas swapped on layout it list keeps from upto was end start stop quiet speakers blocks places from_is upto_is was_is end_is begins ends told blocks_are alike places_are =
     let begin = subst (λ n. IsPartStart stanzas n layout start) from_is begins in
-    let stops = subst (λ n. IsPartEnd stanzas (swapped.at + swapped.stands) (window_was stanzas swapped) n layout stop) end_is
-    (subst (λ n. IsPartEnd stanzas (swapped.at + swapped.stands) n end layout stop) was_is (subst (λ n. IsPartEnd stanzas n was end layout stop) upto_is ends)) in
+    let stops = subst (λ n. IsPartEnd stanzas (swapped.at + swapped.stands) (window_was stanzas swapped) n quiet layout stop) end_is
+    (subst (λ n. IsPartEnd stanzas (swapped.at + swapped.stands) n end quiet layout stop) was_is (subst (λ n. IsPartEnd stanzas n was end quiet layout stop) upto_is ends)) in
     let places_same : places ≡ edge_places start stop (window_was stanzas swapped) (window_end stanzas swapped) = places_are ∙ ap₂ (λ n m. edge_places start stop n m) was_is end_is in
-    let relaid = subst (λ (p : PartPlaces). IsRelaid it.before.lines lines.lines speakers blocks p layout) (sym places_same)
-    (subst (λ (bs : List PlacedBlock). IsRelaid it.before.lines lines.lines speakers bs (edge_places start stop (window_was stanzas swapped) (window_end stanzas swapped)) layout) (sym blocks_are)
-    (subst (λ (s : SpeakersOf). IsRelaid it.before.lines lines.lines s (blocks_from (stanza_lines_in (take start.stanza stanzas)) (slice_range stanzas start.stanza stop.stanza)) (edge_places start stop (window_was stanzas swapped) (window_end stanzas swapped)) layout) (sym speakers_are)
-    (edit-relaid lines stanzas swapped on layout it list keeps start stop begin stops))) in
+    let own = speakers_after (line_texts lines.lines) on (blocks_from 0 (take start.stanza stanzas)) in
+    let relaid = relaid-alike it.before.lines lines.lines speakers own blocks places layout alike
+    (subst (λ (p : PartPlaces). IsRelaid it.before.lines lines.lines own blocks p layout) (sym places_same)
+    (subst (λ (bs : List PlacedBlock). IsRelaid it.before.lines lines.lines own bs (edge_places start stop (window_was stanzas swapped) (window_end stanzas swapped)) layout) (sym blocks_are)
+    (edit-relaid lines stanzas swapped on layout it list keeps start stop quiet begin stops told))) in
     record { relaid = relaid; can = relaid-can it.before lines speakers blocks places layout it.of.keeps keeps relaid }
 
 pub can-end-at : (lines : TextState) (stanzas : List StanzaOf) (swapped : SwappedState) (on : Bool) (layout : LayoutOf) → WasLaid lines.lines stanzas swapped on layout → (upto was end : ℕ) → upto ≡ swapped.at + swapped.stands
@@ -375,19 +423,35 @@ slice-lies text stanzas from to keeps is order =
     let lie = subst (All (PlacedLies texts)) blocks (blocks_of-lie texts are.utf8 are.few).lie in
     all-front (PlacedLies texts) mid last (all-back (PlacedLies texts) (blocks_from 0 (take from stanzas)) (mid ++ last) lie)
 
--- Who spoke last before a stanza, told by those from one on with a heading or a speech.
-pub speakers-told : (texts : List (List ℕ)) (on : Bool) (stanzas : List StanzaOf) (from to : ℕ) → from ≤ to → (from ≡ 0) ⊎ (list_any stanza_settles (slice_range stanzas from to) ≡ true)
-    → speakers_after texts on (blocks_from (stanza_lines_in (take from stanzas)) (slice_range stanzas from to)) ≡ speakers_after texts on (blocks_from 0 (take to stanzas))
-speakers-told texts on stanzas from to order settles =
+-- Who spoke last before a stanza, by those up to an earlier one and those behind it.
+behind-to : (texts : List (List ℕ)) (stanzas : List StanzaOf) (from to : ℕ) → from ≤ to
+    → speaker_behind texts None (blocks_from 0 (take to stanzas))
+    ≡ speaker_behind texts (speaker_behind texts None (blocks_from 0 (take from stanzas))) (blocks_from (stanza_lines_in (take from stanzas)) (slice_range stanzas from to))
+behind-to texts stanzas from to order =
     let start : 0 + stanza_lines_in (take from stanzas) ≡ stanza_lines_in (take from stanzas) = omega arith in
     let one = blocks_from 0 (take from stanzas) in
     let two = blocks_from (stanza_lines_in (take from stanzas)) (slice_range stanzas from to) in
     let blocks : blocks_from 0 (take to stanzas) ≡ one ++ two =
     ap (blocks_from 0) (take-split stanzas from to order) ∙ blocks-append 0 (take from stanzas) (slice_range stanzas from to) ∙ ap (λ n. one ++ blocks_from n (slice_range stanzas from to)) start in
-    let whole : speaker_behind texts None (blocks_from 0 (take to stanzas)) ≡ speaker_behind texts (speaker_behind texts None one) two = ap (speaker_behind texts None) blocks ∙ behind-append texts None one two in
+    ap (speaker_behind texts None) blocks ∙ behind-append texts None one two
+
+-- Those from one with a heading or a speech on tell it, and those without one don't change it.
+pub speakers-told : (texts : List (List ℕ)) (on : Bool) (stanzas : List StanzaOf) (from to : ℕ) → from ≤ to → (from ≡ 0) ⊎ (list_any stanza_settles (slice_range stanzas from to) ≡ true)
+    → speakers_after texts on (blocks_from (stanza_lines_in (take from stanzas)) (slice_range stanzas from to)) ≡ speakers_after texts on (blocks_from 0 (take to stanzas))
+speakers-told texts on stanzas from to order settles =
+    let one = blocks_from 0 (take from stanzas) in
+    let two = blocks_from (stanza_lines_in (take from stanzas)) (slice_range stanzas from to) in
     let same : speaker_behind texts (speaker_behind texts None one) two ≡ speaker_behind texts None two = elim settles [
       | inl zero ↦ ap (λ n. speaker_behind texts (speaker_behind texts None (blocks_from 0 (take n stanzas))) two) zero
       | inr some ↦ behind-settled texts (speaker_behind texts None one) None two (any-blocks (stanza_lines_in (take from stanzas)) (slice_range stanzas from to) ∙ some)
     ] in
     let P : Option (List ℕ) → SpeakersOf = λ last. record { on = on; last = cond on last None } in
-    ap P (sym (whole ∙ same))
+    ap P (sym (behind-to texts stanzas from to order ∙ same))
+
+pub speakers-kept : (texts : List (List ℕ)) (on : Bool) (stanzas : List StanzaOf) (from to : ℕ) → from ≤ to → list_any stanza_settles (slice_range stanzas from to) ≡ false
+    → speakers_after texts on (blocks_from 0 (take from stanzas)) ≡ speakers_after texts on (blocks_from 0 (take to stanzas))
+speakers-kept texts on stanzas from to order none =
+    let last = speaker_behind texts None (blocks_from 0 (take from stanzas)) in
+    let P : Option (List ℕ) → SpeakersOf = λ last. record { on = on; last = cond on last None } in
+    let two = blocks_from (stanza_lines_in (take from stanzas)) (slice_range stanzas from to) in
+    ap P (sym (behind-to texts stanzas from to order ∙ behind-quiet texts last two (any-blocks (stanza_lines_in (take from stanzas)) (slice_range stanzas from to) ∙ none)))

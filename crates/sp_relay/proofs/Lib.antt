@@ -1,6 +1,8 @@
 pub mod RunsBack
 pub mod PartLaws
 pub mod StanzaLists
+pub mod SpeakerLaws
+pub mod QuietLaws
 pub mod EdgeLaws
 pub mod SwapLaws
 pub mod EditedLaws

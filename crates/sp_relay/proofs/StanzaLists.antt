@@ -1,11 +1,14 @@
 -- Parts of lists of stanzas.
 use Rattle.std.proofs.Common.{◌≡◌, ℕ, suc, ◌+◌, ◌-◌, ◌<◌, ◌≤◌, Bool, true, false, ◌||◌, List, [], ◌∷◌, ◌++◌, take, drop, slice_get, slice_range, Some, refl, sym, ap, ap₂, subst, ◌∙◌, arith, append_assoc, take-append-drop, take-add, drop-drop}
 use Rattle.std.specs.List.{list_any}
+use Rattle.std.proofs.Math.Bool.{or-false}
+use Rattle.std.proofs.lemmas.Bool.{or_left, or_right}
 use Rattle.std.proofs.lemmas.List.{drop_more}
 use Rattle.std.proofs.lemmas.List.Folds.{list_any-append}
 use Rattle.std.proofs.lemmas.Option.{slice_get_within, get_or_from_slice_get}
 use Rattle.spec_script.specs.BlockValues.{StanzaOf}
 use Rattle.spec_relay.specs.RelaidStanzas.{first_apart, OpensApart, stanza_settles}
+use Rattle.sp_relay.specs.Edges.{settled_by}
 
 pub drop-split : {X : Type 0} (xs : List X) (i j : ℕ) → i ≤ j → drop i xs ≡ slice_range xs i j ++ drop j xs
 drop-split xs i j order =
@@ -51,21 +54,42 @@ opens-first stanzas i s at is = subst OpensApart (drop-at stanzas i s at) is
 pub settles-none : (stanzas : List StanzaOf) (i : ℕ) → list_any stanza_settles (slice_range stanzas i i) ≡ false
 settles-none stanzas i = let none : i - i ≡ 0 = omega arith in ap (λ n. list_any stanza_settles (take n (drop i stanzas))) none
 
+pub settles-split : (stanzas : List StanzaOf) (i j k : ℕ) → i ≤ j → j ≤ k
+    → list_any stanza_settles (slice_range stanzas i k) ≡ (list_any stanza_settles (slice_range stanzas i j) || list_any stanza_settles (slice_range stanzas j k))
+settles-split stanzas i j k one two = ap (list_any stanza_settles) (slice-split stanzas i j k one two) ∙ list_any-append stanza_settles (slice_range stanzas i j) (slice_range stanzas j k)
+
+pub settles-one : (stanzas : List StanzaOf) (i : ℕ) (s : StanzaOf) → slice_get stanzas i ≡ Some s → list_any stanza_settles (slice_range stanzas i (i + 1)) ≡ stanza_settles s
+settles-one stanzas i s at =
+    let one : i + 1 - i ≡ 1 = omega arith in
+    let own : slice_range stanzas i (i + 1) ≡ s ∷ [] = ap₂ (λ n (ss : List StanzaOf). take n ss) one (drop-at stanzas i s at) in
+    ap (list_any stanza_settles) own ∙ or-false (stanza_settles s)
+
 pub settles-next : (stanzas : List StanzaOf) (i j : ℕ) (s : StanzaOf) → i ≤ j → slice_get stanzas j ≡ Some s
     → list_any stanza_settles (slice_range stanzas i (j + 1)) ≡ (list_any stanza_settles (slice_range stanzas i j) || stanza_settles s)
-settles-next stanzas i j s order at =
-    let one : j + 1 - j ≡ 1 = omega arith in
-    let own : slice_range stanzas j (j + 1) ≡ s ∷ [] = ap₂ (λ n (ss : List StanzaOf). take n ss) one (drop-at stanzas j s at) in
-    ap (list_any stanza_settles) (slice-split stanzas i j (j + 1) order (omega arith) ∙ ap (λ (ss : List StanzaOf). slice_range stanzas i j ++ ss) own)
-    ∙ list_any-append stanza_settles (slice_range stanzas i j) (s ∷ [])
-    ∙ ap (λ b. list_any stanza_settles (slice_range stanzas i j) || b) (last (stanza_settles s))
-  where
-    last : (b : Bool) → (b || false) ≡ b
-    last true = refl
-    last false = refl
+settles-next stanzas i j s order at = settles-split stanzas i j (j + 1) order (omega arith) ∙ ap (λ b. list_any stanza_settles (slice_range stanzas i j) || b) (settles-one stanzas j s at)
 
--- The stanza at a place settles it for those from there up to a later place.
-pub settles-from : (stanzas : List StanzaOf) (i j : ℕ) (s : StanzaOf) → i < j → slice_get stanzas i ≡ Some s → stanza_settles s ≡ true → list_any stanza_settles (slice_range stanzas i j) ≡ true
-settles-from stanzas i j s order at is =
-    let count : j - i ≡ suc (j - i - 1) = omega (arith, order) in
-    ap₂ (λ n (ss : List StanzaOf). list_any stanza_settles (take n ss)) count (drop-at stanzas i s at) ∙ ap (λ b. b || list_any stanza_settles (take (j - i - 1) (drop (i + 1) stanzas))) is
+-- The same of the one before a place, and with those behind it.
+pub settles-last : (stanzas : List StanzaOf) (i : ℕ) (s : StanzaOf) → 0 < i → slice_get stanzas (i - 1) ≡ Some s → list_any stanza_settles (slice_range stanzas (i - 1) i) ≡ stanza_settles s
+settles-last stanzas i s some at =
+    let next : i ≡ i - 1 + 1 = omega (arith, some) in
+    ap (λ n. list_any stanza_settles (slice_range stanzas (i - 1) n)) next ∙ settles-one stanzas (i - 1) s at
+
+pub settles-before : (stanzas : List StanzaOf) (i j : ℕ) (s : StanzaOf) → 0 < i → i ≤ j → slice_get stanzas (i - 1) ≡ Some s
+    → list_any stanza_settles (slice_range stanzas (i - 1) j) ≡ (stanza_settles s || list_any stanza_settles (slice_range stanzas i j))
+settles-before stanzas i j s some order at =
+    settles-split stanzas (i - 1) i j (omega arith) order ∙ ap (λ b. b || list_any stanza_settles (slice_range stanzas i j)) (settles-last stanzas i s some at)
+
+-- The stanza at a place settles it for those round it.
+pub settles-in : (stanzas : List StanzaOf) (i j k : ℕ) (s : StanzaOf) → i ≤ j → j < k → slice_get stanzas j ≡ Some s → stanza_settles s ≡ true → list_any stanza_settles (slice_range stanzas i k) ≡ true
+settles-in stanzas i j k s low order at is =
+    settles-split stanzas i (j + 1) k (omega (arith, low)) (omega (arith, order))
+    ∙ or_left _ (list_any stanza_settles (slice_range stanzas (j + 1) k)) (settles-next stanzas i j s low at ∙ or_right (list_any stanza_settles (slice_range stanzas i j)) (stanza_settles s) is)
+
+-- Who spoke last is the same, right behind the window and with the next stanza.
+pub settled-none : (stanzas : List StanzaOf) (to : ℕ) (quiet : Bool) → quiet ≡ settled_by stanzas to quiet to
+settled-none stanzas to quiet = sym (ap (λ b. quiet || b) (settles-none stanzas to) ∙ or-false quiet)
+
+pub settled-next : (stanzas : List StanzaOf) (to : ℕ) (quiet : Bool) (place : ℕ) (s : StanzaOf) → to ≤ place → slice_get stanzas place ≡ Some s
+    → settled_by stanzas to quiet (place + 1) ≡ (settled_by stanzas to quiet place || stanza_settles s)
+settled-next stanzas to true place s order at = refl
+settled-next stanzas to false place s order at = settles-next stanzas to place s order at

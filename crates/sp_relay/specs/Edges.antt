@@ -1,42 +1,20 @@
 -- Where a part of a layout that is laid out anew begins and ends (docs/RULES.md, "Windows").
-use Rattle.std.specs.Prelude.{◌≡◌, ◌⊎◌, ℕ, ◌<◌, ◌≤◌, true, List, ◌++◌, length, take, drop, slice_range, slice_index, slice_index_or, All, AllPairs}
+use Rattle.std.specs.Prelude.{◌≡◌, ◌⊎◌, ℕ, ◌<◌, ◌≤◌, true, Bool, ◌||◌, List, length, take, drop, slice_range, slice_index, AllPairs}
 use Rattle.std.specs.List.{list_any}
 use Rattle.spec_script.specs.BlockValues.{StanzaOf}
-use Rattle.spec_pages.specs.Rows.{ElementOf}
 use Rattle.spec_reread.specs.Windows.{stanza_lines_in}
 use Rattle.spec_relay.specs.Moved.{moved_place}
 use Rattle.spec_relay.specs.RelaidStanzas.{OpensApart, stanza_settles}
-use Rattle.sp_layout.specs.Places.{CountsBelow}
+use Rattle.sp_layout.specs.Places.{ArePartedAt, CountsBefore, CountsBelow}
 use Rattle.sp_layout.specs.LaidOut.{LayoutOf}
 use Rattle.sp_relay.specs.declared.edges.PartEdge.{PartEdge}
 use Rattle.sp_relay.specs.declared.kept.PartPlaces.{PartPlaces}
 use Rattle.sp_relay.specs.Kept.{rows_to}
 
--- Elements begin before a line, or from it on.
-abbrev pub BeginsBefore : ℕ → ElementOf → Type 0
-BeginsBefore line element = element.first < line
-
-abbrev pub BeginsFrom : ℕ → ElementOf → Type 0
-BeginsFrom line element = line ≤ element.first
-
--- Those that begin before the line come first.
-pub record PartsAt (elements : List ElementOf) (line : ℕ) : Type 0 where
-  pub front : List ElementOf
-  pub behind : List ElementOf
-  pub are : elements ≡ front ++ behind
-  pub before : All (BeginsBefore line) front
-  pub from : All (BeginsFrom line) behind
-
--- So many elements begin before the line, and no later one does.
-pub record CountsBefore (elements : List ElementOf) (line count : ℕ) : Type 0 where
-  pub within : count ≤ length elements
-  pub before : (i : ℕ) (d : ElementOf) → i < count → BeginsBefore line (slice_index_or elements i d)
-  pub from : (i : ℕ) (d : ElementOf) → count ≤ i → i < length elements → BeginsFrom line (slice_index_or elements i d)
-
 -- A layout can be parted at a line.
 pub record CanPart (layout : LayoutOf) (line : ℕ) : Type 0 where
-  pub titles : PartsAt layout.titles.elements line
-  pub body : PartsAt layout.body.elements line
+  pub titles : ArePartedAt layout.titles.elements line
+  pub body : ArePartedAt layout.body.elements line
   pub breaks : AllPairs (λ one other. one ≤ other) layout.breaks
 
 -- A part begins or ends at a line: so many elements begin before it, and so many page breaks stand before the row that is then the
@@ -77,13 +55,18 @@ pub record IsPartStart (stanzas : List StanzaOf) (at : ℕ) (layout : LayoutOf) 
   pub within : edge.stanza ≤ at
   pub is : (edge ≡ first_edge) ⊎ (OpensApart (slice_range stanzas edge.stanza at) × IsEdge layout (stanza_lines_in (take edge.stanza stanzas)) edge)
 
--- It ends behind the window, which ends before the stanza `to`: before such a stanza with a heading or a speech between, or behind
--- all.
-pub record IsPartEnd (stanzas : List StanzaOf) (to was end : ℕ) (layout : LayoutOf) (edge : PartEdge) : Type 0 where
+-- Who spoke last before a stanza behind the window is the same in both texts: a heading or a speech stands between, or, as `quiet`
+-- tells, neither window has one.
+abbrev pub settled_by : List StanzaOf → ℕ → Bool → ℕ → Bool
+settled_by stanzas to quiet place = quiet || list_any stanza_settles (slice_range stanzas to place)
+
+-- It ends behind the window, which ends before the stanza `to`: before such a stanza, where who spoke last is the same in both texts,
+-- or behind all.
+pub record IsPartEnd (stanzas : List StanzaOf) (to was end : ℕ) (quiet : Bool) (layout : LayoutOf) (edge : PartEdge) : Type 0 where
   pub low : to ≤ edge.stanza
   pub within : edge.stanza ≤ length stanzas
   pub is : (edge ≡ last_edge stanzas layout)
-      ⊎ (OpensApart (drop edge.stanza stanzas) × (list_any stanza_settles (slice_range stanzas to edge.stanza) ≡ true)
+      ⊎ (OpensApart (drop edge.stanza stanzas) × (settled_by stanzas to quiet edge.stanza ≡ true)
       × IsEdge layout (moved_place end was (stanza_lines_in (take edge.stanza stanzas))) edge)
 
 -- The places of the part between two edges.
@@ -103,6 +86,6 @@ edge_places start stop was end = record {
 pub record IsNearestStart (stanzas : List StanzaOf) (at : ℕ) (layout : LayoutOf) (place : ℕ) : Type 0 where
   pub passed : (i : ℕ) → place < i → i < at → OpensApart (drop i stanzas) → BreaksAt layout (stanza_lines_in (take i stanzas))
 
--- The same from the window on before the last edge, where a heading or a speech stands between.
-pub record IsNearestEnd (stanzas : List StanzaOf) (to was end : ℕ) (layout : LayoutOf) (place : ℕ) : Type 0 where
-  pub passed : (i : ℕ) → to ≤ i → i < place → OpensApart (drop i stanzas) → list_any stanza_settles (slice_range stanzas to i) ≡ true → BreaksAt layout (moved_place end was (stanza_lines_in (take i stanzas)))
+-- The same from the window on before the last edge, where who spoke last is the same in both texts.
+pub record IsNearestEnd (stanzas : List StanzaOf) (to was end : ℕ) (quiet : Bool) (layout : LayoutOf) (place : ℕ) : Type 0 where
+  pub passed : (i : ℕ) → to ≤ i → i < place → OpensApart (drop i stanzas) → settled_by stanzas to quiet i ≡ true → BreaksAt layout (moved_place end was (stanza_lines_in (take i stanzas)))

@@ -1,11 +1,16 @@
 -- A layout of the text before an edit, told by what the edit displaced of its stanzas (docs/RULES.md, "Windows").
-use Rattle.std.specs.Prelude.{◌≡◌, ℕ, ◌+◌, Bool, List, take, drop}
+use Rattle.std.specs.Prelude.{◌≡◌, ℕ, ◌+◌, Bool, ◌||◌, List, take, drop, slice_range}
+use Rattle.std.specs.List.{list_any}
 use Rattle.spec_text.specs.Lines.{LineState, TextState, IsText, line_texts}
 use Rattle.spec_script.specs.BlockValues.{StanzaOf}
-use Rattle.spec_script.specs.Stanzas.{stanzas_of}
+use Rattle.spec_script.specs.Stanzas.{PlacedBlock, stanzas_of}
+use Rattle.spec_script.specs.Elements.{is_speech_kind}
+use Rattle.spec_layout.specs.Speakers.{spoken_elements}
 use Rattle.spec_layout.specs.Layout.{layout_of}
 use Rattle.spec_reread.specs.Windows.{stanza_lines_in}
+use Rattle.spec_relay.specs.RelaidStanzas.{stanza_settles}
 use Rattle.sp_layout.specs.LaidOut.{LayoutOf, keyed}
+use Rattle.sp_layout.specs.Speaking.{SpeakersOf}
 use Rattle.sp_reread.specs.Cache.{GivesBack, SwappedState}
 
 -- The line with which the window of an edit begins, and the line behind it in the text after the edit and in that before it.
@@ -31,3 +36,15 @@ pub record WasLaidOf (before : TextState) (lines : List LineState) (stanzas : Li
 pub record WasLaid (lines : List LineState) (stanzas : List StanzaOf) (swapped : SwappedState) (speakers : Bool) (layout : LayoutOf) : Type 0 where
   pub before : TextState
   pub of : WasLaidOf before lines stanzas swapped speakers layout
+
+-- A stanza of the window, or one that stood there before the edit, has a heading or a speech.
+abbrev pub windows_settle : List StanzaOf → SwappedState → Bool
+windows_settle stanzas swapped = list_any stanza_settles swapped.stanzas || list_any stanza_settles (slice_range stanzas swapped.at (swapped.at + swapped.stands))
+
+-- Blocks are the same elements behind these speakers as behind others. Only for a speech it matters who spoke last.
+pub record AreAlike (lines : List LineState) (blocks : List PlacedBlock) (speakers others : SpeakersOf) : Type 0 where
+  pub on : speakers.on ≡ others.on
+  pub same : spoken_elements others.on lines speakers.last blocks ≡ spoken_elements others.on lines others.last blocks
+
+abbrev pub is_speech : PlacedBlock → Bool
+is_speech placed = is_speech_kind placed.block.kind

@@ -3,13 +3,12 @@ ghost use Rattle.std.specs.Prelude.{◌≡◌, ◌<◌, ◌≤◌, ◌+◌, leng
 ghost use Rattle.spec_reread.specs.Windows.{stanza_lines_in};
 ghost use Rattle.spec_relay.specs.Moved.{moved_place};
 ghost use Rattle.spec_relay.specs.RelaidStanzas.{block_settles, first_apart, stanza_settles};
-ghost use Rattle.sp_relay.specs.Edges.{BreaksAt, CanBegin, CanEnd, CanPart, CountsBefore, IsEdge, IsNearestEnd, IsNearestStart, IsPartEnd, IsPartStart, PartsAt};
+ghost use Rattle.sp_relay.specs.Edges.{BreaksAt, CanBegin, CanEnd, CanPart, IsEdge, IsNearestEnd, IsNearestStart, IsPartEnd, IsPartStart};
 ghost use Rattle.sp_relay.specs.Kept.{laid_of};
 
 use crate::KeptLayout;
 use sp_blocks::{Block, Stanza};
-use sp_columns::Element;
-use sp_layout::count_below;
+use sp_layout::{count_below, elements_before};
 use sp_reread::Stanzas;
 use spec_script::Kind;
 
@@ -52,14 +51,6 @@ pub fn stanza_settles(stanza: &Stanza) -> bool
     false
 }
 
-/// How many elements begin before a line. Each step halves the elements that are left.
-fn count_before(elements: &[Element], line: u64) -> usize
-    requires { PartsAt elements.now line }
-    ensures { CountsBefore elements.now line result }
-{
-    elements.partition_point(|element| element.first < line)
-}
-
 /// The edge before a stanza that begins at a line of the layout's text, unless a page break stands right there.
 fn edge_at(kept: &KeptLayout, stanza: usize, line: usize) -> Option<PartEdge>
     requires { CanPart (laid_of kept.now) line }
@@ -67,8 +58,8 @@ fn edge_at(kept: &KeptLayout, stanza: usize, line: usize) -> Option<PartEdge>
     ensures stanza { IfSome result (λ edge. edge.stanza ≡ stanza) }
     ensures none { IfNone result (BreaksAt (laid_of kept.now) line) }
 {
-    let titles = count_before(kept.titles.elements(), line as u64);
-    let body = count_before(kept.body.elements(), line as u64);
+    let titles = elements_before(kept.titles.elements(), line);
+    let body = elements_before(kept.body.elements(), line);
     let row = kept.body.rows_before(body);
     let breaks = count_below(&kept.breaks, row);
     if breaks < kept.breaks.len() && kept.breaks[breaks] == row {
@@ -93,7 +84,7 @@ pub fn part_start(stanzas: &Stanzas, at: usize, kept: &KeptLayout) -> PartEdge
     while place > 0 {
         place -= 1;
         if opens_apart(stanzas.stanza(place)) {
-            if let Some(edge) = edge_at(kept, place, stanzas.first(place)) {
+            if let Some(edge) = edge_at(kept, place, stanzas.lines_before(place)) {
                 return edge;
             }
         }
@@ -107,19 +98,27 @@ pub fn part_start(stanzas: &Stanzas, at: usize, kept: &KeptLayout) -> PartEdge
 }
 
 /// Where the part ends, behind the window that ends before the stanza `to`: with the line `end`, which was the line `was`.
-pub fn part_end(stanzas: &Stanzas, to: usize, was: usize, end: usize, kept: &KeptLayout) -> PartEdge
+/// `quiet` tells that neither window has a heading or a speech.
+pub fn part_end(
+    stanzas: &Stanzas,
+    to: usize,
+    was: usize,
+    end: usize,
+    quiet: bool,
+    kept: &KeptLayout,
+) -> PartEdge
     requires within { to ≤ length stanzas.now.stanzas }
     requires end { end ≡ stanza_lines_in (take to stanzas.now.stanzas) }
     requires low { was + stanza_lines_in stanzas.now.stanzas ≤ 9223372036854775807 }
     requires can { CanEnd stanzas.now.stanzas to was end (laid_of kept.now) }
-    ensures is { IsPartEnd stanzas.now.stanzas to was end (laid_of kept.now) result }
-    ensures nearest { IsNearestEnd stanzas.now.stanzas to was end (laid_of kept.now) result.stanza }
+    ensures is { IsPartEnd stanzas.now.stanzas to was end quiet (laid_of kept.now) result }
+    ensures nearest { IsNearestEnd stanzas.now.stanzas to was end quiet (laid_of kept.now) result.stanza }
 {
-    let mut settled = false;
+    let mut settled = quiet;
     for place in to..stanzas.len() {
         let stanza = stanzas.stanza(place);
         if settled && opens_apart(stanza) {
-            let line = stanzas.first(place) - end + was;
+            let line = stanzas.lines_before(place) - end + was;
             if let Some(edge) = edge_at(kept, place, line) {
                 return edge;
             }

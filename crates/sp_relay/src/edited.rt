@@ -1,5 +1,5 @@
 //! A layout kept through an edit.
-ghost use Rattle.std.specs.Prelude.{◌≡◌, ◌⊎◌, ◌<◌, ◌≤◌, ◌+◌, true, length, take, slice_range, IfOk, OnErr, OnOk};
+ghost use Rattle.std.specs.Prelude.{◌≡◌, ◌⊎◌, ◌<◌, ◌≤◌, ◌+◌, ◌-◌, true, false, length, take, slice_range, IfOk, OnErr, OnOk};
 ghost use Rattle.std.specs.List.{list_any};
 ghost use Rattle.spec_text.specs.Lines.{TextState, line_texts};
 ghost use Rattle.spec_script.specs.Stanzas.{blocks_from, stanzas_of};
@@ -9,30 +9,17 @@ ghost use Rattle.sp_layout.specs.LaidOut.{keyed};
 ghost use Rattle.sp_layout.specs.Speaking.{speakers_after};
 ghost use Rattle.spec_relay.specs.RelaidStanzas.{stanza_settles};
 ghost use Rattle.sp_relay.specs.Edges.{edge_places};
-ghost use Rattle.sp_relay.specs.Edited.{WasLaid, WasLaidOf};
+ghost use Rattle.sp_relay.specs.Edited.{AreAlike, WasLaid, WasLaidOf, is_speech, windows_settle};
 ghost use Rattle.sp_relay.specs.Kept.{CanSwap, HasPartRoom, KeepsRoom, laid_of, with_part};
 ghost use Rattle.sp_relay.specs.Outside.{StaysOutside};
 
 use crate::edges::{PartEdge, part_end, part_start, stanza_settles};
 use crate::{KeptLayout, LayoutPart, PartPlaces, relay};
-use sp_blocks::Stanza;
-use sp_layout::{Speakers, placed_blocks_between};
+use sp_blocks::{Kind, Stanza};
+use sp_layout::{PlacedBlock, Speakers, placed_blocks_between};
 use sp_reread::{Stanzas, Swapped};
 use sp_text::Lines;
 use std::alloc::{AllocError, Global};
-
-/// How many lines stand before a stanza, or how many there are.
-fn lines_before(lines: &Lines, stanzas: &Stanzas, place: usize) -> usize
-    requires list { stanzas.now.stanzas ≡ stanzas_of (line_texts lines.now.lines) }
-    requires within { place ≤ length stanzas.now.stanzas }
-    ensures { result ≡ stanza_lines_in (take place stanzas.now.stanzas) }
-{
-    if place < stanzas.len() {
-        stanzas.first(place)
-    } else {
-        lines.len()
-    }
-}
 
 /// How many lines stanzas have.
 fn lines_in(stanzas: &[Stanza]) -> usize
@@ -46,23 +33,56 @@ fn lines_in(stanzas: &[Stanza]) -> usize
     count
 }
 
-/// The nearest stanza before a place from which on it doesn't matter who spoke before, or the first.
+/// Whether one of these stanzas has a heading or a speech.
+fn any_settles(stanzas: &[Stanza]) -> bool
+    ensures { result ≡ list_any stanza_settles stanzas.now }
+{
+    stanzas.iter().any(|stanza| stanza_settles(stanza))
+}
+
+/// The same of the stanzas from one place of a list to before another.
+fn settles_between(stanzas: &Stanzas, from: usize, to: usize) -> bool
+    requires order { from ≤ to }
+    requires within { to ≤ length stanzas.now.stanzas }
+    ensures { result ≡ list_any stanza_settles (slice_range stanzas.now.stanzas from to) }
+{
+    for place in from..to {
+        if stanza_settles(stanzas.stanza(place)) {
+            return true;
+        }
+    }
+    false
+}
+
+/// Whether a stanza of the window, or one that stood there before the edit, has a heading or a speech.
+fn windows_settle(stanzas: &Stanzas, swapped: &Swapped) -> bool
+    requires { swapped.now.at + swapped.now.stands ≤ length stanzas.now.stanzas }
+    ensures { result ≡ windows_settle stanzas.now.stanzas swapped.now }
+{
+    let _len = stanzas.len();
+    let at = swapped.at();
+    any_settles(swapped.stanzas()) || settles_between(stanzas, at, at + swapped.stands())
+}
+
+/// The place behind the last stanza up to here that has a heading or a speech, or 0.
 fn settled_before(stanzas: &Stanzas, to: usize) -> usize
     requires { to ≤ length stanzas.now.stanzas }
     ensures within { result ≤ to }
-    ensures settles { (result ≡ 0) ⊎ (list_any stanza_settles (slice_range stanzas.now.stanzas result to) ≡ true) }
+    ensures settles { (result ≡ 0) ⊎ (list_any stanza_settles (slice_range stanzas.now.stanzas (result - 1) result) ≡ true) }
+    ensures last { list_any stanza_settles (slice_range stanzas.now.stanzas result to) ≡ false }
 {
     let mut place = to;
     while place > 0 {
-        place -= 1;
-        if stanza_settles(stanzas.stanza(place)) {
+        if stanza_settles(stanzas.stanza(place - 1)) {
             return place;
         }
+        place -= 1;
     }
-    0
+    place
 }
 
-/// Who spoke last before a stanza. The error is want of memory alone.
+/// Who spoke last before a stanza. Of those before it, only the last one with a heading or a speech tells it. The error is want
+/// of memory alone.
 fn speakers_before(
     alloc: Global,
     lines: &Lines,
@@ -75,9 +95,43 @@ fn speakers_before(
     ensures { IfOk result (λ it. it ≡ speakers_after (line_texts lines.now.lines) speakers (blocks_from 0 (take to stanzas.now.stanzas))) }
 {
     let _count = lines.len();
-    let from = settled_before(stanzas, to);
-    let blocks = placed_blocks_between(alloc, stanzas, from, to)?;
+    let past = settled_before(stanzas, to);
+    let blocks = placed_blocks_between(alloc, stanzas, past.saturating_sub(1), past)?;
     Speakers::behind(alloc, lines, &blocks, speakers)
+}
+
+fn is_speech(placed: &PlacedBlock<'_>) -> bool
+    ensures { result ≡ is_speech placed.now }
+{
+    let block = placed.block;
+    matches!(block.kind, Kind::Speech)
+}
+
+fn has_speech(blocks: &[PlacedBlock<'_>]) -> bool
+    ensures { result ≡ list_any is_speech blocks.now }
+{
+    blocks.iter().any(|placed| is_speech(placed))
+}
+
+/// Speakers behind whom these blocks, which begin with a stanza, are the same elements as behind those who spoke before it.
+/// Where none of them is a speech, it doesn't matter who spoke. The error is want of memory alone.
+fn speakers_for(
+    alloc: Global,
+    lines: &Lines,
+    stanzas: &Stanzas,
+    to: usize,
+    blocks: &[PlacedBlock<'_>],
+    speakers: bool,
+) -> Result<Speakers, AllocError>
+    requires list { stanzas.now.stanzas ≡ stanzas_of (line_texts lines.now.lines) }
+    requires within { to ≤ length stanzas.now.stanzas }
+    ensures { IfOk result (λ it. AreAlike lines.now.lines blocks.now it (speakers_after (line_texts lines.now.lines) speakers (blocks_from 0 (take to stanzas.now.stanzas)))) }
+{
+    if speakers && has_speech(blocks) {
+        speakers_before(alloc, lines, stanzas, to, speakers)
+    } else {
+        Ok(Speakers::new(speakers))
+    }
 }
 
 /// The places of a part between two edges, behind which lines from `was` on stand from `end` on.
@@ -123,12 +177,13 @@ pub fn relay_edit(
     let _len = stanzas.len();
     let at = swapped.at();
     let to = at + swapped.stands();
-    let end = lines_before(lines, stanzas, to);
-    let was = lines_before(lines, stanzas, at) + lines_in(swapped.stanzas());
+    let end = stanzas.lines_before(to);
+    let was = stanzas.lines_before(at) + lines_in(swapped.stanzas());
     let start = part_start(stanzas, at, kept);
-    let stop = part_end(stanzas, to, was, end, kept);
-    let last = speakers_before(alloc, lines, stanzas, start.stanza, speakers)?;
+    let quiet = !windows_settle(stanzas, swapped);
+    let stop = part_end(stanzas, to, was, end, quiet, kept);
     let blocks = placed_blocks_between(alloc, stanzas, start.stanza, stop.stanza)?;
+    let last = speakers_for(alloc, lines, stanzas, start.stanza, &blocks, speakers)?;
     let places = places_between(start, stop, was, end);
     relay(alloc, lines, &blocks, last, places, kept)
 }

@@ -9,6 +9,9 @@ fn shift(places: &mut [usize], less: usize, more: usize)
     requires { All (CanShift less more) places.old }
     ensures { places.new ≡ map (shifted less more) places.old }
 {
+    if less == more {
+        return;
+    }
     for place in places.iter_mut() {
         *place = *place - less + more;
     }

@@ -51,8 +51,21 @@ fn send_off<T>(list: &mut Vec<T>, place: usize, count: usize)
     list[place..].rotate_left(count);
 }
 
-/// Exchanges the items of a list from one place to before another for others. The later ones are moved, none is copied, and
-/// no memory is taken.
+/// Exchanges the items of a list from one place to before another for as many others. No other is moved.
+fn trade<T>(list: &mut Vec<T>, from: usize, to: usize, items: &mut Vec<T>)
+    requires order { from ≤ to }
+    requires within { to ≤ vec_len list.old }
+    requires many { vec_len items.old ≡ to - from }
+    ensures list { list.new.items ≡ exchanged list.old.items from to items.old.items }
+    ensures items { items.new.items ≡ slice_range list.old.items from to }
+    ensures list_room { vec_capacity list.new ≡ vec_capacity list.old }
+    ensures items_room { vec_capacity items.new ≡ vec_capacity items.old }
+{
+    list[from..to].swap_with_slice(items);
+}
+
+/// Exchanges the items of a list from one place to before another for others. The later ones are moved unless as many come as
+/// go, none is copied, and no memory is taken.
 pub fn exchange<T>(list: &mut Vec<T>, from: usize, to: usize, items: &mut Vec<T>)
     requires order { from ≤ to }
     requires within { to ≤ vec_len list.old }
@@ -65,6 +78,9 @@ pub fn exchange<T>(list: &mut Vec<T>, from: usize, to: usize, items: &mut Vec<T>
 {
     let count = items.len();
     let stands = to - from;
+    if count == stands {
+        return trade(list, from, to, items);
+    }
     items.reverse();
     pour(items, list, count);
     bring_back(list, from, count);

@@ -5,4 +5,4 @@ use Rattle.sp_layout.proofs.placed.placed_blocks_between.Goals as goal
 pub loop-i-preserved : goal.loop-i-preserved
 loop-i-preserved c =
     let next = blocks_from-next c.loop-i.placed.items c.args.stanzas.now.stanzas c.loop-i.i c.args.to c.stanza.result.now c.stanza.ensures (omega arith) in
-    rw (c.in_ok-add_stanza.ensures, c.first.ensures) (next ∙ c.loop-i.invariant)
+    rw (c.in_ok-add_stanza.ensures, c.lines_before.ensures) (next ∙ c.loop-i.invariant)

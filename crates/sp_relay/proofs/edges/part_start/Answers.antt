@@ -12,13 +12,13 @@ pub edge_at-requires : goal.edge_at-requires
 edge_at-requires c =
     let place = c.loop-place.place - 1 in
     let opens = opens-at c.args.stanzas.now.stanzas place c.stanza.result.now c.stanza.ensures (sym c.opens_apart.ensures ∙ c.if-opens_apart.true) in
-    subst (CanPart (laid_of c.args.kept.now)) (sym c.first.ensures) (c.requires.can.each place (omega arith) opens)
+    subst (CanPart (laid_of c.args.kept.now)) (sym c.lines_before.ensures) (c.requires.can.each place (omega arith) opens)
 
 pub returns-in-Some-clause-is : goal.returns-in-Some-clause-is
 returns-in-Some-clause-is c =
     let place = c.loop-place.place - 1 in
     let opens = opens-at c.args.stanzas.now.stanzas place c.stanza.result.now c.stanza.ensures (sym c.opens_apart.ensures ∙ c.if-opens_apart.true) in
-    start-found c.args.stanzas.now.stanzas c.args.at (laid_of c.args.kept.now) c.in-Some.edge place c.first.result c.in-Some.ensures.stanza (omega arith) opens c.first.ensures c.in-Some.ensures.is
+    start-found c.args.stanzas.now.stanzas c.args.at (laid_of c.args.kept.now) c.in-Some.edge place c.lines_before.result c.in-Some.ensures.stanza (omega arith) opens c.lines_before.ensures c.in-Some.ensures.is
 
 pub returns-in-Some-clause-nearest : goal.returns-in-Some-clause-nearest
 returns-in-Some-clause-nearest c = record { passed = λ i low high opens. c.loop-place.invariant.passed i (omega (arith, low, c.in-Some.ensures.stanza)) high opens }

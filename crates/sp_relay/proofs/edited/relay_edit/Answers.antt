@@ -1,16 +1,17 @@
-use Rattle.std.proofs.Common.{◌≡◌, ◌+◌, take, slice_range, sym, ap, ap₂, subst, ◌∙◌, arith, All}
+use Rattle.std.proofs.Common.{◌≡◌, ◌+◌, not, List, take, slice_range, sym, ap, ap₂, subst, ◌∙◌, arith, All}
 use Rattle.std.specs.Prelude.{OnOk}
 use Rattle.spec_text.specs.Lines.{line_texts}
 use Rattle.spec_script.specs.Elements.{PlacedLies, PlacesRise}
+use Rattle.spec_script.specs.Stanzas.{PlacedBlock, blocks_from}
 use Rattle.spec_layout.specs.Layout.{layout_of}
 use Rattle.spec_reread.specs.Windows.{stanza_lines_in}
 use Rattle.spec_relay.proofs.StanzaBlocks.{places-rise}
 use Rattle.sp_text.specs.Gap.{text_of}
 use Rattle.sp_layout.specs.LaidOut.{keyed}
-use Rattle.sp_layout.specs.Speaking.{SpeakersOf}
+use Rattle.sp_layout.specs.Speaking.{speakers_after}
 use Rattle.sp_relay.specs.Kept.{laid_of}
 use Rattle.sp_relay.specs.Edges.{CanBegin}
-use Rattle.sp_relay.specs.Edited.{WasLaid, window_was, window_end}
+use Rattle.sp_relay.specs.Edited.{AreAlike, WasLaid, window_was, window_end}
 use Rattle.sp_relay.proofs.EditedLaws.{edited-part, can-begin, can-end-at, old-few, few-lines, slice-lies}
 use Rattle.sp_relay.proofs.edited.relay_edit.Goals as goal
 
@@ -52,11 +53,11 @@ pub relay-requires-clause-lie : goal.relay-requires-clause-lie
 relay-requires-clause-lie c =
     let one = c.part_start-start.ensures.is.within in
     let two = c.part_end-stop.ensures.is.low in
-    subst (All (PlacedLies (line_texts c.args.lines.now.lines))) (sym (c.deref.ensures.value ∙ c.in_ok-blocks.ensures))
+    subst (All (PlacedLies (line_texts c.args.lines.now.lines))) (sym (c.deref-2.ensures.value ∙ c.in_ok-blocks.ensures))
     (slice-lies (text_of c.args.lines.now) c.args.stanzas.now.stanzas c.part_start-start.result.stanza c.part_end-stop.result.stanza c.len-count.ensures.keeps c.requires.list (omega (arith, one, two)))
 
 pub relay-requires-clause-rise : goal.relay-requires-clause-rise
-relay-requires-clause-rise c = subst (PlacesRise 0) (sym (c.deref.ensures.value ∙ c.in_ok-blocks.ensures)) (places-rise 0 (stanza_lines_in (take c.part_start-start.result.stanza c.args.stanzas.now.stanzas)) (slice_range c.args.stanzas.now.stanzas c.part_start-start.result.stanza c.part_end-stop.result.stanza) (omega arith))
+relay-requires-clause-rise c = subst (PlacesRise 0) (sym (c.deref-2.ensures.value ∙ c.in_ok-blocks.ensures)) (places-rise 0 (stanza_lines_in (take c.part_start-start.result.stanza c.args.stanzas.now.stanzas)) (slice_range c.args.stanzas.now.stanzas c.part_start-start.result.stanza c.part_end-stop.result.stanza) (omega arith))
 
 pub relay-requires-clause-can : goal.relay-requires-clause-can
 relay-requires-clause-can c =
@@ -66,8 +67,10 @@ relay-requires-clause-can c =
     let was : c.lines_before.result + c.lines_in.result ≡ window_was stanzas c.args.swapped.now =
     ap₂ (λ n m. n + m) (c.lines_before.ensures ∙ ap (λ n. stanza_lines_in (take n stanzas)) at) (c.lines_in.ensures ∙ ap stanza_lines_in c.stanzas.ensures) in
     let end : c.lines_before-end.result ≡ window_end stanzas c.args.swapped.now = c.lines_before-end.ensures ∙ ap (λ n. stanza_lines_in (take n stanzas)) to in
-    (edited-part (text_of c.args.lines.now) stanzas c.args.swapped.now c.args.speakers (laid_of c.args.kept.now) c.requires.was c.requires.list c.len-count.ensures.keeps _ _ _ _ _ _ _ _ _ at to was end
-    c.part_start-start.ensures.is c.part_end-stop.ensures.is c.in_ok-last.ensures (c.deref.ensures.value ∙ c.in_ok-blocks.ensures) c.places_between-places.ensures).can
+    let alike = subst (λ (bs : List PlacedBlock). AreAlike c.args.lines.now.lines bs c.in_ok-last.last (speakers_after (line_texts c.args.lines.now.lines) c.args.speakers (blocks_from 0 (take c.part_start-start.result.stanza stanzas))))
+    (c.deref.ensures.value ∙ sym c.deref-2.ensures.value) c.in_ok-last.ensures in
+    (edited-part (text_of c.args.lines.now) stanzas c.args.swapped.now c.args.speakers (laid_of c.args.kept.now) c.requires.was c.requires.list c.len-count.ensures.keeps _ _ _ _ _ _ _ _ _ _ at to was end
+    c.part_start-start.ensures.is c.part_end-stop.ensures.is (ap not c.windows_settle-quiet.ensures) (c.deref-2.ensures.value ∙ c.in_ok-blocks.ensures) alike c.places_between-places.ensures).can
 
 pub returns-clause-layout : goal.returns-clause-layout
 returns-clause-layout c =
@@ -77,11 +80,13 @@ returns-clause-layout c =
     let was : c.lines_before.result + c.lines_in.result ≡ window_was stanzas c.args.swapped.now =
     ap₂ (λ n m. n + m) (c.lines_before.ensures ∙ ap (λ n. stanza_lines_in (take n stanzas)) at) (c.lines_in.ensures ∙ ap stanza_lines_in c.stanzas.ensures) in
     let end : c.lines_before-end.result ≡ window_end stanzas c.args.swapped.now = c.lines_before-end.ensures ∙ ap (λ n. stanza_lines_in (take n stanzas)) to in
+    let alike = subst (λ (bs : List PlacedBlock). AreAlike c.args.lines.now.lines bs c.in_ok-last.last (speakers_after (line_texts c.args.lines.now.lines) c.args.speakers (blocks_from 0 (take c.part_start-start.result.stanza stanzas))))
+    (c.deref.ensures.value ∙ sym c.deref-2.ensures.value) c.in_ok-last.ensures in
     let lines = c.args.lines.now.lines in
-    subst (λ on. OnOk c.relay.result (laid_of c.relay.new.kept ≡ keyed lines (layout_of on lines))) (ap (λ (s : SpeakersOf). s.on) c.in_ok-last.ensures)
+    subst (λ on. OnOk c.relay.result (laid_of c.relay.new.kept ≡ keyed lines (layout_of on lines))) alike.on
     (c.relay.ensures.layout c.requires.was.before.lines
-    (edited-part (text_of c.args.lines.now) stanzas c.args.swapped.now c.args.speakers (laid_of c.args.kept.now) c.requires.was c.requires.list c.len-count.ensures.keeps _ _ _ _ _ _ _ _ _ at to was end
-    c.part_start-start.ensures.is c.part_end-stop.ensures.is c.in_ok-last.ensures (c.deref.ensures.value ∙ c.in_ok-blocks.ensures) c.places_between-places.ensures).relaid)
+    (edited-part (text_of c.args.lines.now) stanzas c.args.swapped.now c.args.speakers (laid_of c.args.kept.now) c.requires.was c.requires.list c.len-count.ensures.keeps _ _ _ _ _ _ _ _ _ _ at to was end
+    c.part_start-start.ensures.is c.part_end-stop.ensures.is (ap not c.windows_settle-quiet.ensures) (c.deref-2.ensures.value ∙ c.in_ok-blocks.ensures) alike c.places_between-places.ensures).relaid)
 
 pub returns-clause-outside : goal.returns-clause-outside
 returns-clause-outside c before of =
@@ -92,6 +97,8 @@ returns-clause-outside c before of =
     let was : c.lines_before.result + c.lines_in.result ≡ window_was stanzas c.args.swapped.now =
     ap₂ (λ n m. n + m) (c.lines_before.ensures ∙ ap (λ n. stanza_lines_in (take n stanzas)) at) (c.lines_in.ensures ∙ ap stanza_lines_in c.stanzas.ensures) in
     let end : c.lines_before-end.result ≡ window_end stanzas c.args.swapped.now = c.lines_before-end.ensures ∙ ap (λ n. stanza_lines_in (take n stanzas)) to in
+    let alike = subst (λ (bs : List PlacedBlock). AreAlike c.args.lines.now.lines bs c.in_ok-last.last (speakers_after (line_texts c.args.lines.now.lines) c.args.speakers (blocks_from 0 (take c.part_start-start.result.stanza stanzas))))
+    (c.deref.ensures.value ∙ sym c.deref-2.ensures.value) c.in_ok-last.ensures in
     c.relay.ensures.outside before.lines
-    (edited-part (text_of c.args.lines.now) stanzas c.args.swapped.now c.args.speakers (laid_of c.args.kept.now) it c.requires.list c.len-count.ensures.keeps _ _ _ _ _ _ _ _ _ at to was end
-    c.part_start-start.ensures.is c.part_end-stop.ensures.is c.in_ok-last.ensures (c.deref.ensures.value ∙ c.in_ok-blocks.ensures) c.places_between-places.ensures).relaid
+    (edited-part (text_of c.args.lines.now) stanzas c.args.swapped.now c.args.speakers (laid_of c.args.kept.now) it c.requires.list c.len-count.ensures.keeps _ _ _ _ _ _ _ _ _ _ at to was end
+    c.part_start-start.ensures.is c.part_end-stop.ensures.is (ap not c.windows_settle-quiet.ensures) (c.deref-2.ensures.value ∙ c.in_ok-blocks.ensures) alike c.places_between-places.ensures).relaid

@@ -1,8 +1,8 @@
 use Rattle.std.proofs.Common.{rules, ltb}
 use Rattle.std.proofs.lemmas.List.Sorted.{IsPartitionPoint-from_clause}
 use Rattle.spec_pages.specs.Rows.{ElementOf}
-use Rattle.sp_refill.proofs.Searches.{are-parted, counts-found}
-use Rattle.sp_refill.proofs.elements.elements_before.Goals as goal
+use Rattle.sp_layout.proofs.ElementCounts.{are-parted, counts-found}
+use Rattle.sp_layout.proofs.search.elements_before.Goals as goal
 
 pub returns : goal.returns
 returns c =
