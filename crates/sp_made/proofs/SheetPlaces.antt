@@ -20,10 +20,12 @@ use Rattle.spec_print.specs.Sheets.{Sheet}
 use Rattle.spec_state.specs.State.{State, text_of}
 use Rattle.spec_state.specs.Headings.{heading_labels}
 use Rattle.spec_state.specs.Keeping.{IsWhole}
-use Rattle.spec_state.specs.StateSheets.{greatest_mark, title_sheet, numbered_sheets, pages_in, sheets_in, layout_in, rows_in, titles_in, title_starts, body_sheets, shown_sheet, sheets_of_state}
+use Rattle.spec_state.specs.StateSheets.{greatest_mark, title_sheet, numbered_sheets, pages_in, sheets_in, layout_in, keys_in, rows_in, titles_in, title_starts, body_sheets, shown_sheet, sheets_of_state}
 use Rattle.spec_state.proofs.SheetGets.{length-sheets, sheets-title, sheets-body}
+use Rattle.spec_state.proofs.StateKeys.{state-row_keys}
 use Rattle.spec_state.proofs.StateLaws.{state-Cover}
 use Rattle.sp_layout.specs.Bodies.{row_count, marks_in}
+use Rattle.sp_layout.specs.LaidOut.{LayoutOf}
 use Rattle.sp_made.specs.Made.{MadeOf, IsMadeOf}
 use Rattle.sp_made.specs.Places.{HasPlaces, title_at, sheet_shown}
 use Rattle.sp_made.proofs.MarkedLaws.{greatest-marks}
@@ -85,6 +87,15 @@ titles-are state =
 
 -- ---- what is made of a state
 
+titles-made : (state : State) (it : MadeOf) → IsMadeOf state it → it.layout.titles.elements ≡ (layout_in state).titles
+titles-made state it made = ap (λ (l : LayoutOf). l.titles.elements) made.layout
+
+pub body-made : (state : State) (it : MadeOf) → IsMadeOf state it → it.layout.body.elements ≡ (layout_in state).body
+body-made state it made = ap (λ (l : LayoutOf). l.body.elements) made.layout
+
+pub keys-made : (state : State) (it : MadeOf) → IsMadeOf state it → it.layout.body.keys ≡ keys_in state
+keys-made state it made = ap (λ (l : LayoutOf). l.body.keys) made.layout ∙ sym (state-row_keys state)
+
 pub made-places : (state : State) (it : MadeOf) → IsWhole state → IsMadeOf state it → HasPlaces state.lines it
 made-places state it whole made =
     let show = layout_of-show state.speakers (text_of state) whole.text in
@@ -92,59 +103,59 @@ made-places state it whole made =
     let count = length-shown_rows state.lines (heading_labels state.lines state.scenes) (layout_in state).body in
     let few_titles : row_count (layout_in state).titles ≤ 16777216 = omega (arith, most) in
     let few_rows : row_count (layout_in state).body ≤ 16777216 = omega (arith, most) in
-    let starts : ArePagesOf (row_count it.titles) it.title_starts =
-    subst (ArePagesOf (row_count it.titles)) (sym made.title_starts) (subst (λ (elements : List ElementOf). ArePagesOf (row_count elements) (title_starts state)) (sym made.titles) (titles-are state)) in
+    let starts : ArePagesOf (row_count it.layout.titles.elements) it.numbered.title_starts =
+    subst (ArePagesOf (row_count it.layout.titles.elements)) (sym made.numbered.title_starts) (subst (λ (elements : List ElementOf). ArePagesOf (row_count elements) (title_starts state)) (sym (titles-made state it made)) (titles-are state)) in
     let lie : All (LiesWithin (row_count (layout_in state).body)) (body_sheets state) = subst (λ n. All (LiesWithin n) (body_sheets state)) count (body-lie state whole) in
     record {
       rising = starts.rise;
       within = starts.inside;
-      few_titles = subst (λ (elements : List ElementOf). row_count elements ≤ 16777216) (sym made.titles) few_titles;
-      titles_show = subst (λ (elements : List ElementOf). All (RowShows (line_texts state.lines)) (placed_in elements)) (sym made.titles) show.0;
-      few_rows = subst (λ (elements : List ElementOf). row_count elements ≤ 16777216) (sym made.body) few_rows;
-      body_show = subst (λ (elements : List ElementOf). All (RowShows (line_texts state.lines)) (placed_in elements)) (sym made.body) show.1;
-      sheets_lie = subst (All (LiesWithin (row_count it.body))) (sym made.sheets) (subst (λ (elements : List ElementOf). All (LiesWithin (row_count elements)) (body_sheets state)) (sym made.body) lie);
+      few_titles = subst (λ (elements : List ElementOf). row_count elements ≤ 16777216) (sym (titles-made state it made)) few_titles;
+      titles_show = subst (λ (elements : List ElementOf). All (RowShows (line_texts state.lines)) (placed_in elements)) (sym (titles-made state it made)) show.0;
+      few_rows = subst (λ (elements : List ElementOf). row_count elements ≤ 16777216) (sym (body-made state it made)) few_rows;
+      body_show = subst (λ (elements : List ElementOf). All (RowShows (line_texts state.lines)) (placed_in elements)) (sym (body-made state it made)) show.1;
+      sheets_lie = subst (All (LiesWithin (row_count it.layout.body.elements))) (sym made.numbered.sheets) (subst (λ (elements : List ElementOf). All (LiesWithin (row_count elements)) (body_sheets state)) (sym (body-made state it made)) lie);
     }
 
 -- How many sheets it has.
-pub made-count : (state : State) (it : MadeOf) → IsMadeOf state it → length (sheets_of_state state) ≡ length it.title_starts + length it.sheets
+pub made-count : (state : State) (it : MadeOf) → IsMadeOf state it → length (sheets_of_state state) ≡ length it.numbered.title_starts + length it.numbered.sheets
 made-count state it made =
     let all = length-sheets state in
-    let titles = ap length made.title_starts in
-    let sheets = ap length made.sheets in
+    let titles = ap length made.numbered.title_starts in
+    let sheets = ap length made.numbered.sheets in
     omega (arith, all, titles, sheets)
 
 -- The title sheet at a place of these rows.
 abbrev rows_at : List Shown → List ℕ → ℕ → ℕ → Sheet
 rows_at rows starts i count = title_sheet (slice_range rows (get_or starts i 0) (slice_index_or starts (i + 1) count))
 
-pub made-title : (state : State) (it : MadeOf) (i : ℕ) → IsMadeOf state it → i < length it.title_starts
+pub made-title : (state : State) (it : MadeOf) (i : ℕ) → IsMadeOf state it → i < length it.numbered.title_starts
     → slice_get (sheets_of_state state) i ≡ Some (title_at state.lines it i)
 made-title state it i made inside =
     let own = layout_in state in
-    sheets-title state i (subst (λ (starts : List ℕ). i < length starts) made.title_starts inside)
+    sheets-title state i (subst (λ (starts : List ℕ). i < length starts) made.numbered.title_starts inside)
     ∙ ap (λ n. Some (rows_at (titles_in state) (title_starts state) i n)) (length-shown_rows state.lines None own.titles)
-    ∙ ap (λ (elements : List ElementOf). Some (rows_at (shown_rows state.lines None elements) (title_starts state) i (row_count elements))) (sym made.titles)
-    ∙ ap (λ (starts : List ℕ). Some (rows_at (shown_rows state.lines None it.titles) starts i (row_count it.titles))) (sym made.title_starts)
+    ∙ ap (λ (elements : List ElementOf). Some (rows_at (shown_rows state.lines None elements) (title_starts state) i (row_count elements))) (sym (titles-made state it made))
+    ∙ ap (λ (starts : List ℕ). Some (rows_at (shown_rows state.lines None it.layout.titles.elements) starts i (row_count it.layout.titles.elements))) (sym made.numbered.title_starts)
 
 -- The sheet at a place behind the title sheets.
-pub made-body : (state : State) (it : MadeOf) (i : ℕ) → IsMadeOf state it → length it.title_starts ≤ i
-    → slice_get (sheets_of_state state) i ≡ option_map (sheet_shown state.lines it) (slice_get it.sheets (i - length it.title_starts))
+pub made-body : (state : State) (it : MadeOf) (i : ℕ) → IsMadeOf state it → length it.numbered.title_starts ≤ i
+    → slice_get (sheets_of_state state) i ≡ option_map (sheet_shown state.lines it) (slice_get it.numbered.sheets (i - length it.numbered.title_starts))
 made-body state it i made behind =
     let own = layout_in state in
-    sheets-body state i (subst (λ (starts : List ℕ). length starts ≤ i) made.title_starts behind)
-    ∙ ap (λ (elements : List ElementOf). option_map (shown_sheet (shown_rows state.lines (heading_labels state.lines state.scenes) elements)) (slice_get (body_sheets state) (i - length (title_starts state)))) (sym made.body)
-    ∙ ap (λ (labels : Option (List LabelOf)). option_map (shown_sheet (shown_rows state.lines labels it.body)) (slice_get (body_sheets state) (i - length (title_starts state)))) (sym made.labels)
-    ∙ ap (λ (sheets : List SheetOf). option_map (shown_sheet (shown_rows state.lines it.labels it.body)) (slice_get sheets (i - length (title_starts state)))) (sym made.sheets)
-    ∙ ap (λ (starts : List ℕ). option_map (shown_sheet (shown_rows state.lines it.labels it.body)) (slice_get it.sheets (i - length starts))) (sym made.title_starts)
+    sheets-body state i (subst (λ (starts : List ℕ). length starts ≤ i) made.numbered.title_starts behind)
+    ∙ ap (λ (elements : List ElementOf). option_map (shown_sheet (shown_rows state.lines (heading_labels state.lines state.scenes) elements)) (slice_get (body_sheets state) (i - length (title_starts state)))) (sym (body-made state it made))
+    ∙ ap (λ (labels : Option (List LabelOf)). option_map (shown_sheet (shown_rows state.lines labels it.layout.body.elements)) (slice_get (body_sheets state) (i - length (title_starts state)))) (sym made.numbered.labels)
+    ∙ ap (λ (sheets : List SheetOf). option_map (shown_sheet (shown_rows state.lines it.numbered.labels it.layout.body.elements)) (slice_get sheets (i - length (title_starts state)))) (sym made.numbered.sheets)
+    ∙ ap (λ (starts : List ℕ). option_map (shown_sheet (shown_rows state.lines it.numbered.labels it.layout.body.elements)) (slice_get it.numbered.sheets (i - length starts))) (sym made.numbered.title_starts)
 
 -- The sheet that was found there, if any.
-pub made-found : (state now : State) (it : MadeOf) (i place : ℕ) (found : Option Sheet) → state ≡ now → IsMadeOf state it → length it.title_starts ≤ i → i - length it.title_starts ≡ place
-    → IfSome found (λ page. option_map (sheet_shown state.lines it) (slice_get it.sheets place) ≡ Some page) → IfSome found (λ page. slice_get (sheets_of_state now) i ≡ Some page)
+pub made-found : (state now : State) (it : MadeOf) (i place : ℕ) (found : Option Sheet) → state ≡ now → IsMadeOf state it → length it.numbered.title_starts ≤ i → i - length it.numbered.title_starts ≡ place
+    → IfSome found (λ page. option_map (sheet_shown state.lines it) (slice_get it.numbered.sheets place) ≡ Some page) → IfSome found (λ page. slice_get (sheets_of_state now) i ≡ Some page)
 made-found state now it i place None same made behind at is = tt
 made-found state now it i place (Some page) same made behind at is =
     ap (λ (those : State). slice_get (sheets_of_state those) i) (sym same)
     ∙ made-body state it i made behind
-    ∙ ap (λ n. option_map (sheet_shown state.lines it) (slice_get it.sheets n)) at
+    ∙ ap (λ n. option_map (sheet_shown state.lines it) (slice_get it.numbered.sheets n)) at
     ∙ is
 
 -- ---- marks

@@ -1,5 +1,5 @@
 -- The stops of a state and its page starts, as they are made.
-use Rattle.std.proofs.Common.{◌≡◌, ℕ, ◌≤◌, List, ◌++◌, length, map, arith, Result, Ok, Err, refl, sym, ap, ◌∙◌, subst}
+use Rattle.std.proofs.Common.{◌≡◌, ℕ, ◌≤◌, List, length, map, arith, Result, Ok, Err, refl, sym, ap, ◌∙◌, subst}
 use Rattle.std.specs.Prelude.{All, AllPairs, IsPermutation, IfOk, OnOk, OnErr}
 use Rattle.std.proofs.lemmas.List.{length-map}
 use Rattle.std.proofs.lemmas.List.Elements.{All-append}
@@ -11,16 +11,16 @@ use Rattle.spec_layout.specs.Shown.{shape_of}
 use Rattle.spec_layout.proofs.BreakLaws.{layout_of-within}
 use Rattle.spec_state.specs.State.{State}
 use Rattle.spec_state.specs.Keeping.{IsWhole}
-use Rattle.spec_state.specs.StateSheets.{layout_in, rows_in, keys_in, locked_starts}
+use Rattle.spec_state.specs.StateSheets.{layout_in, rows_in, locked_starts}
 use Rattle.spec_locked_pages.specs.Segments.{pages_of}
 use Rattle.spec_reflow.specs.Windows.{AreStops}
 use Rattle.spec_refill.specs.Exchanges.{stops_in}
 use Rattle.spec_refill.proofs.SortedStops.{in-order}
-use Rattle.sp_layout.specs.Bodies.{row_count, shapes_in}
+use Rattle.sp_layout.specs.Bodies.{row_count}
 use Rattle.sp_reflow.specs.Starts.{many_more}
 use Rattle.sp_reflow.specs.Filling.{FilledAtMost}
-use Rattle.sp_made.specs.Made.{AreStopsOf, key_starts}
-use Rattle.sp_made.proofs.MadeLaws.{count-rows, same-shapes, locked-keys, starts-within}
+use Rattle.sp_made.specs.Made.{AreStopsOf}
+use Rattle.sp_made.proofs.MadeLaws.{count-rows, locked-keys, starts-within}
 
 -- No stop is behind the last row.
 stops-within : (state : State) → IsWhole state → All (λ (stop : ℕ). stop ≤ length (rows_in state)) (stops_in state)

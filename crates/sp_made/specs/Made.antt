@@ -10,38 +10,37 @@ use Rattle.sp_layout.specs.Bodies.{row_count, marks_in}
 use Rattle.sp_layout.specs.LaidOut.{LayoutOf, keyed}
 use Rattle.sp_made.specs.Numbered.{marked_sheets}
 use Rattle.spec_state.specs.Headings.{heading_labels}
-use Rattle.spec_state.specs.StateSheets.{layout_in, rows_in, keys_in, title_starts, body_sheets}
+use Rattle.spec_state.specs.StateSheets.{layout_in, rows_in, title_starts, body_sheets}
 use Rattle.spec_reflow.specs.Windows.{AreStops}
 use Rattle.spec_refill.specs.Exchanges.{stops_in}
 
--- Its elements laid out, the keys of its body's rows, the labels of its headings, the first rows of its title sheets, and its
--- other sheets.
-pub record MadeOf : Type 0 where
-  pub titles : List ElementOf
-  pub body : List ElementOf
-  pub keys : List RowKey
+-- The labels of its headings, the first rows of its title sheets, and its other sheets.
+pub record NumberedOf : Type 0 where
   pub labels : Option (List LabelOf)
   pub title_starts : List ℕ
   pub sheets : List SheetOf
 
+-- Its elements laid out, and these.
+pub record MadeOf : Type 0 where
+  pub layout : LayoutOf
+  pub numbered : NumberedOf
+
+-- The layout of the state's text, with the keys of its rows. It asks nothing of its records.
+abbrev pub laid_in : State → LayoutOf
+laid_in state = keyed state.lines (layout_in state)
+
+abbrev pub IsLaidOf : State → LayoutOf → Type 0
+IsLaidOf state it = it ≡ laid_in state
+
 -- They are those of the state.
-pub record IsMadeOf (state : State) (it : MadeOf) : Type 0 where
-  pub titles : it.titles ≡ (layout_in state).titles
-  pub body : it.body ≡ (layout_in state).body
-  pub keys : it.keys ≡ keys_in state
+pub record IsNumberedOf (state : State) (it : NumberedOf) : Type 0 where
   pub labels : it.labels ≡ heading_labels state.lines state.scenes
   pub title_starts : it.title_starts ≡ title_starts state
   pub sheets : it.sheets ≡ body_sheets state
 
--- Its text laid out, and the labels of its headings.
-pub record LaidOf : Type 0 where
-  pub layout : LayoutOf
-  pub labels : Option (List LabelOf)
-
--- They are those of the state, and ask nothing of its page records.
-pub record IsLaidOf (state : State) (it : LaidOf) : Type 0 where
-  pub layout : it.layout ≡ keyed state.lines (layout_in state)
-  pub labels : it.labels ≡ heading_labels state.lines state.scenes
+pub record IsMadeOf (state : State) (it : MadeOf) : Type 0 where
+  pub layout : IsLaidOf state it.layout
+  pub numbered : IsNumberedOf state it.numbered
 
 -- The first rows of page records by the keys of all rows; none where pages aren't locked.
 abbrev pub key_starts : List LineState → List RowKey → Option (List PageRecordOf) → List ℕ

@@ -9,6 +9,6 @@ mod views;
 
 pub use headings::headings_among;
 pub use made::{
-    Laid, Made, laid_stops, lay, made_starts, make, make_of, make_pages, record_starts, rows_on,
+    Made, Numbered, laid_stops, lay, made_starts, make, make_pages, number, record_starts, rows_on,
 };
 pub use views::{body_shapes, made_sheet, made_title, sheet_count, title_count};

@@ -13,49 +13,60 @@ ghost use Rattle.sp_layout.specs.Bodies.{shapes_in};
 ghost use Rattle.spec_locked_pages.specs.Segments.{pages_of};
 ghost use Rattle.sp_reflow.specs.Starts.{many_more};
 ghost use Rattle.sp_reflow.specs.Filling.{FilledAtMost};
-ghost use Rattle.sp_layout.specs.LaidOut.{keyed};
-ghost use Rattle.sp_made.specs.Made.{AreStopsOf, AskedOfPages, IsLaidOf, IsMadeOf, key_starts, marked_or_locked};
+ghost use Rattle.sp_relay.specs.Kept.{laid_of};
+ghost use Rattle.sp_made.specs.Made.{AreStopsOf, AskedOfPages, IsLaidOf, IsMadeOf, IsNumberedOf, key_starts, marked_or_locked};
 
 use crate::headings::{headings_among, scene_labels};
 use crate::numbered::marked_sheets;
 use crate::stops::merged_stops;
 use sp_kit::{Counter, Steps};
 use sp_labels::Label;
-use sp_layout::{Body, Layout, lay_out, placed_blocks};
+use sp_layout::{Body, lay_out, placed_blocks};
 use sp_locks::{PageRecord, RowKey, Sheet, sheets, starts};
 use sp_records::Records;
 use sp_reflow::Pages;
+use sp_relay::KeptLayout;
 use sp_reread::Stanzas;
 use sp_text::Lines;
 use spec_pages::Paper;
 use std::alloc::{AllocError, Global};
 use std::marker::Model;
 
-/// The elements of a state laid out, the labels of its headings where scenes are locked, the first rows of its title
-/// sheets, and its other sheets.
+/// The labels of the headings of a state where scenes are locked, the first rows of its title sheets, and its other sheets.
 #[derive(Drop)]
-pub struct Made {
-    pub titles: Body,
-    pub body: Body,
+pub struct Numbered {
     pub labels: Option<Vec<Label>>,
     pub title_pages: Pages,
     pub sheets: Vec<Sheet>,
 }
 
-impl Model for Made {
+impl Model for Numbered {
     ghost use Rattle.std.specs.Prelude.{option_map};
+    ghost use Rattle.sp_made.specs.Made.{NumberedOf};
+
+    ghost Value = { NumberedOf };
+
+    ghost view = { λ n. record {
+      labels = option_map (λ those. those.items) n.labels;
+      title_starts = n.title_pages.starts;
+      sheets = n.sheets.items;
+    } };
+}
+
+/// The elements of a state laid out, and its labels and sheets.
+#[derive(Drop)]
+pub struct Made {
+    pub layout: KeptLayout,
+    pub numbered: Numbered,
+}
+
+impl Model for Made {
+    ghost use Rattle.sp_relay.specs.Kept.{laid_of};
     ghost use Rattle.sp_made.specs.Made.{MadeOf};
 
     ghost Value = { MadeOf };
 
-    ghost view = { λ m. record {
-      titles = m.titles.elements;
-      body = m.body.elements;
-      keys = m.body.keys;
-      labels = option_map (λ those. those.items) m.labels;
-      title_starts = m.title_pages.starts;
-      sheets = m.sheets.items;
-    } };
+    ghost view = { λ m. record { layout = laid_of m.layout; numbered = m.numbered } };
 }
 
 /// How many body rows a page of the paper has.
@@ -68,23 +79,24 @@ pub fn rows_on(paper: Paper) -> u32
     }
 }
 
-/// The text laid out, and the labels of its headings where scenes are locked.
-fn laid_text(
+/// The labels of the headings of a text where scenes are locked.
+fn made_labels(
     alloc: Global,
     lines: &Lines,
     stanzas: &Stanzas,
     records: &Records,
-) -> Result<(Layout, Option<Vec<Label>>), AllocError>
+) -> Result<Option<Vec<Label>>, AllocError>
     requires whole { IsWhole (state_of (text_of lines.now) records.now) }
     requires stanzas { stanzas.now.stanzas ≡ stanzas_of (line_texts lines.now.lines) }
-    ensures layout { IfOk result (λ it. it.0 ≡ keyed lines.now.lines (layout_in (state_of (text_of lines.now) records.now))) }
-    ensures labels { IfOk result (λ it. option_map (λ those. those.items) it.1 ≡ heading_labels lines.now.lines records.now.scenes) }
+    ensures { IfOk result (λ labels. option_map (λ those. those.items) labels ≡ heading_labels lines.now.lines records.now.scenes) }
 {
+    if records.scenes.is_none() {
+        return Ok(None);
+    }
     let blocks = placed_blocks(alloc, stanzas)?;
-    let layout = lay_out(alloc, lines, &blocks, records.speakers)?;
     let headings = headings_among(alloc, lines, &blocks)?;
     let labels = scene_labels(alloc, &headings, &records.scenes)?;
-    Ok((layout, labels))
+    Ok(labels)
 }
 
 /// The first rows of the title sheets. Their fills aren't counted with those of the body.
@@ -123,7 +135,8 @@ pub fn made_starts(
     requires made { IsMadeOf (state_of (text_of lines.now) records.now) made.now }
     ensures { IfOk result (λ starts. starts.items ≡ locked_starts lines.now.lines (rows_in (state_of (text_of lines.now) records.now)) (records.now).pages) }
 {
-    record_starts(alloc, lines, made.body.keys(), &records.pages)
+    let layout = &made.layout;
+    record_starts(alloc, lines, layout.body.keys(), &records.pages)
 }
 
 /// The sheets of a body's pages: those of its page records where pages are locked, else numbered ones.
@@ -148,11 +161,11 @@ fn made_sheets(
     alloc: Global,
     lines: &Lines,
     records: &Records,
-    layout: &Layout,
+    layout: &KeptLayout,
     pages: &[usize],
 ) -> Result<Vec<Sheet>, AllocError>
     requires whole { IsWhole (state_of (text_of lines.now) records.now) }
-    requires layout { layout.now ≡ keyed lines.now.lines (layout_in (state_of (text_of lines.now) records.now)) }
+    requires laid { IsLaidOf (state_of (text_of lines.now) records.now) (laid_of layout.now) }
     requires pages { pages.now ≡ pages_of (state_of (text_of lines.now) records.now) }
     ensures { IfOk result (λ made. made.items ≡ body_sheets (state_of (text_of lines.now) records.now)) }
 {
@@ -161,35 +174,20 @@ fn made_sheets(
     sheets_of_pages(alloc, body, &records.pages, &firsts, pages)
 }
 
-/// The elements of a state laid out, and the labels of its headings where scenes are locked.
-#[derive(Drop)]
-pub struct Laid {
-    pub layout: Layout,
-    pub labels: Option<Vec<Label>>,
-}
-
-impl Model for Laid {
-    ghost use Rattle.std.specs.Prelude.{option_map};
-    ghost use Rattle.sp_made.specs.Made.{LaidOf};
-
-    ghost Value = { LaidOf };
-
-    ghost view = { λ l. record { layout = l.layout; labels = option_map (λ those. those.items) l.labels } };
-}
-
 /// The text of a state laid out, by its stanzas. `AllocError` comes for want of memory alone.
 pub fn lay(
     alloc: Global,
     lines: &Lines,
     stanzas: &Stanzas,
     records: &Records,
-) -> Result<Laid, AllocError>
+) -> Result<KeptLayout, AllocError>
     requires whole { IsWhole (state_of (text_of lines.now) records.now) }
     requires stanzas { stanzas.now.stanzas ≡ text_stanzas (text_of lines.now) }
-    ensures { IfOk result (IsLaidOf (state_of (text_of lines.now) records.now)) }
+    ensures { IfOk result (λ layout. IsLaidOf (state_of (text_of lines.now) records.now) (laid_of layout)) }
 {
-    let (layout, labels) = laid_text(alloc, lines, stanzas, records)?;
-    Ok(Laid { layout, labels })
+    let blocks = placed_blocks(alloc, stanzas)?;
+    let layout = lay_out(alloc, lines, &blocks, records.speakers)?;
+    Ok(KeptLayout::new(layout))
 }
 
 /// The stops of a state whose text is laid out (docs/RULES.md, "Pages"). `AllocError` comes for want of memory alone.
@@ -197,13 +195,12 @@ pub fn laid_stops(
     alloc: Global,
     lines: &Lines,
     records: &Records,
-    laid: &Laid,
+    layout: &KeptLayout,
 ) -> Result<Vec<usize>, AllocError>
     requires whole { IsWhole (state_of (text_of lines.now) records.now) }
-    requires laid { IsLaidOf (state_of (text_of lines.now) records.now) laid.now }
+    requires laid { IsLaidOf (state_of (text_of lines.now) records.now) (laid_of layout.now) }
     ensures { IfOk result (λ stops. AreStopsOf (state_of (text_of lines.now) records.now) stops.items) }
 {
-    let layout = &laid.layout;
     let firsts = record_starts(alloc, lines, layout.body.keys(), &records.pages)?;
     merged_stops(alloc, &layout.breaks, &firsts)
 }
@@ -214,18 +211,17 @@ pub fn make_pages<S: Steps>(
     alloc: Global,
     lines: &Lines,
     records: &Records,
-    laid: &Laid,
+    layout: &KeptLayout,
     steps: &mut S,
 ) -> Result<Pages, AllocError>
     requires whole { IsWhole (state_of (text_of lines.now) records.now) }
-    requires laid { IsLaidOf (state_of (text_of lines.now) records.now) laid.now }
+    requires laid { IsLaidOf (state_of (text_of lines.now) records.now) (laid_of layout.now) }
     ensures pages { IfOk result (λ pages. pages.starts ≡ pages_of (state_of (text_of lines.now) records.now)) }
     ensures fills { OnOk result (S.fills steps.new ≡ many_more (S.fills steps.old) (length (pages_of (state_of (text_of lines.now) records.now)))) }
     ensures at_most { FilledAtMost (S.fills steps.old) (S.fills steps.new) (length (pages_of (state_of (text_of lines.now) records.now))) }
     ensures reads { S.reads steps.new ≡ S.reads steps.old }
 {
-    let stops = laid_stops(alloc, lines, records, laid)?;
-    let layout = &laid.layout;
+    let stops = laid_stops(alloc, lines, records, layout)?;
     Pages::new(
         alloc,
         layout.body.shapes(),
@@ -235,27 +231,26 @@ pub fn make_pages<S: Steps>(
     )
 }
 
-/// What is made of a state whose text is laid out, with the first rows of its pages. It fills no page of the body.
-/// `AllocError` comes for want of memory alone.
-pub fn make_of(
+/// The labels and the sheets of a state whose text is laid out, by the first rows of its pages. It fills no page of the
+/// body. `AllocError` comes for want of memory alone.
+pub fn number(
     alloc: Global,
     lines: &Lines,
+    stanzas: &Stanzas,
     records: &Records,
-    laid: Laid,
+    layout: &KeptLayout,
     pages: &Pages,
-) -> Result<Made, AllocError>
+) -> Result<Numbered, AllocError>
     requires whole { IsWhole (state_of (text_of lines.now) records.now) }
-    requires laid { IsLaidOf (state_of (text_of lines.now) records.now) laid }
+    requires stanzas { stanzas.now.stanzas ≡ text_stanzas (text_of lines.now) }
+    requires laid { IsLaidOf (state_of (text_of lines.now) records.now) (laid_of layout.now) }
     requires pages { pages.now.starts ≡ pages_of (state_of (text_of lines.now) records.now) }
-    ensures { IfOk result (IsMadeOf (state_of (text_of lines.now) records.now)) }
+    ensures { IfOk result (IsNumberedOf (state_of (text_of lines.now) records.now)) }
 {
-    let Laid { layout, labels } = laid;
+    let labels = made_labels(alloc, lines, stanzas, records)?;
     let title_pages = title_pages(alloc, &layout.titles, records.paper)?;
-    let sheets = made_sheets(alloc, lines, records, &layout, pages.starts())?;
-    let Layout { titles, body, .. } = layout;
-    Ok(Made {
-        titles,
-        body,
+    let sheets = made_sheets(alloc, lines, records, layout, pages.starts())?;
+    Ok(Numbered {
         labels,
         title_pages,
         sheets,
@@ -279,8 +274,8 @@ pub fn make<S: Steps>(
     ensures at_most { FilledAtMost (S.fills steps.old) (S.fills steps.new) (length (pages_of (state_of (text_of lines.now) records.now))) }
     ensures reads { S.reads steps.new ≡ S.reads steps.old }
 {
-    let laid = lay(alloc, lines, stanzas, records)?;
-    let pages = make_pages(alloc, lines, records, &laid, steps)?;
-    let made = make_of(alloc, lines, records, laid, &pages)?;
-    Ok((made, pages))
+    let layout = lay(alloc, lines, stanzas, records)?;
+    let pages = make_pages(alloc, lines, records, &layout, steps)?;
+    let numbered = number(alloc, lines, stanzas, records, &layout, &pages)?;
+    Ok((Made { layout, numbered }, pages))
 }

@@ -130,42 +130,49 @@ fn body_view<'a>(
 
 /// What page ends see of each row of the body.
 pub fn body_shapes(made: &Made) -> &[Shape]
-    ensures { result.now ≡ shapes_in made.now.body }
+    ensures { result.now ≡ shapes_in made.now.layout.body.elements }
 {
-    made.body.shapes()
+    let layout = &made.layout;
+    layout.body.shapes()
 }
 
 /// How many title sheets there are.
 pub fn title_count(made: &Made) -> usize
-    ensures { result ≡ length made.now.title_starts }
+    ensures { result ≡ length made.now.numbered.title_starts }
 {
-    made.title_pages.starts().len()
+    let numbered = &made.numbered;
+    numbered.title_pages.starts().len()
 }
 
 /// How many sheets there are.
 pub fn sheet_count(made: &Made) -> usize
-    ensures { result ≡ length made.now.title_starts + length made.now.sheets }
+    ensures { result ≡ length made.now.numbered.title_starts + length made.now.numbered.sheets }
 {
-    made.title_pages.starts().len() + made.sheets.len()
+    let numbered = &made.numbered;
+    numbered.title_pages.starts().len() + numbered.sheets.len()
 }
 
 /// The title sheet at a place.
 pub fn made_title<'a>(lines: &'a Lines, made: &'a Made, place: usize) -> PageView<'a>
-    requires inside { place < length made.now.title_starts }
+    requires inside { place < length made.now.numbered.title_starts }
     requires places { HasPlaces lines.now.lines made.now }
     ensures { result ≡ title_at lines.now.lines made.now place }
 {
-    title_view(lines, &made.titles, made.title_pages.starts(), place)
+    let layout = &made.layout;
+    let numbered = &made.numbered;
+    title_view(lines, &layout.titles, numbered.title_pages.starts(), place)
 }
 
 /// The sheet at a place behind the title sheets.
 pub fn made_sheet<'a>(lines: &'a Lines, made: &'a Made, place: usize) -> Option<PageView<'a>>
     requires { HasPlaces lines.now.lines made.now }
-    ensures some { IfSome result (λ page. option_map (sheet_shown lines.now.lines made.now) (slice_get made.now.sheets place) ≡ Some page) }
-    ensures none { IfNone result (length made.now.sheets ≤ place) }
+    ensures some { IfSome result (λ page. option_map (sheet_shown lines.now.lines made.now) (slice_get made.now.numbered.sheets place) ≡ Some page) }
+    ensures none { IfNone result (length made.now.numbered.sheets ≤ place) }
 {
-    match made.sheets.get(place) {
+    let layout = &made.layout;
+    let numbered = &made.numbered;
+    match numbered.sheets.get(place) {
         None => None,
-        Some(sheet) => Some(body_view(lines, &made.body, lent_labels(&made.labels), sheet)),
+        Some(sheet) => Some(body_view(lines, &layout.body, lent_labels(&numbered.labels), sheet)),
     }
 }

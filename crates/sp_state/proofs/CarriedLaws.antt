@@ -7,6 +7,7 @@ use Rattle.std.proofs.lemmas.List.{length-map}
 use Rattle.std.proofs.lemmas.List.Folds.{list_any-append}
 use Rattle.spec_text.specs.Lines.{LineState, TextState, IsText, line_texts}
 use Rattle.spec_text.specs.Edits.{Displacement, EditOf, Replacement, changed, displaced_by, exchanged, refusal_of, replacement_of, restored}
+use Rattle.spec_text.specs.Limits.{size_limit}
 use Rattle.spec_text.specs.Ranges.{range_of}
 use Rattle.spec_text.proofs.TakenEdits.{taken-inside}
 use Rattle.spec_text.proofs.EditedLaws.{text-HasIds, changed-IsEdited}
@@ -21,6 +22,7 @@ use Rattle.spec_layout.specs.Cells.{RowShows}
 use Rattle.spec_layout.specs.Layout.{placed_in}
 use Rattle.spec_layout.specs.Shown.{Shown, row_key, shown_rows}
 use Rattle.spec_layout.proofs.LayoutLaws.{layout_of-show}
+use Rattle.spec_layout.proofs.RowCounts.{layout_of-few}
 use Rattle.spec_records.specs.Kept.{AreKeptScenes, KeepsScenes, RecordsOf}
 use Rattle.spec_state.specs.State.{State, text_of}
 use Rattle.spec_state.specs.Changes.{CanEdit, carried_state, edited_state, pages_raised, rows_by_record, segment_rows, text_after}
@@ -241,6 +243,13 @@ whole-laid state body whole elements keys = record {
   keys = keys ∙ state-row_keys state ∙ ap (λ (es : List ElementOf). map (row_key state.lines) (placed_in es)) (sym elements);
   show = subst (λ (es : List ElementOf). All (RowShows (line_texts state.lines)) (placed_in es)) (sym elements) (layout_of-show state.speakers (text_of state) whole.text).1;
 }
+
+-- They are few.
+pub whole-few : (state : State) (elements : List ElementOf) → IsWhole state → elements ≡ (layout_in state).body → row_count elements ≤ size_limit
+whole-few state elements whole is =
+    let most = layout_of-few state.speakers (text_of state) whole.text in
+    let same = ap row_count is in
+    omega (arith, most, same)
 
 -- The starts of a whole state's records are those of segments.
 pub own-segments : (state : State) (records : List PageRecordOf) (elements : List ElementOf) (starts : List ℕ) → IsWhole state → state.pages ≡ Some records → elements ≡ (layout_in state).body

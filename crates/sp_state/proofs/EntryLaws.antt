@@ -1,12 +1,14 @@
 -- An entry leads to the state before it, and the same entry to the same state.
 use Rattle.std.proofs.Common.{◌≡◌, ℕ, List, sym, ap, subst, ◌∙◌}
-use Rattle.spec_text.specs.Ranges.{RangeOf}
 use Rattle.spec_state.specs.State.{State}
 use Rattle.spec_locked_pages.specs.Segments.{pages_of}
 use Rattle.sp_reflow.specs.Starts.{Taken, CanExchange, exchanged}
 use Rattle.sp_reflow.specs.Updates.{CanPutBack, TakenStarts, taken_of, with_taken}
-use Rattle.sp_state.specs.TextEntries.{TextEntryState, LeadsTextBack, LeadsTextForth}
-use Rattle.sp_state.specs.Entries.{EntryState, CanRedo, CanUndo, IsSameEntry, LeadsBack, LeadsForth, PagesLead, done_range, redone_state, undone_range, undone_state}
+use Rattle.sp_layout.specs.LaidOut.{LayoutOf}
+use Rattle.sp_relay.specs.Kept.{CanSwap, PartOf, laid_of, with_part}
+use Rattle.sp_made.specs.Made.{IsLaidOf, laid_in}
+use Rattle.sp_state.specs.TextEntries.{TextEntryState, LeadsTextBack, LeadsTextForth, redone_text, undone_text}
+use Rattle.sp_state.specs.Entries.{EntryState, CanRedo, CanUndo, IsSameEntry, LayoutLeads, LeadsBack, LeadsForth, PagesLead, done_range, redone_state, undone_range, undone_state}
 use Rattle.sp_state.proofs.TextEntryLaws.{same-CanRedoText, same-CanUndoText, same-done_lines, same-redone_text, same-undone_lines, same-undone_text}
 
 pages-lead : (state other : State) (pages : Taken) (now : List ℕ) → now ≡ pages_of state → CanPutBack now pages → with_taken now pages ≡ pages_of other → PagesLead state other pages
@@ -15,17 +17,33 @@ pages-lead state other pages now is can are = record {
   are = subst (λ starts. with_taken starts pages ≡ pages_of other) is are;
 }
 
-pub leads-back : (before after : State) (text : TextEntryState) (pages : Taken) (now : List ℕ) → LeadsTextBack before after text → now ≡ pages_of after → CanPutBack now pages → with_taken now pages ≡ pages_of before
-    → LeadsBack before after (record { text = text; pages = pages })
-leads-back before after text pages now leads is can are = record {
-  can = record { text = leads.can; pages = pages-lead after (undone_state after (record { text = text; pages = pages })) pages now is can (are ∙ ap pages_of (sym leads.back)) };
+layout-leads : (state other : State) (part : PartOf) (now : LayoutOf) → IsLaidOf state now → CanSwap now part.places (laid_of part.kept) → with_part now part.places (laid_of part.kept) ≡ laid_in other → LayoutLeads state other part
+layout-leads state other part now is can are = record {
+  can = subst (λ layout. CanSwap layout part.places (laid_of part.kept)) is can;
+  are = subst (λ layout. with_part layout part.places (laid_of part.kept) ≡ laid_in other) is are;
+}
+
+pub leads-back : (before after : State) (text : TextEntryState) (layout : PartOf) (pages : Taken) (was laid : LayoutOf) (now : List ℕ) → LeadsTextBack before after text
+    → IsLaidOf before was → IsLaidOf after laid → CanSwap laid layout.places (laid_of layout.kept) → with_part laid layout.places (laid_of layout.kept) ≡ was
+    → now ≡ pages_of after → CanPutBack now pages → with_taken now pages ≡ pages_of before → LeadsBack before after (record { text = text; layout = layout; pages = pages })
+leads-back before after text layout pages was laid now leads was_is laid_is swaps part is can are = record {
+  can = record {
+    text = leads.can;
+    layout = layout-leads after (undone_text after text) layout laid laid_is swaps (part ∙ was_is ∙ ap laid_in (sym leads.back));
+    pages = pages-lead after (undone_text after text) pages now is can (are ∙ ap pages_of (sym leads.back));
+  };
   back = leads.back;
 }
 
-pub leads-forth : (before after : State) (text : TextEntryState) (pages : Taken) (now : List ℕ) → LeadsTextForth before after text → now ≡ pages_of after → CanPutBack now pages → with_taken now pages ≡ pages_of before
-    → LeadsForth before after (record { text = text; pages = pages })
-leads-forth before after text pages now leads is can are = record {
-  can = record { text = leads.can; pages = pages-lead after (redone_state after (record { text = text; pages = pages })) pages now is can (are ∙ ap pages_of (sym leads.forth)) };
+pub leads-forth : (before after : State) (text : TextEntryState) (layout : PartOf) (pages : Taken) (was laid : LayoutOf) (now : List ℕ) → LeadsTextForth before after text
+    → IsLaidOf before was → IsLaidOf after laid → CanSwap laid layout.places (laid_of layout.kept) → with_part laid layout.places (laid_of layout.kept) ≡ was
+    → now ≡ pages_of after → CanPutBack now pages → with_taken now pages ≡ pages_of before → LeadsForth before after (record { text = text; layout = layout; pages = pages })
+leads-forth before after text layout pages was laid now leads was_is laid_is swaps part is can are = record {
+  can = record {
+    text = leads.can;
+    layout = layout-leads after (redone_text after text) layout laid laid_is swaps (part ∙ was_is ∙ ap laid_in (sym leads.forth));
+    pages = pages-lead after (redone_text after text) pages now is can (are ∙ ap pages_of (sym leads.forth));
+  };
   forth = leads.forth;
 }
 
@@ -37,26 +55,39 @@ same-lead state one_to other_to one other same to lead = record {
   are = ap (λ (it : TakenStarts). exchanged (pages_of state) it.place it.stands it.starts it.less it.more) same ∙ lead.are ∙ ap pages_of (sym to);
 }
 
+-- A part that leads where another led.
+pub record LeadsAgain (layout : LayoutOf) (one other : PartOf) : Type 0 where
+  pub can : CanSwap layout one.places (laid_of one.kept)
+  pub same : with_part layout one.places (laid_of one.kept) ≡ with_part layout other.places (laid_of other.kept)
+
+layout-again : (state one_to other_to : State) (now : LayoutOf) (one other : PartOf) → IsLaidOf state now → LeadsAgain now one other → one_to ≡ other_to → LayoutLeads state other_to other → LayoutLeads state one_to one
+layout-again state one_to other_to now one other is again to lead =
+    let here = subst (λ layout. LeadsAgain layout one other) is again in
+    record { can = here.can; are = here.same ∙ lead.are ∙ ap laid_in (sym to) }
+
 pub same-undone_state : (state : State) (one other : EntryState) → IsSameEntry one other → undone_state state one ≡ undone_state state other
-same-undone_state state one other same = same-undone_text state one.text other.text same.text
+same-undone_state state one other same = same-undone_text state one.text other.text same
 
 pub same-redone_state : (state : State) (one other : EntryState) → IsSameEntry one other → redone_state state one ≡ redone_state state other
-same-redone_state state one other same = same-redone_text state one.text other.text same.text
+same-redone_state state one other same = same-redone_text state one.text other.text same
 
 pub same-done_range : (one other : EntryState) → IsSameEntry one other → done_range one ≡ done_range other
-same-done_range one other same = same-done_lines one.text other.text same.text
+same-done_range one other same = same-done_lines one.text other.text same
 
 pub same-undone_range : (one other : EntryState) → IsSameEntry one other → undone_range one ≡ undone_range other
-same-undone_range one other same = same-undone_lines one.text other.text same.text
+same-undone_range one other same = same-undone_lines one.text other.text same
 
-pub same-CanUndo : (state : State) (one other : EntryState) → IsSameEntry one other → CanUndo state other → CanUndo state one
-same-CanUndo state one other same can = record {
-  text = same-CanUndoText state one.text other.text same.text can.text;
-  pages = same-lead state (undone_state state one) (undone_state state other) one.pages other.pages same.pages (same-undone_state state one other same) can.pages;
+-- What is handed back can be undone, or done again, as what was given.
+pub undo-again : (state : State) (now : LayoutOf) (one other : EntryState) → IsLaidOf state now → IsSameEntry one other → LeadsAgain now one.layout other.layout → taken_of one.pages ≡ taken_of other.pages → CanUndo state other → CanUndo state one
+undo-again state now one other is same again pages can = record {
+  text = same-CanUndoText state one.text other.text same can.text;
+  layout = layout-again state (undone_state state one) (undone_state state other) now one.layout other.layout is again (same-undone_state state one other same) can.layout;
+  pages = same-lead state (undone_state state one) (undone_state state other) one.pages other.pages pages (same-undone_state state one other same) can.pages;
 }
 
-pub same-CanRedo : (state : State) (one other : EntryState) → IsSameEntry one other → CanRedo state other → CanRedo state one
-same-CanRedo state one other same can = record {
-  text = same-CanRedoText state one.text other.text same.text can.text;
-  pages = same-lead state (redone_state state one) (redone_state state other) one.pages other.pages same.pages (same-redone_state state one other same) can.pages;
+pub redo-again : (state : State) (now : LayoutOf) (one other : EntryState) → IsLaidOf state now → IsSameEntry one other → LeadsAgain now one.layout other.layout → taken_of one.pages ≡ taken_of other.pages → CanRedo state other → CanRedo state one
+redo-again state now one other is same again pages can = record {
+  text = same-CanRedoText state one.text other.text same can.text;
+  layout = layout-again state (redone_state state one) (redone_state state other) now one.layout other.layout is again (same-redone_state state one other same) can.layout;
+  pages = same-lead state (redone_state state one) (redone_state state other) one.pages other.pages pages (same-redone_state state one other same) can.pages;
 }

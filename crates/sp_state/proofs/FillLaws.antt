@@ -11,11 +11,7 @@ use Rattle.spec_locked_pages.specs.Segments.{pages_of}
 use Rattle.spec_refill.specs.Exchanges.{edit_exchange, filled_pages}
 use Rattle.sp_reflow.specs.Filling.{FilledAtMost}
 use Rattle.sp_reflow.specs.Starts.{many_more}
-use Rattle.sp_state.specs.Fills.{EditFills, EditFillsAtMost, FillsAtMost}
-
--- An exchange of rows is that of an edit.
-pub record IsExchangeOf (state : State) (it : Replacement) (edit : Exchange) : Type 0 where
-  pub is : (a b : ℕ) → IsWindowOf (range_of it) state (edited_state state it) a b → edit ≡ edit_exchange (range_of it) state (edited_state state it) a b
+use Rattle.sp_state.specs.Fills.{EditFills, EditFillsAtMost, FillsAtMost, IsExchangeOf}
 
 -- The pages that are filled are those of the page window of the edit.
 window-edited : (old new : State) (it : Replacement) (edit : Exchange) (starts : List ℕ) (a b : ℕ) → new ≡ edited_state old it → starts ≡ pages_of old → IsExchangeOf old it edit → IsWindowOf (range_of it) old (edited_state old it) a b

@@ -6,4 +6,5 @@ mod OpeningMade
 pub mod EntryLaws
 pub mod FillLaws
 mod RefilledLaws
+mod RelaidLaws
 mod OpeningPages

@@ -1,5 +1,5 @@
 -- What is made of a state stays through locks and rounds, but for the labels that a lock of scenes gives.
-use Rattle.std.proofs.Common.{◌≡◌, ℕ, ◌+◌, ◌<◌, ◌≤◌, Bool, true, false, Option, Some, None, List, [], ◌++◌, map, length, refl, sym, ap, ap₂, subst, ◌∙◌, arith}
+use Rattle.std.proofs.Common.{◌≡◌, ℕ, ◌+◌, ◌<◌, ◌≤◌, Bool, true, false, Option, Some, None, Err, List, [], ◌++◌, map, length, refl, sym, ap, ap₂, subst, ◌∙◌, arith}
 use Rattle.std.specs.Prelude.{All, IfSome, is_some, option_map}
 use Rattle.spec_text.specs.Lines.{TextState, IsText}
 use Rattle.spec_text.proofs.EditedLaws.{text-HasIds}
@@ -32,9 +32,10 @@ use Rattle.sp_made.specs.Made.{MadeOf, IsMadeOf, key_starts, marked_or_locked}
 use Rattle.sp_state.specs.declared.fault.OpeningFault.{OpeningFault}
 use Rattle.sp_labels.specs.declared.fault.LockFault.{LockFault}
 use Rattle.sp_labels.specs.declared.fault.LockFault.TheVariants as locks
-use Rattle.sp_state.specs.Openings.{CanLockHeadings, IsFull, IsReason, lock_fault_of, headings_refusal, pages_made}
+use Rattle.sp_locks.specs.Extension.{IsMade}
+use Rattle.sp_state.specs.Openings.{ArePagesOpened, CanLockHeadings, IsFull, IsReason, lock_fault_of, headings_refusal, pages_made}
 use Rattle.sp_made.proofs.MadeLaws.{count-rows, sheets-by}
-use Rattle.sp_made.proofs.SheetPlaces.{made-places}
+use Rattle.sp_made.proofs.SheetPlaces.{body-made, keys-made, made-places}
 
 -- The headings of a text keep what is asked of headings.
 pub lines-headings : (text : TextState) → IsText text → AreHeadings (headings_of text.lines)
@@ -58,15 +59,19 @@ sheets_by state keys =
 pub scenes-sheets : (state : State) (scenes : Option (List SceneRecordOf)) → body_sheets (with_scenes state scenes) ≡ body_sheets state
 scenes-sheets state scenes = sym (sheets-by (with_scenes state scenes) state.pages) ∙ ap (sheets_by state) (scenes-keys state scenes) ∙ sheets-by state state.pages
 
+-- What is made, with other labels.
+abbrev pub with_labels : MadeOf → List LabelOf → MadeOf
+with_labels it labels = record it { numbered = record it.numbered { labels = Some labels } }
+
 pub scenes-made : (state : State) (it : MadeOf) (scenes : List SceneRecordOf) (labels : List LabelOf) → IsMadeOf state it → labels ≡ locked_labels scenes (headings_of state.lines)
-    → IsMadeOf (with_scenes state (Some scenes)) (record it { labels = Some labels })
+    → IsMadeOf (with_scenes state (Some scenes)) (with_labels it labels)
 scenes-made state it scenes labels made are = record {
-  titles = made.titles;
-  body = made.body;
-  keys = made.keys ∙ sym (scenes-keys state (Some scenes));
-  labels = ap Some are;
-  title_starts = made.title_starts;
-  sheets = made.sheets ∙ sym (scenes-sheets state (Some scenes));
+  layout = made.layout;
+  numbered = record {
+    labels = ap Some are;
+    title_starts = made.numbered.title_starts;
+    sheets = made.numbered.sheets ∙ sym (scenes-sheets state (Some scenes));
+  };
 }
 
 -- ---- the lock of pages
@@ -86,12 +91,12 @@ pub lock-made : (state : State) (it : MadeOf) → IsWhole state → CanLockPages
 lock-made state it whole can made =
     let sound = whole-sound state whole in
     record {
-      titles = made.titles;
-      body = made.body;
-      keys = made.keys ∙ sym (ap (map key_of) (rows-stay state sound));
-      labels = made.labels ∙ sym (labels-stay state.lines state.scenes (text-headings state sound.text) sound.scenes);
-      title_starts = made.title_starts;
-      sheets = made.sheets ∙ sym (lock-sheets state sound can);
+      layout = made.layout;
+      numbered = record {
+        labels = made.numbered.labels ∙ sym (labels-stay state.lines state.scenes (text-headings state sound.text) sound.scenes);
+        title_starts = made.numbered.title_starts;
+        sheets = made.numbered.sheets ∙ sym (lock-sheets state sound can);
+      };
     }
 
 -- ---- the next round
@@ -119,32 +124,32 @@ pub round-made : (state : State) (it : MadeOf) → IsWhole state → IsMadeOf st
 round-made state it whole made =
     let sound = whole-sound state whole in
     record {
-      titles = made.titles;
-      body = made.body;
-      keys = made.keys ∙ sym (ap (map key_of) (rows-stay state sound));
-      labels = made.labels ∙ sym (labels-stay state.lines state.scenes (text-headings state sound.text) sound.scenes);
-      title_starts = made.title_starts;
-      sheets = made.sheets ∙ sym (round-sheets state sound);
+      layout = made.layout;
+      numbered = record {
+        labels = made.numbered.labels ∙ sym (labels-stay state.lines state.scenes (text-headings state sound.text) sound.scenes);
+        title_starts = made.numbered.title_starts;
+        sheets = made.numbered.sheets ∙ sym (round-sheets state sound);
+      };
     }
 
 -- ---- what records of sheets ask for
 
-pub made-AreSheets : (state : State) (it : MadeOf) → IsWhole state → IsMadeOf state it → AreSheets it.sheets
-made-AreSheets state it whole made = subst AreSheets (sym made.sheets) (state-sheets state (whole-sound state whole).pages)
+pub made-AreSheets : (state : State) (it : MadeOf) → IsWhole state → IsMadeOf state it → AreSheets it.numbered.sheets
+made-AreSheets state it whole made = subst AreSheets (sym made.numbered.sheets) (state-sheets state (whole-sound state whole).pages)
 
-pub made-within : (state : State) (it : MadeOf) → IsWhole state → IsMadeOf state it → All (λ (sheet : SheetOf). sheet.omitted ≡ false → sheet.start < length it.keys) it.sheets
+pub made-within : (state : State) (it : MadeOf) → IsWhole state → IsMadeOf state it → All (λ (sheet : SheetOf). sheet.omitted ≡ false → sheet.start < length it.layout.body.keys) it.numbered.sheets
 made-within state it whole made k d h shown =
     let lie = (made-places state it whole made).sheets_lie k d h in
     let some = lie.some shown in
     let within = lie.within in
-    let keys = ap length made.keys in
-    let body = ap row_count made.body in
+    let keys = ap length (keys-made state it made) in
+    let body = ap row_count (body-made state it made) in
     omega (arith, some, within, keys, body, count-keys state, count-rows state)
 
 -- The page records with one for each page.
 pub made-pages : (state : State) (it : MadeOf) (pages : Option (List PageRecordOf)) → IsMadeOf state it → pages_made it pages ≡ pages_extended state pages
 made-pages state it None made = refl
-made-pages state it (Some records) made = ap₂ (λ sheets keys. Some (extended_page_records records sheets keys)) made.sheets made.keys
+made-pages state it (Some records) made = ap₂ (λ sheets keys. Some (extended_page_records records sheets keys)) made.numbered.sheets (keys-made state it made)
 
 -- ---- what is accepted
 
@@ -157,7 +162,7 @@ pub record Opened (refusal : Option RefusalOf) (opened new : State) (it : MadeOf
 
 pub scenes-opened : (state : State) (it : MadeOf) (scenes : List SceneRecordOf) (labels : List LabelOf) → IsWhole state → IsMadeOf state it → CanLockScenes state
     → scenes ≡ locked_records (headings_of state.lines) → labels ≡ locked_labels scenes (headings_of state.lines)
-    → Opened (scenes_refusal state) (scenes_locked state) (with_scenes state (Some scenes)) (record it { labels = Some labels })
+    → Opened (scenes_refusal state) (scenes_locked state) (with_scenes state (Some scenes)) (with_labels it labels)
 scenes-opened state it scenes labels whole made can are theirs =
     let same : with_scenes state (Some scenes) ≡ scenes_locked state = ap (λ (those : List SceneRecordOf). with_scenes state (Some those)) are in
     record {
@@ -169,16 +174,16 @@ scenes-opened state it scenes labels whole made can are theirs =
 
 -- The records of the pages of what is made of a state.
 abbrev pub records_with : MadeOf → List PageRecordOf
-records_with it = extended_page_records [] it.sheets it.keys
+records_with it = extended_page_records [] it.numbered.sheets it.layout.body.keys
 
 first-pages : (state : State) (it : MadeOf) → IsMadeOf state it → records_with it ≡ extended_page_records [] (body_sheets state) (keys_in state)
-first-pages state it made = ap₂ (λ sheets keys. extended_page_records [] sheets keys) made.sheets made.keys
+first-pages state it made = ap₂ (λ sheets keys. extended_page_records [] sheets keys) made.numbered.sheets (keys-made state it made)
 
-rows-made : (state : State) (it : MadeOf) → IsMadeOf state it → length (rows_in state) ≡ row_count it.body
-rows-made state it made = count-rows state ∙ sym (ap row_count made.body)
+rows-made : (state : State) (it : MadeOf) → IsMadeOf state it → length (rows_in state) ≡ row_count it.layout.body.elements
+rows-made state it made = count-rows state ∙ sym (ap row_count (body-made state it made))
 
 pub pages-opened : (state : State) (it : MadeOf) (scenes : Option (List SceneRecordOf)) (pages : List PageRecordOf) → IsWhole state → IsMadeOf state it → is_some state.scenes ≡ true → state.pages ≡ None
-    → 0 < row_count it.body → scenes ≡ scenes_extended (headings_of state.lines) state.scenes → FewScenes (scenes_extended (headings_of state.lines) state.scenes)
+    → 0 < row_count it.layout.body.elements → scenes ≡ scenes_extended (headings_of state.lines) state.scenes → FewScenes (scenes_extended (headings_of state.lines) state.scenes)
     → pages ≡ records_with it → length (records_with it) ≤ page_record_limit
     → Opened (pages_refusal state) (pages_locked state) (record state { scenes = scenes; pages = Some pages }) it
 pages-opened state it scenes pages whole made scened unlocked some are few theirs count =
@@ -247,14 +252,14 @@ more-pages state it made rounds many =
 
 pub scenes-answer : (text : TextState) (records old : RecordsOf) (it before : MadeOf) (scenes : List SceneRecordOf) (labels : List LabelOf) → records ≡ old → it ≡ before
     → IsWhole (state_of text old) → IsMadeOf (state_of text old) before → CanLockScenes (state_of text old) → scenes ≡ locked_records (headings_of text.lines) → labels ≡ locked_labels scenes (headings_of text.lines)
-    → Opened (scenes_refusal (state_of text old)) (scenes_locked (state_of text old)) (state_of text (record records { scenes = Some scenes })) (record it { labels = Some labels })
+    → Opened (scenes_refusal (state_of text old)) (scenes_locked (state_of text old)) (state_of text (record records { scenes = Some scenes })) (with_labels it labels)
 scenes-answer text records old it before scenes labels same same_made whole made can are theirs =
     let here : IsMadeOf (state_of text records) it = subst (λ (m : MadeOf). IsMadeOf (state_of text records) m) (sym same_made) (subst (λ (r : RecordsOf). IsMadeOf (state_of text r) before) (sym same) made) in
-    subst (λ (r : RecordsOf). Opened (scenes_refusal (state_of text r)) (scenes_locked (state_of text r)) (state_of text (record records { scenes = Some scenes })) (record it { labels = Some labels })) same
+    subst (λ (r : RecordsOf). Opened (scenes_refusal (state_of text r)) (scenes_locked (state_of text r)) (state_of text (record records { scenes = Some scenes })) (with_labels it labels)) same
     (scenes-opened (state_of text records) it scenes labels (subst (λ (r : RecordsOf). IsWhole (state_of text r)) (sym same) whole) here (subst (λ (r : RecordsOf). CanLockScenes (state_of text r)) (sym same) can) are theirs)
 
 pub pages-answer : (text : TextState) (records old : RecordsOf) (it : MadeOf) (scenes : Option (List SceneRecordOf)) (pages : List PageRecordOf) → records ≡ old
-    → IsWhole (state_of text old) → IsMadeOf (state_of text old) it → is_some records.scenes ≡ true → records.pages ≡ None → 0 < row_count it.body
+    → IsWhole (state_of text old) → IsMadeOf (state_of text old) it → is_some records.scenes ≡ true → records.pages ≡ None → 0 < row_count it.layout.body.elements
     → scenes ≡ scenes_extended (headings_of text.lines) records.scenes → FewScenes (scenes_extended (headings_of text.lines) records.scenes)
     → pages ≡ records_with it → length (records_with it) ≤ page_record_limit
     → Opened (pages_refusal (state_of text old)) (pages_locked (state_of text old)) (state_of text (record records { scenes = scenes; pages = Some pages })) it
@@ -317,6 +322,23 @@ full-answer text records old locks.RecordsFull same scened unlocked some many =
     (sym (ap (λ (r : RecordsOf). are_more scene_record_limit (scenes_extended (headings_of text.lines) r.scenes)) same) ∙ many)
 full-answer text records old locks.NoMemory same scened unlocked some many = tt
 
+-- Too many page records refuse it.
+pub full-pages : (text : TextState) (records old : RecordsOf) (it : MadeOf) (fault : LockFault) → records ≡ old → IsMadeOf (state_of text old) it → is_some records.scenes ≡ true → records.pages ≡ None
+    → 0 < length (rows_in (state_of text old)) → IsMade (records_with it) (Err fault) → IsReason (pages_refusal (state_of text old)) (lock_fault_of fault)
+full-pages text records old it locks.RecordsFull same made scened unlocked some many =
+    many-pages (state_of text old) it made (sym (ap (λ (r : RecordsOf). is_some r.scenes) same) ∙ scened) (sym (ap (λ (r : RecordsOf). r.pages) same) ∙ unlocked) some many
+full-pages text records old it locks.NoMemory same made scened unlocked some many = tt
+
+-- They refuse a round too, and then the page records are as they were.
+pub round-refused : (text : TextState) (records old : RecordsOf) (it : MadeOf) (pages : Option (List PageRecordOf)) (fault : LockFault) → records ≡ old → IsMadeOf (state_of text old) it → records.round < 99
+    → ArePagesOpened it records.pages pages (Err fault) → IsReason (round_refusal (state_of text old)) (lock_fault_of fault) × (state_of text (record records { pages = pages }) ≡ state_of text old)
+round-refused text records old it pages locks.RecordsFull same made rounds are = (
+  more-pages (state_of text old) it made (subst (λ (r : RecordsOf). r.round < 99) same rounds) (sym (ap (λ (r : RecordsOf). are_more page_record_limit (pages_made it r.pages)) same) ∙ are.0),
+  ap (λ (ps : Option (List PageRecordOf)). state_of text (record records { pages = ps })) are.1 ∙ ap (state_of text) same,
+)
+round-refused text records old it pages locks.NoMemory same made rounds are =
+    (tt, ap (λ (ps : Option (List PageRecordOf)). state_of text (record records { pages = ps })) are ∙ ap (state_of text) same)
+
 -- How many rows there are, by those of what was made.
-pub rows-answer : (text : TextState) (old : RecordsOf) (it : MadeOf) → IsMadeOf (state_of text old) it → length (rows_in (state_of text old)) ≡ row_count it.body
+pub rows-answer : (text : TextState) (old : RecordsOf) (it : MadeOf) → IsMadeOf (state_of text old) it → length (rows_in (state_of text old)) ≡ row_count it.layout.body.elements
 rows-answer text old it made = rows-made (state_of text old) it made

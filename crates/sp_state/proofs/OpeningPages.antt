@@ -1,5 +1,5 @@
 -- Locks and rounds leave the first rows of pages as they were.
-use Rattle.std.proofs.Common.{◌≡◌, Option, Some, None, Result, Ok, Err, List, ◌++◌, refl, sym, ap, ◌∙◌}
+use Rattle.std.proofs.Common.{◌≡◌, Option, None, Result, Ok, Err, List, ◌++◌, refl, sym, ap, ◌∙◌}
 use Rattle.spec_pages.specs.Pages.{page_starts, rows_on}
 use Rattle.spec_labels.specs.declared.RowKey.{RowKey}
 use Rattle.spec_labels.specs.Scenes.{SceneRecordOf}

@@ -1,32 +1,26 @@
 -- Page starts of a state, filled again.
-use Rattle.std.proofs.Common.{◌≡◌, ℕ, Bool, None, List, length, map, refl, sym, ap, subst, ◌∙◌, arith}
+use Rattle.std.proofs.Common.{◌≡◌, ℕ, Bool, None, List, length, map, refl, sym, ap, subst, ◌∙◌}
 use Rattle.std.proofs.lemmas.List.{length-map}
 use Rattle.spec_text.specs.Edits.{EditOf, Replacement, refusal_of, replacement_of}
 use Rattle.spec_text.specs.Lines.{TextState, IsText, line_texts}
-use Rattle.spec_text.specs.Ranges.{range_of}
 use Rattle.spec_text.proofs.TakenEdits.{taken-inside}
-use Rattle.spec_script.specs.BlockValues.{StanzaOf}
 use Rattle.spec_pages.specs.declared.Shape.{Shape}
 use Rattle.spec_pages.specs.Pages.{rows_on}
-use Rattle.spec_pages.specs.Rows.{ElementOf}
 use Rattle.spec_layout.specs.Shown.{shape_of}
 use Rattle.spec_records.specs.Kept.{RecordsOf}
 use Rattle.spec_state.specs.State.{State, text_of as state_text}
 use Rattle.spec_state.specs.Changes.{CanEdit, edited_state}
 use Rattle.spec_state.specs.Keeping.{IsWhole, state_of}
-use Rattle.spec_state.specs.StateSheets.{layout_in, rows_in}
+use Rattle.spec_state.specs.StateSheets.{rows_in}
 use Rattle.spec_machine.proofs.WholeStates.{speakers-whole}
 use Rattle.spec_reflow.specs.Windows.{AreExchanged, AreStops, Exchange, page_window}
 use Rattle.spec_relayout.proofs.WindowExists.{window-exists}
 use Rattle.spec_locked_pages.specs.Segments.{pages_of}
 use Rattle.spec_refill.proofs.EditExchange.{edit-exchanged, speakers-starts}
-use Rattle.sp_reread.specs.Cache.{SwappedState}
-use Rattle.sp_exchange.specs.Restoring.{AreDisplaced, text_stanzas}
-use Rattle.sp_refill.specs.Edits.{IsOfEdit}
 use Rattle.sp_reflow.specs.Updates.{AreStale}
 use Rattle.sp_made.specs.Made.{AreStopsOf}
 use Rattle.sp_made.proofs.StopsMade.{starts-of, stops-in_order}
-use Rattle.sp_state.proofs.FillLaws.{IsExchangeOf}
+use Rattle.sp_state.specs.Fills.{IsExchangeOf}
 
 pub stale-same : (edit : Exchange) (olds : List ℕ) (limit body : ℕ) (those shapes : List Shape) (items stops : List ℕ) → body ≡ limit → shapes ≡ those → stops ≡ items
     → AreStale limit edit olds those items → AreStale body edit olds shapes stops
@@ -55,20 +49,6 @@ stale-edited old new it edit starts stops whole can led starts_are found are =
           olds.1.same news.same);
     } in
     subst (λ (s : State). AreStopsOf s stops → AreStale (rows_on s.paper) edit starts (map shape_of (rows_in s)) stops) (sym led) stale are
-
--- What an edit left is what it makes of the state before it.
-pub left-by : (old : State) (it : Replacement) (text : TextState) (records : RecordsOf) (stanzas : List StanzaOf) (swapped : SwappedState) (olds news : List ElementOf) → IsWhole old → CanEdit old it
-    → state_of text records ≡ edited_state old it → stanzas ≡ text_stanzas text → AreDisplaced (line_texts old.lines) (line_texts text.lines) (range_of it) swapped → olds ≡ (layout_in old).body
-    → news ≡ (layout_in (state_of text records)).body → IsOfEdit old it text.lines stanzas swapped olds news
-left-by old it text records stanzas swapped olds news whole can led stanzas_are window olds_are news_are = record {
-  whole = whole;
-  can = can;
-  lines_are = ap (λ (s : State). s.lines) led;
-  stanzas_are = stanzas_are;
-  window = window;
-  olds_are = olds_are;
-  news_are = news_are ∙ ap (λ (s : State). (layout_in s).body) led;
-}
 
 -- An accepted edit can be made.
 pub can-edit : (text : TextState) (records : RecordsOf) (edit : EditOf) (new : State) → refusal_of text edit ≡ None → IsWhole new → new ≡ edited_state (state_of text records) (replacement_of text.lines edit)

@@ -4,12 +4,15 @@ use Rattle.spec_text.specs.Ranges.{RangeOf}
 use Rattle.spec_state.specs.State.{State}
 use Rattle.spec_locked_pages.specs.Segments.{pages_of}
 use Rattle.sp_reflow.specs.Starts.{Taken}
-use Rattle.sp_reflow.specs.Updates.{CanPutBack, taken_of, with_taken}
+use Rattle.sp_reflow.specs.Updates.{CanPutBack, with_taken}
+use Rattle.sp_relay.specs.Kept.{CanSwap, PartOf, laid_of, with_part}
+use Rattle.sp_made.specs.Made.{laid_in}
 use Rattle.sp_state.specs.TextEntries.{TextEntryState, CanRedoText, CanUndoText, IsSameTextEntry, done_lines, redone_text, undone_lines, undone_text}
 
--- What an edit displaced of the text and of the page records, and first rows of pages.
+-- What an edit displaced of the text and of the page records, of the layout, and first rows of pages.
 pub record EntryState : Type 0 where
   pub text : TextEntryState
+  pub layout : PartOf
   pub pages : Taken
 
 -- The state that undoing an entry, or redoing it, leads to.
@@ -26,6 +29,11 @@ done_range entry = done_lines entry.text
 abbrev pub undone_range : EntryState → RangeOf
 undone_range entry = undone_lines entry.text
 
+-- The part can be exchanged in the layout of one state, which is then that of the other.
+pub record LayoutLeads (state other : State) (part : PartOf) : Type 0 where
+  pub can : CanSwap (laid_in state) part.places (laid_of part.kept)
+  pub are : with_part (laid_in state) part.places (laid_of part.kept) ≡ laid_in other
+
 -- The first rows of pages of one state can be put back, and then they are those of the other.
 pub record PagesLead (state other : State) (pages : Taken) : Type 0 where
   pub can : CanPutBack (pages_of state) pages
@@ -33,10 +41,12 @@ pub record PagesLead (state other : State) (pages : Taken) : Type 0 where
 
 pub record CanUndo (state : State) (entry : EntryState) : Type 0 where
   pub text : CanUndoText state entry.text
+  pub layout : LayoutLeads state (undone_state state entry) entry.layout
   pub pages : PagesLead state (undone_state state entry) entry.pages
 
 pub record CanRedo (state : State) (entry : EntryState) : Type 0 where
   pub text : CanRedoText state entry.text
+  pub layout : LayoutLeads state (redone_state state entry) entry.layout
   pub pages : PagesLead state (redone_state state entry) entry.pages
 
 -- The entry of an edit that led from one state to another: it can be undone, and that leads back.
@@ -49,7 +59,7 @@ pub record LeadsForth (before after : State) (entry : EntryState) : Type 0 where
   pub can : CanRedo after entry
   pub forth : redone_state after entry ≡ before
 
--- The same entry; its vectors may have other room.
-pub record IsSameEntry (one other : EntryState) : Type 0 where
-  pub text : IsSameTextEntry one.text other.text
-  pub pages : taken_of one.pages ≡ taken_of other.pages
+-- The entry of the same edit. Its vectors may have other room, and it need not have the same part of the layout: it is told that it
+-- leads to the same state.
+abbrev pub IsSameEntry : EntryState → EntryState → Type 0
+IsSameEntry one other = IsSameTextEntry one.text other.text

@@ -53,7 +53,7 @@ IsFull many locks.NoMemory = Unit {0}
 -- The page records with one for every page of what is made of a state, where pages are locked.
 abbrev pub pages_made : MadeOf → Option (List PageRecordOf) → Option (List PageRecordOf)
 pages_made it None = None
-pages_made it (Some records) = Some (extended_page_records records it.sheets it.keys)
+pages_made it (Some records) = Some (extended_page_records records it.numbered.sheets it.layout.body.keys)
 
 -- They are so, or they are as they were.
 abbrev pub ArePagesOpened : MadeOf → Option (List PageRecordOf) → Option (List PageRecordOf) → Result (Unit {0}) LockFault → Type 0

@@ -1,20 +1,17 @@
 //! What is made of a state after a change of its parts; where there is no memory for it the change is taken back.
-ghost use Rattle.std.specs.Prelude.{◌≡◌, ℕ, length, IfErr, IfOk, OnOk, OnErr};
-ghost use Rattle.spec_text.specs.Edits.{Replacement, refusal_of, replacement_of};
+ghost use Rattle.std.specs.Prelude.{◌≡◌, length, IfErr, IfOk, OnOk, OnErr};
+ghost use Rattle.spec_text.specs.Edits.{refusal_of, replacement_of};
 ghost use Rattle.spec_text.specs.Ranges.{range_of};
-ghost use Rattle.spec_state.specs.State.{State};
 ghost use Rattle.spec_state.specs.Changes.{edited_state};
 ghost use Rattle.spec_state.specs.Keeping.{IsWhole, state_of};
-ghost use Rattle.spec_locked_pages.specs.LockedPages.{IsWindowOf};
 ghost use Rattle.spec_locked_pages.specs.Segments.{pages_of};
-ghost use Rattle.spec_refill.specs.Exchanges.{edit_exchange};
 ghost use Rattle.sp_text.specs.Changing.{Refuses, edit_of};
 ghost use Rattle.sp_text.specs.Gap.{text_of};
 ghost use Rattle.sp_exchange.specs.Reads.{IsRefused};
 ghost use Rattle.sp_exchange.specs.Restoring.{text_stanzas};
 ghost use Rattle.sp_reflow.specs.Filling.{FilledAtMost};
-ghost use Rattle.sp_made.specs.Made.{IsMadeOf};
-ghost use Rattle.sp_refill.specs.Edits.{IsOfEdit, IsOfSomeEdit};
+ghost use Rattle.sp_relay.specs.Kept.{laid_of};
+ghost use Rattle.sp_made.specs.Made.{IsLaidOf, IsMadeOf, IsNumberedOf};
 ghost use Rattle.sp_state.specs.TextEntries.{CanRedoText, CanUndoText, HasTextRoom, IsTextRedone, IsTextUndone, redone_text, undone_text};
 ghost use Rattle.sp_state.specs.Entries.{CanRedo, CanUndo, IsSameEntry, LeadsBack, LeadsForth, done_range, redone_state, undone_range, undone_state};
 ghost use Rattle.sp_reflow.specs.Starts.{many_more};
@@ -22,14 +19,13 @@ ghost use Rattle.sp_state.specs.Reads.{EditReads, EditReadsAtMost};
 ghost use Rattle.sp_state.specs.Fills.{EditFills, EditFillsAtMost};
 
 use crate::entry::{Entry, Unturned};
-use crate::text_entry::{TextEntry, UnturnedText, edit_entry, redo_entry, undo_entry};
-use crate::turning::{refilled, turned};
+use crate::text_entry::{EditedText, TextEntry, UnturnedText, edit_entry, redo_entry, undo_entry};
+use crate::turning::{Turned, UnturnedPages, refilled, swap_in_room, turn_made};
 use sp_kit::Steps;
-use sp_layout::Body;
-use sp_made::{Laid, Made, lay, make, make_of};
+use sp_made::{Made, Numbered, lay, make, number};
 use sp_records::Records;
-use sp_refill::{ExchangedRows, exchanged_rows};
-use sp_reflow::{Pages, UnswappedPages};
+use sp_reflow::Pages;
+use sp_relay::KeptLayout;
 use sp_reread::Stanzas;
 use sp_text::{Edit, EditFault, Lines};
 use spec_pages::Paper;
@@ -49,8 +45,9 @@ fn remade(
     requires pages { pages.now.starts ≡ pages_of (state_of (text_of lines.now) records.now) }
     ensures { IfOk result (IsMadeOf (state_of (text_of lines.now) records.now)) }
 {
-    let laid = lay(alloc, lines, stanzas, records)?;
-    make_of(alloc, lines, records, laid, pages)
+    let layout = lay(alloc, lines, stanzas, records)?;
+    let numbered = number(alloc, lines, stanzas, records, &layout, pages)?;
+    Ok(Made { layout, numbered })
 }
 
 /// Sets whether a cue says that its speaker goes on. It fills no page.
@@ -151,43 +148,29 @@ fn redo_in_room(
     }
 }
 
-/// The rows that an edit exchanges, which left this entry and this layout. `olds` are the rows of the body before it.
-fn edited_rows(
-    lines: &Lines,
-    stanzas: &Stanzas,
-    text: &TextEntry,
-    olds: &Body,
-    laid: &Laid,
-) -> ExchangedRows
-    requires { IsOfSomeEdit lines.now.lines stanzas.now.stanzas (text.now).stanzas olds.now.elements (laid.now).layout.body.elements }
-    ensures { (state : State) (it : Replacement) (a b : ℕ) → IsOfEdit state it lines.now.lines stanzas.now.stanzas (text.now).stanzas olds.now.elements (laid.now).layout.body.elements → IsWindowOf (range_of it) state (edited_state state it) a b → result ≡ edit_exchange (range_of it) state (edited_state state it) a b }
-{
-    let layout = &laid.layout;
-    exchanged_rows(lines, stanzas, &text.stanzas, olds, &layout.body)
-}
-
-/// Makes an edit. The pages of its page window are filled again, and all but stanzas and page starts is made anew. `before`
-/// is what was made of the state before it.
+/// Makes an edit. The part of the layout that it changes is laid out anew, the pages of its page window are filled again, and
+/// labels and sheets are made anew.
 pub(crate) fn edit_made<S: Steps>(
     alloc: Global,
     lines: &mut Lines,
     stanzas: &mut Stanzas,
     records: &mut Records,
+    layout: &mut KeptLayout,
     pages: &mut Pages,
-    before: &Made,
     edit: Edit,
     steps: &mut S,
-) -> Result<(Entry, Made), EditFault>
+) -> Result<(Entry, Numbered), EditFault>
     requires whole { IsWhole (state_of (text_of lines.old) records.old) }
     requires stanzas { stanzas.old.stanzas ≡ text_stanzas (text_of lines.old) }
+    requires laid { IsLaidOf (state_of (text_of lines.old) records.old) (laid_of layout.old) }
     requires pages { pages.old.starts ≡ pages_of (state_of (text_of lines.old) records.old) }
-    requires before { IsMadeOf (state_of (text_of lines.old) records.old) before.now }
     ensures refuses { Refuses (refusal_of (text_of lines.old) (edit_of edit)) result }
     ensures state { OnOk result (state_of (text_of lines.new) records.new ≡ edited_state (state_of (text_of lines.old) records.old) (replacement_of lines.old.lines (edit_of edit))) }
     ensures whole { OnOk result (IsWhole (state_of (text_of lines.new) records.new)) }
     ensures back { IfOk result (λ it. LeadsBack (state_of (text_of lines.old) records.old) (state_of (text_of lines.new) records.new) it.0) }
     ensures range { IfOk result (λ it. done_range it.0 ≡ range_of (replacement_of lines.old.lines (edit_of edit))) }
-    ensures made { IfOk result (λ it. IsMadeOf (state_of (text_of lines.new) records.new) it.1) }
+    ensures laid { IsLaidOf (state_of (text_of lines.new) records.new) (laid_of layout.new) }
+    ensures numbered { IfOk result (λ it. IsNumberedOf (state_of (text_of lines.new) records.new) it.1) }
     ensures pages { pages.new.starts ≡ pages_of (state_of (text_of lines.new) records.new) }
     ensures stanzas { stanzas.new.stanzas ≡ text_stanzas (text_of lines.new) }
     ensures same { OnErr result (state_of (text_of lines.new) records.new ≡ state_of (text_of lines.old) records.old) }
@@ -198,114 +181,174 @@ pub(crate) fn edit_made<S: Steps>(
     ensures fills_at_most { EditFillsAtMost (state_of (text_of lines.old) records.old) (replacement_of lines.old.lines (edit_of edit)) (S.fills steps.old) (S.fills steps.new) }
     ensures unfilled { IsRefused (refusal_of (text_of lines.old) (edit_of edit)) → S.fills steps.new ≡ S.fills steps.old }
 {
-    let olds = &before.body;
-    let (text, laid) = edit_entry(alloc, lines, stanzas, records, olds, edit, steps)?;
-    let rows = edited_rows(lines, stanzas, &text, olds, &laid);
+    let EditedText {
+        text,
+        layout: part,
+        rows,
+    } = edit_entry(alloc, lines, stanzas, records, layout, edit, steps)?;
     match refilled(
-        alloc, lines, records, laid, pages, rows.first, rows.old, rows.new, steps,
+        alloc, lines, stanzas, records, layout, pages, rows.first, rows.old, rows.new, steps,
     ) {
-        Ok((swapped, made)) => Ok((
+        Ok((swapped, numbered)) => Ok((
             Entry {
                 text,
+                layout: part,
                 pages: swapped,
             },
-            made,
+            numbered,
         )),
         Err(_) => {
-            let _other = undo_in_room(lines, stanzas, records, text);
+            let _other = swap_in_room(layout, part);
+            let _text = undo_in_room(lines, stanzas, records, text);
             Err(EditFault::NoMemory)
         }
     }
 }
 
-/// Undoes an edit. No page is filled, and all but stanzas and page starts is made anew.
+/// Undoes an edit. Nothing is laid out and no page filled; labels and sheets are made anew.
 pub(crate) fn undo_made(
     alloc: Global,
     lines: &mut Lines,
     stanzas: &mut Stanzas,
     records: &mut Records,
+    layout: &mut KeptLayout,
     pages: &mut Pages,
     entry: Entry,
-) -> Result<(Entry, Made), Unturned>
+) -> Result<(Entry, Numbered), Unturned>
     requires can { CanUndo (state_of (text_of lines.old) records.old) entry }
     requires stanzas { stanzas.old.stanzas ≡ text_stanzas (text_of lines.old) }
+    requires laid { IsLaidOf (state_of (text_of lines.old) records.old) (laid_of layout.old) }
     requires pages { pages.old.starts ≡ pages_of (state_of (text_of lines.old) records.old) }
     requires whole { IsWhole (undone_state (state_of (text_of lines.old) records.old) entry) }
     ensures state { OnOk result (state_of (text_of lines.new) records.new ≡ undone_state (state_of (text_of lines.old) records.old) entry) }
     ensures forth { IfOk result (λ it. LeadsForth (state_of (text_of lines.old) records.old) (state_of (text_of lines.new) records.new) it.0) }
     ensures range { IfOk result (λ it. undone_range it.0 ≡ done_range entry) }
-    ensures made { IfOk result (λ it. IsMadeOf (state_of (text_of lines.new) records.new) it.1) }
+    ensures laid { IsLaidOf (state_of (text_of lines.new) records.new) (laid_of layout.new) }
+    ensures numbered { IfOk result (λ it. IsNumberedOf (state_of (text_of lines.new) records.new) it.1) }
     ensures pages { pages.new.starts ≡ pages_of (state_of (text_of lines.new) records.new) }
     ensures stanzas { stanzas.new.stanzas ≡ text_stanzas (text_of lines.new) }
     ensures same { OnErr result (state_of (text_of lines.new) records.new ≡ state_of (text_of lines.old) records.old) }
     ensures handed_back { IfErr result (λ error. IsSameEntry error.back entry) }
+    ensures again { IfErr result (λ error. CanUndo (state_of (text_of lines.old) records.old) error.back) }
 {
     let _count = lines.len();
-    let Entry { text, pages: back } = entry;
+    let Entry {
+        text,
+        layout: part,
+        pages: back,
+    } = entry;
     match undo_entry(lines, stanzas, records, text) {
-        Ok(other) => match turned(alloc, lines, stanzas, records, pages, back) {
-            Ok((swapped, made)) => Ok((
+        Ok(other) => match turn_made(alloc, lines, stanzas, records, layout, pages, part, back) {
+            Ok(
+                Turned {
+                    layout: part,
+                    pages: swapped,
+                    numbered,
+                },
+            ) => Ok((
                 Entry {
                     text: other,
+                    layout: part,
                     pages: swapped,
                 },
-                made,
+                numbered,
             )),
-            Err(UnswappedPages { back }) => {
+            Err(
+                UnturnedPages {
+                    layout: part,
+                    pages: back,
+                },
+            ) => {
                 let text = redo_in_room(lines, stanzas, records, other);
                 Err(Unturned {
-                    back: Entry { text, pages: back },
+                    back: Entry {
+                        text,
+                        layout: part,
+                        pages: back,
+                    },
                 })
             }
         },
         Err(UnturnedText { back: text }) => Err(Unturned {
-            back: Entry { text, pages: back },
+            back: Entry {
+                text,
+                layout: part,
+                pages: back,
+            },
         }),
     }
 }
 
-/// Does an edit again. No page is filled, and all but stanzas and page starts is made anew.
+/// Does an edit again. Nothing is laid out and no page filled; labels and sheets are made anew.
 pub(crate) fn redo_made(
     alloc: Global,
     lines: &mut Lines,
     stanzas: &mut Stanzas,
     records: &mut Records,
+    layout: &mut KeptLayout,
     pages: &mut Pages,
     entry: Entry,
-) -> Result<(Entry, Made), Unturned>
+) -> Result<(Entry, Numbered), Unturned>
     requires can { CanRedo (state_of (text_of lines.old) records.old) entry }
     requires stanzas { stanzas.old.stanzas ≡ text_stanzas (text_of lines.old) }
+    requires laid { IsLaidOf (state_of (text_of lines.old) records.old) (laid_of layout.old) }
     requires pages { pages.old.starts ≡ pages_of (state_of (text_of lines.old) records.old) }
     requires whole { IsWhole (redone_state (state_of (text_of lines.old) records.old) entry) }
     ensures state { OnOk result (state_of (text_of lines.new) records.new ≡ redone_state (state_of (text_of lines.old) records.old) entry) }
     ensures back { IfOk result (λ it. LeadsBack (state_of (text_of lines.old) records.old) (state_of (text_of lines.new) records.new) it.0) }
     ensures range { IfOk result (λ it. done_range it.0 ≡ undone_range entry) }
-    ensures made { IfOk result (λ it. IsMadeOf (state_of (text_of lines.new) records.new) it.1) }
+    ensures laid { IsLaidOf (state_of (text_of lines.new) records.new) (laid_of layout.new) }
+    ensures numbered { IfOk result (λ it. IsNumberedOf (state_of (text_of lines.new) records.new) it.1) }
     ensures pages { pages.new.starts ≡ pages_of (state_of (text_of lines.new) records.new) }
     ensures stanzas { stanzas.new.stanzas ≡ text_stanzas (text_of lines.new) }
     ensures same { OnErr result (state_of (text_of lines.new) records.new ≡ state_of (text_of lines.old) records.old) }
     ensures handed_back { IfErr result (λ error. IsSameEntry error.back entry) }
+    ensures again { IfErr result (λ error. CanRedo (state_of (text_of lines.old) records.old) error.back) }
 {
     let _count = lines.len();
-    let Entry { text, pages: back } = entry;
+    let Entry {
+        text,
+        layout: part,
+        pages: back,
+    } = entry;
     match redo_entry(lines, stanzas, records, text) {
-        Ok(other) => match turned(alloc, lines, stanzas, records, pages, back) {
-            Ok((swapped, made)) => Ok((
+        Ok(other) => match turn_made(alloc, lines, stanzas, records, layout, pages, part, back) {
+            Ok(
+                Turned {
+                    layout: part,
+                    pages: swapped,
+                    numbered,
+                },
+            ) => Ok((
                 Entry {
                     text: other,
+                    layout: part,
                     pages: swapped,
                 },
-                made,
+                numbered,
             )),
-            Err(UnswappedPages { back }) => {
+            Err(
+                UnturnedPages {
+                    layout: part,
+                    pages: back,
+                },
+            ) => {
                 let text = undo_in_room(lines, stanzas, records, other);
                 Err(Unturned {
-                    back: Entry { text, pages: back },
+                    back: Entry {
+                        text,
+                        layout: part,
+                        pages: back,
+                    },
                 })
             }
         },
         Err(UnturnedText { back: text }) => Err(Unturned {
-            back: Entry { text, pages: back },
+            back: Entry {
+                text,
+                layout: part,
+                pages: back,
+            },
         }),
     }
 }

@@ -1,12 +1,14 @@
 //! The entry of an edit.
 use crate::text_entry::TextEntry;
 use sp_reflow::SwappedPages;
+use sp_relay::LayoutPart;
 use std::marker::Model;
 
-/// What an edit displaced: of the text and of the page records, and first rows of pages.
+/// What an edit displaced: of the text and of the page records, of the layout, and first rows of pages.
 #[derive(Drop)]
 pub struct Entry {
     pub(crate) text: TextEntry,
+    pub(crate) layout: LayoutPart,
     pub(crate) pages: SwappedPages,
 }
 
@@ -15,7 +17,7 @@ impl Model for Entry {
 
     ghost Value = { EntryState };
 
-    ghost view = { λ e. record { text = e.text; pages = e.pages } };
+    ghost view = { λ e. record { text = e.text; layout = e.layout; pages = e.pages } };
 }
 
 /// There was no memory; what was to be put back is handed back.

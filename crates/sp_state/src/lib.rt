@@ -8,6 +8,7 @@ mod entry;
 mod fault;
 mod locking;
 mod raising;
+mod relaying;
 mod script;
 mod text_entry;
 mod turning;

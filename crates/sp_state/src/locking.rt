@@ -81,8 +81,9 @@ pub(crate) fn lock_scenes_made(
 {
     let headings = headings_by(alloc, lines, stanzas)?;
     let (scenes, labels) = first_scenes(alloc, &records.scenes, &headings)?;
+    let numbered = &mut made.numbered;
     records.scenes = Some(scenes);
-    made.labels = Some(labels);
+    numbered.labels = Some(labels);
     Ok(())
 }
 
@@ -142,12 +143,14 @@ fn extended_scenes(
 
 /// The records of sheets that are numbered.
 fn first_pages(alloc: Global, made: &Made) -> Result<Vec<PageRecord>, LockFault>
-    requires sheets { AreSheets made.now.sheets }
-    requires within { All (λ (sheet : SheetOf). sheet.omitted ≡ false → sheet.start < length made.now.keys) made.now.sheets }
-    ensures { IsMade (extended_page_records [] made.now.sheets made.now.keys) result }
+    requires sheets { AreSheets made.now.numbered.sheets }
+    requires within { All (λ (sheet : SheetOf). sheet.omitted ≡ false → sheet.start < length made.now.layout.body.keys) made.now.numbered.sheets }
+    ensures { IsMade (extended_page_records [] made.now.numbered.sheets made.now.layout.body.keys) result }
 {
+    let layout = &made.layout;
+    let numbered = &made.numbered;
     let mut pages = Vec::new(alloc);
-    extend(alloc, &mut pages, &made.sheets, made.body.keys())?;
+    extend(alloc, &mut pages, &numbered.sheets, layout.body.keys())?;
     Ok(pages)
 }
 
@@ -158,13 +161,15 @@ fn extend_pages(
     made: &Made,
 ) -> Result<(), LockFault>
     requires records { IfSome pages.old (λ those. AreLocked those.items) }
-    requires sheets { AreSheets made.now.sheets }
-    requires within { All (λ (sheet : SheetOf). sheet.omitted ≡ false → sheet.start < length made.now.keys) made.now.sheets }
+    requires sheets { AreSheets made.now.numbered.sheets }
+    requires within { All (λ (sheet : SheetOf). sheet.omitted ≡ false → sheet.start < length made.now.layout.body.keys) made.now.numbered.sheets }
     ensures { ArePagesOpened made.now (option_map (λ those. those.items) pages.old) (option_map (λ those. those.items) pages.new) result }
 {
+    let layout = &made.layout;
+    let numbered = &made.numbered;
     match pages {
         None => Ok(()),
-        Some(pages) => extend(alloc, pages, &made.sheets, made.body.keys()),
+        Some(pages) => extend(alloc, pages, &numbered.sheets, layout.body.keys()),
     }
 }
 
@@ -189,7 +194,8 @@ pub(crate) fn lock_pages_made(
     if records.pages.is_some() {
         return Err(OpeningFault::PagesLocked);
     }
-    if made.body.rows() == 0 {
+    let layout = &made.layout;
+    if layout.body.rows() == 0 {
         return Err(OpeningFault::NoPages);
     }
     let scenes = extended_scenes(alloc, lines, &records.scenes, stanzas)?;

@@ -143,7 +143,8 @@ impl Script {
         ensures sheets { result.now ≡ body_sheets self.now }
         ensures whole { IsWhole self.now }
     {
-        &self.made.sheets
+        let numbered = &self.made.numbered;
+        &numbered.sheets
     }
 
     /// The first rows of its page records; none where pages aren't locked (docs/RULES.md, "Page records"). `AllocError` comes
@@ -173,10 +174,11 @@ impl Script {
         made_sheet(&self.lines, &self.made, i - count)
     }
 
-    /// Makes an edit, and answers the entry that undoes it. Each stanza of its window is read once, each page of its page
-    /// window filled once (docs/RULES.md, "Windows"), and all else is made anew. Where pages are locked their records are
-    /// carried, and those whose rows differ get the round (docs/RULES.md, "Edits and records"). On a fault nothing is changed;
-    /// NoMemory may come in place of any answer, and the others come as docs/RULES.md says in "Edits".
+    /// Makes an edit, and answers the entry that undoes it. Each stanza of its window is read once, the part of the layout that
+    /// it changes is laid out anew, and each page of its page window is filled once (docs/RULES.md, "Windows"); labels and sheets
+    /// are made anew. Where pages are locked their records are carried, and those whose rows differ get the round
+    /// (docs/RULES.md, "Edits and records"). On a fault nothing is changed; NoMemory may come in place of any answer, and the
+    /// others come as docs/RULES.md says in "Edits".
     pub fn edit<S: Steps>(
         &mut self,
         alloc: Global,
@@ -196,22 +198,23 @@ impl Script {
         ensures fills_at_most { EditFillsAtMost self.old (replacement_of self.old.lines (edit_of edit)) (S.fills steps.old) (S.fills steps.new) }
         ensures unfilled { IsRefused (refusal_of (state_text self.old) (edit_of edit)) → S.fills steps.new ≡ S.fills steps.old }
     {
-        let (entry, made) = edit_made(
+        let (entry, numbered) = edit_made(
             alloc,
             &mut self.lines,
             &mut self.stanzas,
             &mut self.records,
+            &mut self.made.layout,
             &mut self.pages,
-            &self.made,
             edit,
             steps,
         )?;
-        self.made = made;
+        self.made.numbered = numbered;
         Ok(entry)
     }
 
-    /// Undoes an edit by its entry, and answers the entry that does it again. No stanza is read and no page filled; rows and sheets are made anew. On an
-    /// error there was no memory, nothing is changed, and the entry is handed back (docs/RULES.md, "The desk").
+    /// Undoes an edit by its entry, and answers the entry that does it again. No stanza is read, nothing laid out and no page
+    /// filled; labels and sheets are made anew. On an error there was no memory, nothing is changed, and an entry of the same
+    /// edit is handed back, which can be undone (docs/RULES.md, "The desk").
     pub fn undo(&mut self, alloc: Global, entry: Entry) -> Result<Entry, Unturned>
         requires can { CanUndo self.old entry }
         requires whole { IsWhole (undone_state self.old entry) }
@@ -221,21 +224,24 @@ impl Script {
         ensures range { IfOk result (λ it. undone_range it ≡ done_range entry) }
         ensures same { OnErr result (self.new ≡ self.old) }
         ensures handed_back { IfErr result (λ error. IsSameEntry error.back entry) }
+        ensures again { IfErr result (λ error. CanUndo self.old error.back) }
     {
-        let (other, made) = undo_made(
+        let (other, numbered) = undo_made(
             alloc,
             &mut self.lines,
             &mut self.stanzas,
             &mut self.records,
+            &mut self.made.layout,
             &mut self.pages,
             entry,
         )?;
-        self.made = made;
+        self.made.numbered = numbered;
         Ok(other)
     }
 
-    /// Does an edit again by the entry that undoing it left, and answers the entry that undoes it. No stanza is read
-    /// and no page filled; rows and sheets are made anew. On an error there was no memory, nothing is changed, and the entry is handed back (docs/RULES.md, "The desk").
+    /// Does an edit again by the entry that undoing it left, and answers the entry that undoes it. No stanza is read, nothing
+    /// laid out and no page filled; labels and sheets are made anew. On an error there was no memory, nothing is changed, and an
+    /// entry of the same edit is handed back, which can be done again (docs/RULES.md, "The desk").
     pub fn redo(&mut self, alloc: Global, entry: Entry) -> Result<Entry, Unturned>
         requires can { CanRedo self.old entry }
         requires whole { IsWhole (redone_state self.old entry) }
@@ -245,16 +251,18 @@ impl Script {
         ensures range { IfOk result (λ it. done_range it ≡ undone_range entry) }
         ensures same { OnErr result (self.new ≡ self.old) }
         ensures handed_back { IfErr result (λ error. IsSameEntry error.back entry) }
+        ensures again { IfErr result (λ error. CanRedo self.old error.back) }
     {
-        let (other, made) = redo_made(
+        let (other, numbered) = redo_made(
             alloc,
             &mut self.lines,
             &mut self.stanzas,
             &mut self.records,
+            &mut self.made.layout,
             &mut self.pages,
             entry,
         )?;
-        self.made = made;
+        self.made.numbered = numbered;
         Ok(other)
     }
 

@@ -1,26 +1,27 @@
 //! What an edit displaced.
 ghost use Rattle.std.specs.Prelude.{◌≡◌, IfOk, IfErr, IsOk, OnOk, OnErr};
 ghost use Rattle.spec_text.specs.Edits.{refusal_of, replacement_of};
-ghost use Rattle.spec_text.specs.Lines.{line_texts};
 ghost use Rattle.spec_text.specs.Ranges.{range_of};
 ghost use Rattle.spec_state.specs.Changes.{edited_state};
 ghost use Rattle.spec_state.specs.Keeping.{IsWhole, state_of};
-ghost use Rattle.spec_state.specs.StateSheets.{keys_in, layout_in};
 ghost use Rattle.sp_text.specs.Changing.{Refuses, edit_of};
 ghost use Rattle.sp_text.specs.Gap.{text_of};
 ghost use Rattle.sp_exchange.specs.Reads.{IsRefused};
-ghost use Rattle.sp_exchange.specs.Restoring.{AreDisplaced, CanRestoreText, HasRoomFor, text_before, text_stanzas};
+ghost use Rattle.sp_exchange.specs.Restoring.{CanRestoreText, HasRoomFor, text_before, text_stanzas};
 ghost use Rattle.sp_state.specs.TextEntries.{CanUndoText, CanRedoText, HasTextRoom, IsTextRedone, IsSameTextEntry, IsTextUndone, LeadsTextBack, LeadsTextForth, undone_text, redone_text, undone_lines, done_lines};
+ghost use Rattle.sp_relay.specs.Kept.{CanSwap, HasPartRoom, laid_of, with_part};
 ghost use Rattle.sp_made.specs.Made.{IsLaidOf};
+ghost use Rattle.sp_state.specs.Fills.{IsExchangeOf};
 ghost use Rattle.sp_state.specs.Reads.{EditReads, EditReadsAtMost};
 
-use crate::carrying::{Turned, carry_and_raise};
+use crate::relaying::{Relaid, relay_and_raise};
 use sp_exchange::{UnrestoredText, change_text, restore_text};
 use sp_kit::Steps;
-use sp_layout::Body;
 use sp_locks::put_back;
-use sp_made::{Laid, record_starts};
+use sp_made::record_starts;
 use sp_records::Records;
+use sp_refill::ExchangedRows;
+use sp_relay::{KeptLayout, LayoutPart};
 use sp_reread::{Stanzas, Swapped};
 use sp_text::{Displaced, Edit, EditFault, Lines};
 use spec_labels::Moved;
@@ -65,56 +66,71 @@ fn restore_in_room(lines: &mut Lines, stanzas: &mut Stanzas, back: Displaced, sw
     }
 }
 
-/// Makes an edit, and answers the entry that undoes it, and the text laid out after it. `olds` are the rows of the body
-/// before it. Each stanza of its window is read once. A refused edit changes nothing.
+/// An edit that was made: what undoes it but for the page starts, and the rows that it exchanged.
+#[derive(Drop)]
+pub(crate) struct EditedText {
+    pub text: TextEntry,
+    pub layout: LayoutPart,
+    pub rows: ExchangedRows,
+}
+
+/// Makes an edit in a text and in its layout, and answers what undoes it. Each stanza of its window is read once. A refused
+/// edit changes nothing.
 pub(crate) fn edit_entry<S: Steps>(
     alloc: Global,
     lines: &mut Lines,
     stanzas: &mut Stanzas,
     records: &mut Records,
-    olds: &Body,
+    layout: &mut KeptLayout,
     edit: Edit,
     steps: &mut S,
-) -> Result<(TextEntry, Laid), EditFault>
+) -> Result<EditedText, EditFault>
     requires whole { IsWhole (state_of (text_of lines.old) records.old) }
     requires stanzas { stanzas.old.stanzas ≡ text_stanzas (text_of lines.old) }
-    requires olds { olds.now.elements ≡ (layout_in (state_of (text_of lines.old) records.old)).body }
-    requires keys { olds.now.keys ≡ keys_in (state_of (text_of lines.old) records.old) }
+    requires laid { IsLaidOf (state_of (text_of lines.old) records.old) (laid_of layout.old) }
     ensures refuses { Refuses (refusal_of (text_of lines.old) (edit_of edit)) result }
     ensures state { OnOk result (state_of (text_of lines.new) records.new ≡ edited_state (state_of (text_of lines.old) records.old) (replacement_of lines.old.lines (edit_of edit))) }
     ensures whole { OnOk result (IsWhole (state_of (text_of lines.new) records.new)) }
-    ensures back { IfOk result (λ it. LeadsTextBack (state_of (text_of lines.old) records.old) (state_of (text_of lines.new) records.new) it.0) }
-    ensures range { IfOk result (λ it. done_lines it.0 ≡ range_of (replacement_of lines.old.lines (edit_of edit))) }
-    ensures room { IfOk result (λ it. HasTextRoom lines.new stanzas.new it.0) }
+    ensures back { IfOk result (λ it. LeadsTextBack (state_of (text_of lines.old) records.old) (state_of (text_of lines.new) records.new) it.text) }
+    ensures range { IfOk result (λ it. done_lines it.text ≡ range_of (replacement_of lines.old.lines (edit_of edit))) }
+    ensures room { IfOk result (λ it. HasTextRoom lines.new stanzas.new it.text) }
     ensures stanzas { stanzas.new.stanzas ≡ text_stanzas (text_of lines.new) }
-    ensures laid { IfOk result (λ it. IsLaidOf (state_of (text_of lines.new) records.new) it.1) }
-    ensures window { IfOk result (λ it. AreDisplaced (line_texts lines.old.lines) (line_texts lines.new.lines) (range_of (replacement_of lines.old.lines (edit_of edit))) it.0.stanzas) }
+    ensures laid { OnOk result (IsLaidOf (state_of (text_of lines.new) records.new) (laid_of layout.new)) }
+    ensures layout_back { IfOk result (λ it. with_part (laid_of layout.new) it.layout.places (laid_of it.layout.kept) ≡ laid_of layout.old) }
+    ensures swaps { IfOk result (λ it. CanSwap (laid_of layout.new) it.layout.places (laid_of it.layout.kept)) }
+    ensures layout_room { IfOk result (λ it. HasPartRoom layout.new it.layout.places it.layout.kept) }
+    ensures rows { IfOk result (λ it. IsExchangeOf (state_of (text_of lines.old) records.old) (replacement_of lines.old.lines (edit_of edit)) it.rows) }
     ensures same { OnErr result (state_of (text_of lines.new) records.new ≡ state_of (text_of lines.old) records.old) }
+    ensures same_layout { OnErr result (laid_of layout.new ≡ laid_of layout.old) }
     ensures reads { OnOk result (EditReads (state_of (text_of lines.old) records.old) (replacement_of lines.old.lines (edit_of edit)) (S.reads steps.old) (S.reads steps.new)) }
     ensures at_most { EditReadsAtMost (state_of (text_of lines.old) records.old) (replacement_of lines.old.lines (edit_of edit)) (S.reads steps.old) (S.reads steps.new) }
     ensures unread { IsRefused (refusal_of (text_of lines.old) (edit_of edit)) → S.reads steps.new ≡ S.reads steps.old }
     ensures fills { S.fills steps.new ≡ S.fills steps.old }
 {
     let _count = lines.len();
-    let before = record_starts(alloc, lines, olds.keys(), &records.pages)?;
+    let before = record_starts(alloc, lines, layout.body.keys(), &records.pages)?;
     let (displaced, swapped) = change_text(lines, stanzas, edit, records.round, steps)?;
     let _changed = lines.len();
-    match carry_and_raise(alloc, lines, stanzas, &displaced, records, &before, olds) {
+    match relay_and_raise(
+        alloc, lines, stanzas, &displaced, &swapped, records, &before, layout,
+    ) {
         Ok(
-            Turned {
-                laid,
+            Relaid {
+                part,
                 moved,
                 raised,
+                rows,
             },
-        ) => Ok((
-            TextEntry {
+        ) => Ok(EditedText {
+            text: TextEntry {
                 lines: displaced,
                 stanzas: swapped,
                 moved,
                 raised,
             },
-            laid,
-        )),
+            layout: part,
+            rows,
+        }),
         Err(_) => {
             restore_in_room(lines, stanzas, displaced, swapped);
             Err(EditFault::NoMemory)

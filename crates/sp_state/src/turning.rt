@@ -1,4 +1,4 @@
-//! The first rows of pages after an edit, and after it is undone or done again.
+//! The layout and the first rows of pages after an edit, and after it is undone or done again.
 ghost use Rattle.std.specs.Prelude.{◌≡◌, ℕ, ◌+◌, ◌-◌, ◌≤◌, List, length, map, IfErr, IfOk, OnErr, OnOk};
 ghost use Rattle.spec_pages.specs.Pages.{rows_on};
 ghost use Rattle.spec_layout.specs.Shown.{shape_of};
@@ -11,15 +11,31 @@ ghost use Rattle.sp_exchange.specs.Restoring.{text_stanzas};
 ghost use Rattle.sp_reflow.specs.Starts.{many_more};
 ghost use Rattle.sp_reflow.specs.Filling.{FilledAtMost};
 ghost use Rattle.sp_reflow.specs.Updates.{AreStale, CanPutBack, taken_back, taken_of, with_taken};
-ghost use Rattle.sp_made.specs.Made.{AreStopsOf, IsLaidOf, IsMadeOf};
+ghost use Rattle.sp_relay.specs.Kept.{CanSwap, HasPartRoom, laid_of, with_part};
+ghost use Rattle.sp_made.specs.Made.{AreStopsOf, IsLaidOf, IsNumberedOf};
 
 use sp_kit::Steps;
-use sp_made::{Laid, Made, laid_stops, lay, make_of, rows_on};
+use sp_made::{Numbered, laid_stops, number, rows_on};
 use sp_records::Records;
 use sp_reflow::{Pages, SwappedPages, UnswappedPages};
+use sp_relay::{KeptLayout, LayoutPart, UnswappedLayout};
 use sp_reread::Stanzas;
 use sp_text::Lines;
 use std::alloc::{AllocError, Global};
+
+/// Puts a part of a layout back where there is room.
+pub(crate) fn swap_in_room(layout: &mut KeptLayout, part: LayoutPart) -> LayoutPart
+    requires can { CanSwap (laid_of layout.old) part.places (laid_of part.kept) }
+    requires room { HasPartRoom layout.old part.places part.kept }
+    ensures layout { laid_of layout.new ≡ with_part (laid_of layout.old) part.places (laid_of part.kept) }
+    ensures back { with_part (laid_of layout.new) result.places (laid_of result.kept) ≡ laid_of layout.old }
+    ensures can { CanSwap (laid_of layout.new) result.places (laid_of result.kept) }
+{
+    match layout.swap(part) {
+        Ok(other) => other,
+        Err(_) => unreachable!(),
+    }
+}
 
 /// Puts page starts back where there is room.
 fn put_back_in_room(pages: &mut Pages, back: SwappedPages) -> SwappedPages
@@ -40,7 +56,7 @@ fn update_pages<S: Steps>(
     alloc: Global,
     lines: &Lines,
     records: &Records,
-    laid: &Laid,
+    layout: &KeptLayout,
     pages: &mut Pages,
     first: usize,
     old: usize,
@@ -48,7 +64,7 @@ fn update_pages<S: Steps>(
     steps: &mut S,
 ) -> Result<SwappedPages, AllocError>
     requires whole { IsWhole (state_of (text_of lines.now) records.now) }
-    requires laid { IsLaidOf (state_of (text_of lines.now) records.now) laid.now }
+    requires laid { IsLaidOf (state_of (text_of lines.now) records.now) (laid_of layout.now) }
     requires stale { (stops : List ℕ) → AreStopsOf (state_of (text_of lines.now) records.now) stops → AreStale (rows_on (records.now).paper) (record { first = first; old = old; new = new }) pages.old.starts (map shape_of (rows_in (state_of (text_of lines.now) records.now))) stops }
     ensures pages { OnOk result (pages.new.starts ≡ pages_of (state_of (text_of lines.now) records.now)) }
     ensures back { IfOk result (λ it. with_taken pages.new.starts it ≡ pages.old.starts) }
@@ -60,8 +76,7 @@ fn update_pages<S: Steps>(
     ensures reads { S.reads steps.new ≡ S.reads steps.old }
     ensures same { OnErr result (pages.new.starts ≡ pages.old.starts) }
 {
-    let stops = laid_stops(alloc, lines, records, laid)?;
-    let layout = &laid.layout;
+    let stops = laid_stops(alloc, lines, records, layout)?;
     pages.update(
         layout.body.shapes(),
         &stops,
@@ -73,34 +88,36 @@ fn update_pages<S: Steps>(
     )
 }
 
-/// What is made of a state after an edit, whose text is laid out: the pages of the page window are filled again, where `old`
-/// rows from `first` on were exchanged for `new` ones.
+/// The labels and the sheets of a state after an edit, whose text is laid out: the pages of the page window are filled again,
+/// where `old` rows from `first` on were exchanged for `new` ones.
 pub(crate) fn refilled<S: Steps>(
     alloc: Global,
     lines: &Lines,
+    stanzas: &Stanzas,
     records: &Records,
-    laid: Laid,
+    layout: &KeptLayout,
     pages: &mut Pages,
     first: usize,
     old: usize,
     new: usize,
     steps: &mut S,
-) -> Result<(SwappedPages, Made), AllocError>
+) -> Result<(SwappedPages, Numbered), AllocError>
     requires whole { IsWhole (state_of (text_of lines.now) records.now) }
-    requires laid { IsLaidOf (state_of (text_of lines.now) records.now) laid }
+    requires stanzas { stanzas.now.stanzas ≡ text_stanzas (text_of lines.now) }
+    requires laid { IsLaidOf (state_of (text_of lines.now) records.now) (laid_of layout.now) }
     requires stale { (stops : List ℕ) → AreStopsOf (state_of (text_of lines.now) records.now) stops → AreStale (rows_on (records.now).paper) (record { first = first; old = old; new = new }) pages.old.starts (map shape_of (rows_in (state_of (text_of lines.now) records.now))) stops }
     ensures pages { OnOk result (pages.new.starts ≡ pages_of (state_of (text_of lines.now) records.now)) }
     ensures back { IfOk result (λ it. with_taken pages.new.starts it.0 ≡ pages.old.starts) }
     ensures can { IfOk result (λ it. CanPutBack pages.new.starts it.0) }
-    ensures made { IfOk result (λ it. IsMadeOf (state_of (text_of lines.now) records.now) it.1) }
+    ensures numbered { IfOk result (λ it. IsNumberedOf (state_of (text_of lines.now) records.now) it.1) }
     ensures fills { OnOk result (S.fills steps.new ≡ many_more (S.fills steps.old) (length (page_window (rows_on (records.now).paper) (record { first = first; old = old; new = new }) pages.old.starts (pages_of (state_of (text_of lines.now) records.now))))) }
     ensures at_most { FilledAtMost (S.fills steps.old) (S.fills steps.new) (length (page_window (rows_on (records.now).paper) (record { first = first; old = old; new = new }) pages.old.starts (pages_of (state_of (text_of lines.now) records.now)))) }
     ensures reads { S.reads steps.new ≡ S.reads steps.old }
     ensures same { OnErr result (pages.new.starts ≡ pages.old.starts) }
 {
-    let swapped = update_pages(alloc, lines, records, &laid, pages, first, old, new, steps)?;
-    match make_of(alloc, lines, records, laid, pages) {
-        Ok(made) => Ok((swapped, made)),
+    let swapped = update_pages(alloc, lines, records, layout, pages, first, old, new, steps)?;
+    match number(alloc, lines, stanzas, records, layout, pages) {
+        Ok(numbered) => Ok((swapped, numbered)),
         Err(error) => {
             let _other = put_back_in_room(pages, swapped);
             Err(error)
@@ -108,36 +125,104 @@ pub(crate) fn refilled<S: Steps>(
     }
 }
 
-/// What is made of a state after an edit was undone or done again, by the page starts that it displaced. It fills no page.
-/// On an error there was no memory, and the page starts are as they were.
-pub(crate) fn turned(
+/// The labels and the sheets of a state after an edit was undone or done again, whose text is laid out, by the page starts that
+/// it displaced. It fills no page. On an error there was no memory, and the page starts are as they were.
+fn turned_pages(
     alloc: Global,
     lines: &Lines,
     stanzas: &Stanzas,
     records: &Records,
+    layout: &KeptLayout,
     pages: &mut Pages,
     back: SwappedPages,
-) -> Result<(SwappedPages, Made), UnswappedPages>
+) -> Result<(SwappedPages, Numbered), UnswappedPages>
     requires whole { IsWhole (state_of (text_of lines.now) records.now) }
     requires stanzas { stanzas.now.stanzas ≡ text_stanzas (text_of lines.now) }
+    requires laid { IsLaidOf (state_of (text_of lines.now) records.now) (laid_of layout.now) }
     requires can { CanPutBack pages.old.starts back }
     requires leads { with_taken pages.old.starts back ≡ pages_of (state_of (text_of lines.now) records.now) }
     ensures pages { OnOk result (pages.new.starts ≡ pages_of (state_of (text_of lines.now) records.now)) }
     ensures back { IfOk result (λ it. with_taken pages.new.starts it.0 ≡ pages.old.starts) }
     ensures can { IfOk result (λ it. CanPutBack pages.new.starts it.0) }
-    ensures made { IfOk result (λ it. IsMadeOf (state_of (text_of lines.now) records.now) it.1) }
+    ensures numbered { IfOk result (λ it. IsNumberedOf (state_of (text_of lines.now) records.now) it.1) }
     ensures same { OnErr result (pages.new.starts ≡ pages.old.starts) }
     ensures handed_back { IfErr result (λ error. taken_of error.back ≡ taken_of back) }
 {
-    let Ok(laid) = lay(alloc, lines, stanzas, records) else {
-        return Err(UnswappedPages { back });
-    };
     let other = pages.put_back(back)?;
-    match make_of(alloc, lines, records, laid, pages) {
-        Ok(made) => Ok((other, made)),
+    match number(alloc, lines, stanzas, records, layout, pages) {
+        Ok(numbered) => Ok((other, numbered)),
         Err(_) => {
             let back = put_back_in_room(pages, other);
             Err(UnswappedPages { back })
         }
+    }
+}
+
+/// A part of a layout and page starts that were put back: what stood in their place, and the labels and the sheets by them.
+#[derive(Drop)]
+pub(crate) struct Turned {
+    pub layout: LayoutPart,
+    pub pages: SwappedPages,
+    pub numbered: Numbered,
+}
+
+/// There was no memory; what was to be put back is handed back.
+#[derive(Drop)]
+pub(crate) struct UnturnedPages {
+    pub layout: LayoutPart,
+    pub pages: SwappedPages,
+}
+
+/// The layout, the page starts, the labels and the sheets of a state after an edit was undone or done again, by what the edit
+/// displaced of them. It lays out nothing and fills no page. On an error there was no memory, layout and page starts are as they
+/// were, and what is handed back leads where what was to be put back led.
+pub(crate) fn turn_made(
+    alloc: Global,
+    lines: &Lines,
+    stanzas: &Stanzas,
+    records: &Records,
+    layout: &mut KeptLayout,
+    pages: &mut Pages,
+    part: LayoutPart,
+    back: SwappedPages,
+) -> Result<Turned, UnturnedPages>
+    requires whole { IsWhole (state_of (text_of lines.now) records.now) }
+    requires stanzas { stanzas.now.stanzas ≡ text_stanzas (text_of lines.now) }
+    requires swaps { CanSwap (laid_of layout.old) part.places (laid_of part.kept) }
+    requires laid { IsLaidOf (state_of (text_of lines.now) records.now) (with_part (laid_of layout.old) part.places (laid_of part.kept)) }
+    requires can { CanPutBack pages.old.starts back }
+    requires leads { with_taken pages.old.starts back ≡ pages_of (state_of (text_of lines.now) records.now) }
+    ensures laid { OnOk result (IsLaidOf (state_of (text_of lines.now) records.now) (laid_of layout.new)) }
+    ensures part { IfOk result (λ it. with_part (laid_of layout.new) it.layout.places (laid_of it.layout.kept) ≡ laid_of layout.old) }
+    ensures swaps { IfOk result (λ it. CanSwap (laid_of layout.new) it.layout.places (laid_of it.layout.kept)) }
+    ensures pages { OnOk result (pages.new.starts ≡ pages_of (state_of (text_of lines.now) records.now)) }
+    ensures back { IfOk result (λ it. with_taken pages.new.starts it.pages ≡ pages.old.starts) }
+    ensures can { IfOk result (λ it. CanPutBack pages.new.starts it.pages) }
+    ensures numbered { IfOk result (λ it. IsNumberedOf (state_of (text_of lines.now) records.now) it.numbered) }
+    ensures same { OnErr result (pages.new.starts ≡ pages.old.starts) }
+    ensures same_layout { OnErr result (laid_of layout.new ≡ laid_of layout.old) }
+    ensures handed_back { IfErr result (λ error. taken_of error.pages ≡ taken_of back) }
+    ensures again { IfErr result (λ error. CanSwap (laid_of layout.old) error.layout.places (laid_of error.layout.kept)) }
+    ensures leads_again { IfErr result (λ error. with_part (laid_of layout.old) error.layout.places (laid_of error.layout.kept) ≡ with_part (laid_of layout.old) part.places (laid_of part.kept)) }
+{
+    match layout.swap(part) {
+        Ok(other) => match turned_pages(alloc, lines, stanzas, records, layout, pages, back) {
+            Ok((swapped, numbered)) => Ok(Turned {
+                layout: other,
+                pages: swapped,
+                numbered,
+            }),
+            Err(UnswappedPages { back }) => {
+                let part = swap_in_room(layout, other);
+                Err(UnturnedPages {
+                    layout: part,
+                    pages: back,
+                })
+            }
+        },
+        Err(UnswappedLayout { back: part }) => Err(UnturnedPages {
+            layout: part,
+            pages: back,
+        }),
     }
 }

@@ -8,6 +8,7 @@ use Rattle.spec_state.specs.StateSheets.{body_sheets, layout_in, keys_in}
 use Rattle.spec_state.proofs.StateKeys.{state-row_keys}
 use Rattle.sp_text.specs.Gap.{text_of}
 use Rattle.sp_layout.specs.LaidOut.{LayoutOf}
+use Rattle.sp_relay.specs.Kept.{laid_of}
 use Rattle.sp_made.specs.Made.{key_starts, marked_or_locked}
 use Rattle.sp_made.proofs.MadeLaws.{asked-of, shows-same, anchored, pages-are, sheets-made}
 use Rattle.sp_made.proofs.made.made_sheets.Goals as goal
@@ -15,7 +16,7 @@ use Rattle.sp_made.proofs.made.made_sheets.Goals as goal
 pub record_starts-requires : goal.record_starts-requires
 record_starts-requires c =
     let state : State = state_of (text_of c.args.lines.now) c.args.records.now in
-    let laid = c.layout.view_is ∙ c.requires.layout in
+    let laid = ap laid_of c.layout.view_is ∙ c.requires.laid in
     let keys : c.keys.result.now ≡ keys_in state = c.keys.ensures.keys ∙ ap (λ (l : LayoutOf). l.body.keys) laid ∙ sym (state-row_keys state) in
     anchored (λ those. those.items) state c.keys.result.now c.records.inside.pages c.requires.whole keys (sym (ap (λ (r : RecordsOf). r.pages) c.records.view_is))
 
@@ -23,7 +24,7 @@ pub sheets_of_pages-requires : goal.sheets_of_pages-requires
 sheets_of_pages-requires c =
     let state : State = state_of (text_of c.args.lines.now) c.args.records.now in
     let body = c.layout.inside.body.elements in
-    let laid = c.layout.view_is ∙ c.requires.layout in
+    let laid = ap laid_of c.layout.view_is ∙ c.requires.laid in
     let elements : body ≡ (layout_in state).body = ap (λ (l : LayoutOf). l.body.elements) laid in
     let breaks = ap (λ (l : LayoutOf). l.breaks) laid in
     let keys : c.keys.result.now ≡ keys_in state = c.keys.ensures.keys ∙ ap (λ (l : LayoutOf). l.body.keys) laid ∙ sym (state-row_keys state) in
@@ -37,7 +38,7 @@ pub returns : goal.returns
 returns c =
     let state : State = state_of (text_of c.args.lines.now) c.args.records.now in
     let body = c.layout.inside.body.elements in
-    let laid = c.layout.view_is ∙ c.requires.layout in
+    let laid = ap laid_of c.layout.view_is ∙ c.requires.laid in
     let elements : body ≡ (layout_in state).body = ap (λ (l : LayoutOf). l.body.elements) laid in
     let breaks = ap (λ (l : LayoutOf). l.breaks) laid in
     let keys : c.keys.result.now ≡ keys_in state = c.keys.ensures.keys ∙ ap (λ (l : LayoutOf). l.body.keys) laid ∙ sym (state-row_keys state) in

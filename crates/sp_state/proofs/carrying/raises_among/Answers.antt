@@ -1,48 +1,59 @@
-use Rattle.std.proofs.Common.{◌≡◌, List, Some, length, ap, sym, ◌∙◌, subst}
+use Rattle.std.proofs.Common.{◌≡◌, List, Option, Some, length, ap, sym, ◌∙◌, subst}
+use Rattle.std.specs.Prelude.{IfSome}
 use Rattle.spec_labels.specs.declared.RowKey.{RowKey}
 use Rattle.spec_labels.specs.PageRecords.{AreAnchored, PageRecordOf, record_starts}
+use Rattle.spec_pages.specs.Rows.{ElementOf}
 use Rattle.spec_records.specs.Kept.{RecordsOf}
 use Rattle.spec_state.specs.State.{State}
 use Rattle.spec_state.specs.Keeping.{state_of}
 use Rattle.spec_state.specs.StateSheets.{keys_in}
 use Rattle.spec_state.proofs.StateKeys.{state-row_keys}
 use Rattle.spec_state.proofs.StateLaws.{state-AreAnchored}
-use Rattle.spec_text.specs.Lines.{LineState}
 use Rattle.spec_text.specs.Edits.{restored}
 use Rattle.sp_text.specs.DisplacedLines.{displaced_of}
 use Rattle.sp_text.specs.Gap.{text_of}
 use Rattle.sp_compare.specs.BareRows.{Both}
-use Rattle.sp_layout.specs.Bodies.{keyed_elements, row_count}
+use Rattle.sp_layout.specs.Bodies.{KeyedElements, row_count}
 use Rattle.sp_layout.specs.LaidOut.{LayoutOf}
+use Rattle.sp_relay.specs.Kept.{laid_of}
 use Rattle.sp_state.specs.Raised.{AreSegments}
+use Rattle.sp_state.specs.Relaid.{body_before}
 use Rattle.sp_state.proofs.CarriedLaws.{own-segments, raises-made, some-pages, whole-laid}
 use Rattle.sp_state.proofs.carrying.raises_among.Goals as goal
 
 pub starts-requires : goal.starts-requires
 starts-requires c =
     let state : State = state_of (text_of c.args.lines.now) c.args.records.now in
-    let laid = c.layout.view_is ∙ c.requires.layout in
+    let laid = ap laid_of c.layout.view_is ∙ c.requires.laid in
     let keys : c.keys.result.now ≡ keys_in state = c.keys.ensures.keys ∙ ap (λ (l : LayoutOf). l.body.keys) laid ∙ sym (state-row_keys state) in
     let pages = some-pages (λ those. those.items) c.records.inside.pages c.in-Some.pages c.args.records.now.pages (ap (λ (r : RecordsOf). r.pages) c.records.view_is) c.in-Some.is in
     subst (λ (rs : List PageRecordOf). AreAnchored state.lines c.keys.result.now rs) (sym c.deref.ensures.value)
     (subst (λ (ks : List RowKey). AreAnchored state.lines ks c.in-Some.pages.items) (sym keys) (state-AreAnchored state c.in-Some.pages.items c.requires.whole pages))
 
-pub new-texts-requires-clause-news : goal.new-texts-requires-clause-news
-new-texts-requires-clause-news c =
+pub both_texts-texts-requires-clause-news : goal.both_texts-texts-requires-clause-news
+both_texts-texts-requires-clause-news c =
     let state : State = state_of (text_of c.args.lines.now) c.args.records.now in
-    let laid = c.layout.view_is ∙ c.requires.layout in
-    whole-laid state (keyed_elements c.layout.inside.body) c.requires.whole (ap (λ (l : LayoutOf). l.body.elements) laid) (ap (λ (l : LayoutOf). l.body.keys) laid ∙ sym (state-row_keys state))
+    let layout : LayoutOf = laid_of c.args.layout.now in
+    whole-laid state layout.body c.requires.whole (ap (λ (l : LayoutOf). l.body.elements) c.requires.laid) (ap (λ (l : LayoutOf). l.body.keys) c.requires.laid ∙ sym (state-row_keys state))
+
+pub raises-requires-clause-before : goal.raises-requires-clause-before
+raises-requires-clause-before c =
+    let body : KeyedElements = body_before (laid_of c.args.layout.now) c.args.gone.now in
+    let pages = some-pages (λ those. those.items) c.records.inside.pages c.in-Some.pages c.args.records.now.pages (ap (λ (r : RecordsOf). r.pages) c.records.view_is) c.in-Some.is in
+    subst (λ (rs : List PageRecordOf). AreSegments (row_count c.both_texts-texts.result.olds) (length rs) c.args.before.now) (sym c.deref-3.ensures.value)
+    (subst (λ (es : List ElementOf). AreSegments (row_count es) (length c.in-Some.pages.items) c.args.before.now) (sym (ap (λ (b : Both). b.olds) c.both_texts-texts.ensures))
+    (subst (λ (rs : Option (List PageRecordOf)). IfSome rs (λ those. AreSegments (row_count body.elements) (length those) c.args.before.now)) pages c.requires.before))
 
 pub raises-requires-clause-after : goal.raises-requires-clause-after
 raises-requires-clause-after c =
     let state : State = state_of (text_of c.args.lines.now) c.args.records.now in
-    let laid = c.layout.view_is ∙ c.requires.layout in
+    let laid = ap laid_of c.layout.view_is ∙ c.requires.laid in
     let keys : c.keys.result.now ≡ keys_in state = c.keys.ensures.keys ∙ ap (λ (l : LayoutOf). l.body.keys) laid ∙ sym (state-row_keys state) in
     let pages = some-pages (λ those. those.items) c.records.inside.pages c.in-Some.pages c.args.records.now.pages (ap (λ (r : RecordsOf). r.pages) c.records.view_is) c.in-Some.is in
-    let news = c.new-texts.result.news in
+    let news = c.both_texts-texts.result.news in
     subst (λ (rs : List PageRecordOf). AreSegments (row_count news) (length rs) c.deref-2.result.now) (sym c.deref-3.ensures.value)
     (own-segments state c.in-Some.pages.items news c.deref-2.result.now c.requires.whole pages
-    (ap (λ (b : Both). b.news) c.new-texts.ensures ∙ ap (λ (l : LayoutOf). l.body.elements) laid)
+    (ap (λ (b : Both). b.news) c.both_texts-texts.ensures ∙ ap (λ (l : LayoutOf). l.body.elements) c.requires.laid)
     (c.deref-2.ensures.value ∙ c.in_ok-after.ensures.starts ∙ ap (λ (ks : List RowKey). record_starts state.lines ks c.deref.result.now) keys
     ∙ ap (record_starts state.lines (keys_in state)) c.deref.ensures.value))
 
@@ -50,13 +61,14 @@ pub returns : goal.returns
 returns c =
     let text = text_of c.args.lines.now in
     let state : State = state_of text c.args.records.now in
-    let laid = c.layout.view_is ∙ c.requires.layout in
+    let layout : LayoutOf = laid_of c.args.layout.now in
+    let laid = ap laid_of c.layout.view_is ∙ c.requires.laid in
     let keys : c.keys.result.now ≡ keys_in state = c.keys.ensures.keys ∙ ap (λ (l : LayoutOf). l.body.keys) laid ∙ sym (state-row_keys state) in
     let pages = some-pages (λ those. those.items) c.records.inside.pages c.in-Some.pages c.args.records.now.pages (ap (λ (r : RecordsOf). r.pages) c.records.view_is) c.in-Some.is in
-    raises-made (λ moved. moved.items) c.raises.result state (restored text (displaced_of c.args.displaced.now)).lines c.new-texts.result c.args.olds.now.elements c.layout.inside.body.elements
+    raises-made (λ moved. moved.items) c.raises.result state (restored text (displaced_of c.args.displaced.now)).lines c.both_texts-texts.result (body_before layout c.args.gone.now).elements layout.body.elements
     c.args.before.now c.deref-2.result.now c.records.inside.round c.deref-3.result.now
-    (c.new-texts.ensures ∙ ap (λ (old : List LineState). let both : Both = record { old = old; olds = c.args.olds.now.elements; new = c.args.lines.now.lines; news = c.layout.inside.body.elements } in both) c.new-2.ensures)
-    (ap (λ (l : LayoutOf). l.body.elements) laid)
+    c.both_texts-texts.ensures
+    (ap (λ (l : LayoutOf). l.body.elements) c.requires.laid)
     (c.deref-2.ensures.value ∙ c.in_ok-after.ensures.starts ∙ ap (λ (ks : List RowKey). record_starts state.lines ks c.deref.result.now) keys
     ∙ ap (record_starts state.lines (keys_in state)) (c.deref.ensures.value ∙ sym c.deref-3.ensures.value))
     (ap (λ (r : RecordsOf). r.round) c.records.view_is)

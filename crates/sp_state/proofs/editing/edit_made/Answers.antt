@@ -1,23 +1,21 @@
-use Rattle.std.proofs.Common.{◌≡◌, ℕ, List, length, ap, sym, subst, ◌∙◌}
+use Rattle.std.proofs.Common.{ℕ, List, ap, sym, subst, ◌∙◌}
 use Rattle.spec_text.specs.Edits.{Replacement, replacement_of}
 use Rattle.spec_text.specs.Ranges.{range_of}
 use Rattle.spec_state.specs.State.{State}
-use Rattle.spec_state.specs.Changes.{CanEdit, edited_state}
+use Rattle.spec_state.specs.Changes.{edited_state}
 use Rattle.spec_state.specs.Keeping.{state_of}
 use Rattle.spec_locked_pages.specs.Segments.{pages_of}
 use Rattle.spec_reflow.specs.Windows.{Exchange}
 use Rattle.sp_text.specs.Changing.{edit_of}
 use Rattle.sp_text.specs.Gap.{text_of}
 use Rattle.sp_layout.specs.LaidOut.{LayoutOf}
-use Rattle.sp_refill.specs.Edits.{IsOfEdit}
+use Rattle.sp_relay.specs.Kept.{CanSwap, laid_of, with_part}
 use Rattle.sp_reflow.specs.Updates.{CanPutBack, with_taken}
-use Rattle.sp_made.specs.Made.{LaidOf, MadeOf}
-use Rattle.sp_state.specs.Fills.{EditFills, EditFillsAtMost}
-use Rattle.sp_state.proofs.FillLaws.{IsExchangeOf, fills-edited, fills-within, none-filled}
-use Rattle.sp_state.proofs.RefilledLaws.{can-edit, left-by, stale-edited}
-use Rattle.sp_state.proofs.editing.edit_made.Given.{Over}
+use Rattle.sp_made.specs.Made.{laid_in}
+use Rattle.sp_state.specs.Fills.{EditFills, EditFillsAtMost, IsExchangeOf}
+use Rattle.sp_state.proofs.FillLaws.{fills-edited, fills-within, none-filled}
+use Rattle.sp_state.proofs.RefilledLaws.{can-edit, stale-edited}
 use Rattle.sp_state.proofs.editing.edit_made.Goals as goal
-use Rattle.sp_state.proofs.editing.edit_made.Goals.{In_ok-text}
 
 pub returns-in_err-text-clause-fills_at_most : goal.returns-in_err-text-clause-fills_at_most
 returns-in_err-text-clause-fills_at_most g c =
@@ -25,34 +23,14 @@ returns-in_err-text-clause-fills_at_most g c =
     let it : Replacement = replacement_of c.args.lines.now.lines (edit_of c.args.edit) in
     subst (λ (n : ℕ). EditFillsAtMost old it (g.S.Steps.fills c.args.steps.now) n) (sym c.edit_entry.ensures.fills) (none-filled old (edited_state old it) (range_of it) (g.S.Steps.fills c.args.steps.now))
 
--- The edit that was made.
-made : (g : Over) (c : In_ok-text g) → let old = state_of (text_of c.args.lines.now) c.args.records.now in
-    IsOfEdit old (replacement_of c.args.lines.now.lines (edit_of c.args.edit)) c.edit_entry.new.lines.lines c.edit_entry.new.stanzas.stanzas c.in_ok-text.text.stanzas c.before-2.inside.body.elements c.in_ok-text.laid.layout.body.elements
-made g c =
-    let old : State = state_of (text_of c.args.lines.now) c.args.records.now in
-    let new : State = state_of (text_of c.edit_entry.new.lines) c.edit_entry.new.records in
-    let it : Replacement = replacement_of c.args.lines.now.lines (edit_of c.args.edit) in
-    let ensures = c.in_ok-text.ensures in
-    let can : CanEdit old it = can-edit (text_of c.args.lines.now) c.args.records.now (edit_of c.args.edit) new ensures.refuses ensures.whole ensures.state in
-    left-by old it (text_of c.edit_entry.new.lines) c.edit_entry.new.records c.edit_entry.new.stanzas.stanzas c.in_ok-text.text.stanzas c.before-2.inside.body.elements c.in_ok-text.laid.layout.body.elements
-    c.requires.whole can ensures.state ensures.stanzas ensures.window (ap (λ (m : MadeOf). m.body) c.before-2.view_is ∙ c.requires.before.body) (ap (λ (l : LayoutOf). l.body.elements) ensures.laid.layout)
-
-pub edited_rows-rows-requires : goal.edited_rows-rows-requires
-edited_rows-rows-requires g c = record {
-  state = state_of (text_of c.args.lines.now) c.args.records.now;
-  it = replacement_of c.args.lines.now.lines (edit_of c.args.edit);
-  is = made g (goal.at.edited_rows-rows-requires g c).In_ok-text;
-}
-
 pub refilled-requires-clause-stale : goal.refilled-requires-clause-stale
 refilled-requires-clause-stale g c stops are =
     let old : State = state_of (text_of c.args.lines.now) c.args.records.now in
     let new : State = state_of (text_of c.edit_entry.new.lines) c.edit_entry.new.records in
     let it : Replacement = replacement_of c.args.lines.now.lines (edit_of c.args.edit) in
     let edit : Exchange = record { first = c.rows.inside.first; old = c.rows.inside.old; new = c.rows.inside.new } in
-    let edited = made g (goal.at.refilled-requires-clause-stale g c).In_ok-text in
-    let found : IsExchangeOf old it edit = record { is = λ a b window. c.rows.view_is ∙ c.edited_rows-rows.ensures old it a b edited window } in
-    stale-edited old new it edit c.args.pages.now.starts stops c.requires.whole edited.can c.in_ok-text.ensures.state c.requires.pages found are
+    let found : IsExchangeOf old it edit = subst (IsExchangeOf old it) (sym c.rows.view_is) c.in_ok-text.ensures.rows in
+    stale-edited old new it edit c.args.pages.now.starts stops c.requires.whole (can-edit (text_of c.args.lines.now) c.args.records.now (edit_of c.args.edit) new c.in_ok-text.ensures.refuses c.in_ok-text.ensures.whole c.in_ok-text.ensures.state) c.in_ok-text.ensures.state c.requires.pages found are
 
 pub returns-in-Ok-clause-fills : goal.returns-in-Ok-clause-fills
 returns-in-Ok-clause-fills g c =
@@ -60,8 +38,7 @@ returns-in-Ok-clause-fills g c =
     let new : State = state_of (text_of c.edit_entry.new.lines) c.edit_entry.new.records in
     let it : Replacement = replacement_of c.args.lines.now.lines (edit_of c.args.edit) in
     let edit : Exchange = record { first = c.rows.inside.first; old = c.rows.inside.old; new = c.rows.inside.new } in
-    let edited = made g (goal.at.returns-in-Ok-clause-fills g c).In_ok-text in
-    let found : IsExchangeOf old it edit = record { is = λ a b window. c.rows.view_is ∙ c.edited_rows-rows.ensures old it a b edited window } in
+    let found : IsExchangeOf old it edit = subst (IsExchangeOf old it) (sym c.rows.view_is) c.in_ok-text.ensures.rows in
     subst (λ (n : ℕ). EditFills old it n (g.S.Steps.fills c.refilled.new.steps)) c.edit_entry.ensures.fills
     (fills-edited old new it edit c.args.pages.now.starts (g.S.Steps.fills c.edit_entry.new.steps) (g.S.Steps.fills c.refilled.new.steps) c.in_ok-text.ensures.state c.requires.pages found c.in-Ok.ensures.fills)
 
@@ -71,8 +48,7 @@ returns-in-Ok-clause-fills_at_most g c =
     let new : State = state_of (text_of c.edit_entry.new.lines) c.edit_entry.new.records in
     let it : Replacement = replacement_of c.args.lines.now.lines (edit_of c.args.edit) in
     let edit : Exchange = record { first = c.rows.inside.first; old = c.rows.inside.old; new = c.rows.inside.new } in
-    let edited = made g (goal.at.returns-in-Ok-clause-fills_at_most g c).In_ok-text in
-    let found : IsExchangeOf old it edit = record { is = λ a b window. c.rows.view_is ∙ c.edited_rows-rows.ensures old it a b edited window } in
+    let found : IsExchangeOf old it edit = subst (IsExchangeOf old it) (sym c.rows.view_is) c.in_ok-text.ensures.rows in
     subst (λ (n : ℕ). EditFillsAtMost old it n (g.S.Steps.fills c.refilled.new.steps)) c.edit_entry.ensures.fills
     (fills-within old new it edit c.args.pages.now.starts (g.S.Steps.fills c.edit_entry.new.steps) (g.S.Steps.fills c.refilled.new.steps) c.in_ok-text.ensures.state c.requires.pages found c.refilled.ensures.at_most)
 
@@ -82,19 +58,24 @@ returns-in-Err-clause-fills_at_most g c =
     let new : State = state_of (text_of c.edit_entry.new.lines) c.edit_entry.new.records in
     let it : Replacement = replacement_of c.args.lines.now.lines (edit_of c.args.edit) in
     let edit : Exchange = record { first = c.rows.inside.first; old = c.rows.inside.old; new = c.rows.inside.new } in
-    let edited = made g (goal.at.returns-in-Err-clause-fills_at_most g c).In_ok-text in
-    let found : IsExchangeOf old it edit = record { is = λ a b window. c.rows.view_is ∙ c.edited_rows-rows.ensures old it a b edited window } in
+    let found : IsExchangeOf old it edit = subst (IsExchangeOf old it) (sym c.rows.view_is) c.in_ok-text.ensures.rows in
     subst (λ (n : ℕ). EditFillsAtMost old it n (g.S.Steps.fills c.refilled.new.steps)) c.edit_entry.ensures.fills
     (fills-within old new it edit c.args.pages.now.starts (g.S.Steps.fills c.edit_entry.new.steps) (g.S.Steps.fills c.refilled.new.steps) c.in_ok-text.ensures.state c.requires.pages found c.refilled.ensures.at_most)
 
 pub returns-in-Ok-clause-back : goal.returns-in-Ok-clause-back
 returns-in-Ok-clause-back g c =
     let swapped = c.in-Ok.swapped in
+    let part = c.in_ok-text.field-0.layout in
     let led = c.in_ok-text.ensures.back in
+    let laid = c.in_ok-text.ensures.laid in
     let starts = c.in-Ok.ensures.pages in
     record {
       can = record {
         text = led.can;
+        layout = record {
+          can = subst (λ (it : LayoutOf). CanSwap it part.places (laid_of part.kept)) laid c.in_ok-text.ensures.swaps;
+          are = ap (λ (it : LayoutOf). with_part it part.places (laid_of part.kept)) (sym laid) ∙ c.in_ok-text.ensures.layout_back ∙ c.requires.laid ∙ sym (ap laid_in led.back);
+        };
         pages = record {
           can = subst (λ (those : List ℕ). CanPutBack those swapped) starts c.in-Ok.ensures.can;
           are = ap (λ (those : List ℕ). with_taken those swapped) (sym starts) ∙ c.in-Ok.ensures.back ∙ c.requires.pages ∙ sym (ap pages_of led.back);

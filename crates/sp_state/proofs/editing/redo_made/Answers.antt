@@ -2,21 +2,30 @@ use Rattle.std.proofs.Common.{sym, subst}
 use Rattle.spec_state.specs.State.{State}
 use Rattle.spec_state.specs.Keeping.{state_of}
 use Rattle.sp_text.specs.Gap.{text_of}
-use Rattle.sp_state.specs.TextEntries.{TextEntryState, IsTextUndone}
-use Rattle.sp_state.specs.Entries.{EntryState, CanRedo, IsSameEntry}
+use Rattle.sp_relay.specs.Kept.{laid_of}
+use Rattle.sp_state.specs.TextEntries.{IsSameTextEntry, IsTextUndone}
+use Rattle.sp_state.specs.Entries.{EntryState, CanRedo}
+use Rattle.sp_state.proofs.EntryLaws.{redo-again}
 use Rattle.sp_state.proofs.TextEntryLaws.{redone-undone}
 use Rattle.sp_state.proofs.editing.redo_made.Goals as goal
 
-pub returns-in-Err-turned-clause-handed_back : goal.returns-in-Err-turned-clause-handed_back
-returns-in-Err-turned-clause-handed_back c =
+pub returns-in-Err-turn_made-clause-handed_back : goal.returns-in-Err-turn_made-clause-handed_back
+returns-in-Err-turn_made-clause-handed_back c =
     let state : State = state_of (text_of c.args.lines.now) c.args.records.now in
     let other = c.in-Ok.other in
     let back = c.undo_in_room-text.result in
-    let entry : EntryState = record { text = c.entry.inside.text; pages = c.entry.inside.pages } in
+    let entry : EntryState = record { text = c.entry.inside.text; layout = c.entry.inside.layout; pages = c.entry.inside.pages } in
     let can : CanRedo state entry = subst (CanRedo state) (sym c.entry.view_is) c.requires.can in
-    subst (IsSameEntry (record { text = back; pages = c.in-Err-turned.field-0.back })) c.entry.view_is
-    (record {
-      text = redone-undone state c.entry.inside.text other back can.text c.in-Ok.ensures.entry
-          (subst (λ (s : State). IsTextUndone s other back) c.in-Ok.ensures.state c.undo_in_room-text.ensures.entry);
-      pages = c.in-Err-turned.ensures.handed_back;
-    })
+    subst (λ (e : EntryState). IsSameTextEntry back e.text) c.entry.view_is
+    (redone-undone state c.entry.inside.text other back can.text c.in-Ok.ensures.entry (subst (λ (s : State). IsTextUndone s other back) c.in-Ok.ensures.state c.undo_in_room-text.ensures.entry))
+
+pub returns-in-Err-turn_made-clause-again : goal.returns-in-Err-turn_made-clause-again
+returns-in-Err-turn_made-clause-again c =
+    let state : State = state_of (text_of c.args.lines.now) c.args.records.now in
+    let other = c.in-Ok.other in
+    let back = c.undo_in_room-text.result in
+    let entry : EntryState = record { text = c.entry.inside.text; layout = c.entry.inside.layout; pages = c.entry.inside.pages } in
+    let can : CanRedo state entry = subst (CanRedo state) (sym c.entry.view_is) c.requires.can in
+    let same = redone-undone state c.entry.inside.text other back can.text c.in-Ok.ensures.entry (subst (λ (s : State). IsTextUndone s other back) c.in-Ok.ensures.state c.undo_in_room-text.ensures.entry) in
+    redo-again state (laid_of c.args.layout.now) (record { text = back; layout = c.in-Err-turn_made.field-0.layout; pages = c.in-Err-turn_made.field-0.pages }) entry c.requires.laid same
+    (record { can = c.in-Err-turn_made.ensures.again; same = c.in-Err-turn_made.ensures.leads_again }) c.in-Err-turn_made.ensures.handed_back can

@@ -7,8 +7,9 @@ use Rattle.spec_state.specs.StateSheets.{rows_in}
 use Rattle.spec_machine.proofs.RefusalLaws.{pages-none}
 use Rattle.sp_layout.specs.Bodies.{row_count}
 use Rattle.sp_text.specs.Gap.{text_of}
+use Rattle.sp_relay.specs.Kept.{KeptOf}
 use Rattle.sp_made.specs.Made.{MadeOf}
-use Rattle.sp_state.proofs.OpeningMade.{full-answer, made-AreSheets, made-within, none-map, pages-answer, rows-answer, some-map}
+use Rattle.sp_state.proofs.OpeningMade.{full-answer, full-pages, made-AreSheets, made-within, none-map, pages-answer, rows-answer, some-map}
 use Rattle.sp_state.proofs.locking.lock_pages_made.Goals as goal
 
 pub returns-then-rows-eq0-clause-opening : goal.returns-then-rows-eq0-clause-opening
@@ -26,7 +27,7 @@ returns-then-rows-eq0-clause-opening c =
     let scened : is_some kept.scenes ≡ true = sym (some-map (λ those. those.items) c.records.inside.scenes) ∙ c.is_none.ensures ∙ ap not c.if-is_none.false in
     let unlocked : kept.pages ≡ None = none-map (λ those. those.items) c.records.inside.pages (sym c.is_some.ensures ∙ c.if-is_some.false) in
     let count = c.rows.ensures in
-    let body = ap (λ (m : MadeOf). row_count m.body) c.made.view_is in
+    let body = ap (λ (k : KeptOf). row_count k.body.elements) c.layout.view_is ∙ ap (λ (m : MadeOf). row_count m.layout.body.elements) c.made.view_is in
     let rows = rows-answer text old it c.requires.made in
     let test = c.if-rows-eq0.true in
     let none : length (rows_in (state_of text old)) ≡ 0 = omega (arith, count, body, rows, test) in
@@ -47,9 +48,9 @@ returns-in_err-scenes-clause-opening c =
     let scened : is_some kept.scenes ≡ true = sym (some-map (λ those. those.items) c.records.inside.scenes) ∙ c.is_none.ensures ∙ ap not c.if-is_none.false in
     let unlocked : kept.pages ≡ None = none-map (λ those. those.items) c.records.inside.pages (sym c.is_some.ensures ∙ c.if-is_some.false) in
     let count = c.rows.ensures in
-    let body = ap (λ (m : MadeOf). row_count m.body) c.made.view_is in
+    let body = ap (λ (k : KeptOf). row_count k.body.elements) c.layout.view_is ∙ ap (λ (m : MadeOf). row_count m.layout.body.elements) c.made.view_is in
     let test = c.if-rows-eq0.false in
-    let some : 0 < row_count it.body = omega (arith, count, body, test) in
+    let some : 0 < row_count it.layout.body.elements = omega (arith, count, body, test) in
     let rows = rows-answer text old it c.requires.made in
     let more : 0 < length (rows_in (state_of text old)) = omega (arith, some, rows) in
     let reason = full-answer text kept old c.in_err-scenes.field-0.0 c.records.view_is scened unlocked more c.in_err-scenes.ensures.full in
@@ -61,6 +62,30 @@ first_pages-requires-clause-sheets c = made-AreSheets (state_of (text_of c.args.
 
 pub first_pages-requires-clause-within : goal.first_pages-requires-clause-within
 first_pages-requires-clause-within c = made-within (state_of (text_of c.args.lines.now) c.args.records.now) c.args.made.now c.requires.whole c.requires.made
+
+pub returns-in_err-pages-clause-opening : goal.returns-in_err-pages-clause-opening
+returns-in_err-pages-clause-opening c =
+    let text = text_of c.args.lines.now in
+    let old = c.args.records.now in
+    let it = c.args.made.now in
+    let kept : RecordsOf = record {
+      round = c.records.inside.round;
+      speakers = c.records.inside.speakers;
+      paper = c.records.inside.paper;
+      scenes = option_map (λ those. those.items) c.records.inside.scenes;
+      pages = option_map (λ those. those.items) c.records.inside.pages;
+    } in
+    let scened : is_some kept.scenes ≡ true = sym (some-map (λ those. those.items) c.records.inside.scenes) ∙ c.is_none.ensures ∙ ap not c.if-is_none.false in
+    let unlocked : kept.pages ≡ None = none-map (λ those. those.items) c.records.inside.pages (sym c.is_some.ensures ∙ c.if-is_some.false) in
+    let count = c.rows.ensures in
+    let body = ap (λ (k : KeptOf). row_count k.body.elements) c.layout.view_is ∙ ap (λ (m : MadeOf). row_count m.layout.body.elements) c.made.view_is in
+    let test = c.if-rows-eq0.false in
+    let some : 0 < row_count it.layout.body.elements = omega (arith, count, body, test) in
+    let rows = rows-answer text old it c.requires.made in
+    let more : 0 < length (rows_in (state_of text old)) = omega (arith, some, rows) in
+    let reason = full-pages text kept old it c.in_err-pages.field-0.0 c.records.view_is c.requires.made scened unlocked more c.in_err-pages.ensures in
+    let p = err_from_is_err_and c.from_residual-in_err-pages.result c.from_residual-in_err-pages.ensures.1 in
+    rw (p.1, p.2) (reason, refl)
 
 pub returns-clause-opening : goal.returns-clause-opening
 returns-clause-opening c =
@@ -77,9 +102,9 @@ returns-clause-opening c =
     let scened : is_some kept.scenes ≡ true = sym (some-map (λ those. those.items) c.records.inside.scenes) ∙ c.is_none.ensures ∙ ap not c.if-is_none.false in
     let unlocked : kept.pages ≡ None = none-map (λ those. those.items) c.records.inside.pages (sym c.is_some.ensures ∙ c.if-is_some.false) in
     let count = c.rows.ensures in
-    let body = ap (λ (m : MadeOf). row_count m.body) c.made.view_is in
+    let body = ap (λ (k : KeptOf). row_count k.body.elements) c.layout.view_is ∙ ap (λ (m : MadeOf). row_count m.layout.body.elements) c.made.view_is in
     let test = c.if-rows-eq0.false in
-    let some : 0 < row_count it.body = omega (arith, count, body, test) in
+    let some : 0 < row_count it.layout.body.elements = omega (arith, count, body, test) in
     let opened = pages-answer text kept old it (option_map (λ those. those.items) c.in_ok-scenes.scenes) c.in_ok-pages.pages.items c.records.view_is c.requires.whole c.requires.made scened unlocked some
     c.in_ok-scenes.ensures.records c.in_ok-scenes.ensures.few c.in_ok-pages.ensures.0 c.in_ok-pages.ensures.1 in
     (opened.free, opened.same)
@@ -99,9 +124,9 @@ returns-clause-whole c =
     let scened : is_some kept.scenes ≡ true = sym (some-map (λ those. those.items) c.records.inside.scenes) ∙ c.is_none.ensures ∙ ap not c.if-is_none.false in
     let unlocked : kept.pages ≡ None = none-map (λ those. those.items) c.records.inside.pages (sym c.is_some.ensures ∙ c.if-is_some.false) in
     let count = c.rows.ensures in
-    let body = ap (λ (m : MadeOf). row_count m.body) c.made.view_is in
+    let body = ap (λ (k : KeptOf). row_count k.body.elements) c.layout.view_is ∙ ap (λ (m : MadeOf). row_count m.layout.body.elements) c.made.view_is in
     let test = c.if-rows-eq0.false in
-    let some : 0 < row_count it.body = omega (arith, count, body, test) in
+    let some : 0 < row_count it.layout.body.elements = omega (arith, count, body, test) in
     let opened = pages-answer text kept old it (option_map (λ those. those.items) c.in_ok-scenes.scenes) c.in_ok-pages.pages.items c.records.view_is c.requires.whole c.requires.made scened unlocked some
     c.in_ok-scenes.ensures.records c.in_ok-scenes.ensures.few c.in_ok-pages.ensures.0 c.in_ok-pages.ensures.1 in
     opened.whole
@@ -121,9 +146,9 @@ returns-clause-made c =
     let scened : is_some kept.scenes ≡ true = sym (some-map (λ those. those.items) c.records.inside.scenes) ∙ c.is_none.ensures ∙ ap not c.if-is_none.false in
     let unlocked : kept.pages ≡ None = none-map (λ those. those.items) c.records.inside.pages (sym c.is_some.ensures ∙ c.if-is_some.false) in
     let count = c.rows.ensures in
-    let body = ap (λ (m : MadeOf). row_count m.body) c.made.view_is in
+    let body = ap (λ (k : KeptOf). row_count k.body.elements) c.layout.view_is ∙ ap (λ (m : MadeOf). row_count m.layout.body.elements) c.made.view_is in
     let test = c.if-rows-eq0.false in
-    let some : 0 < row_count it.body = omega (arith, count, body, test) in
+    let some : 0 < row_count it.layout.body.elements = omega (arith, count, body, test) in
     let opened = pages-answer text kept old it (option_map (λ those. those.items) c.in_ok-scenes.scenes) c.in_ok-pages.pages.items c.records.view_is c.requires.whole c.requires.made scened unlocked some
     c.in_ok-scenes.ensures.records c.in_ok-scenes.ensures.few c.in_ok-pages.ensures.0 c.in_ok-pages.ensures.1 in
     opened.made

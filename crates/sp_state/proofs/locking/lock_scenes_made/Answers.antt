@@ -4,7 +4,8 @@ use Rattle.spec_labels.specs.Scenes.{AreHeadings, locked_labels, locked_records}
 use Rattle.spec_records.specs.Kept.{RecordsOf}
 use Rattle.spec_state.specs.Headings.{headings_of}
 use Rattle.sp_text.specs.Gap.{text_of}
-use Rattle.sp_made.specs.Made.{MadeOf}
+use Rattle.sp_relay.specs.Kept.{laid_of}
+use Rattle.sp_made.specs.Made.{MadeOf, NumberedOf}
 use Rattle.sp_state.proofs.OpeningMade.{headings-can, lines-headings, scenes-answer, some-map}
 use Rattle.sp_state.proofs.locking.lock_scenes_made.Goals as goal
 
@@ -22,17 +23,16 @@ returns-clause-whole c =
       scenes = option_map (λ those. those.items) c.records.inside.scenes;
       pages = option_map (λ those. those.items) c.records.inside.pages;
     } in
-    let it : MadeOf = record {
-      titles = c.made.inside.titles.elements;
-      body = c.made.inside.body.elements;
-      keys = c.made.inside.body.keys;
-      labels = option_map (λ those. those.items) c.made.inside.labels;
-      title_starts = c.made.inside.title_pages.starts;
-      sheets = c.made.inside.sheets.items;
+    let numbered : NumberedOf = record {
+      labels = option_map (λ those. those.items) c.numbered.inside.labels;
+      title_starts = c.numbered.inside.title_pages.starts;
+      sheets = c.numbered.inside.sheets.items;
     } in
+    let it : MadeOf = record { layout = laid_of c.made.inside.layout; numbered = numbered } in
+    let same = ap (λ (n : NumberedOf). let those : MadeOf = record { layout = laid_of c.made.inside.layout; numbered = n } in those) c.numbered.view_is ∙ c.made.view_is in
     let headings : c.deref.result.now ≡ headings_of c.args.lines.now.lines = c.deref.ensures.value ∙ c.in_ok-headings.ensures in
     let locked = some-map (λ those. those.items) c.records.inside.scenes ∙ ap (λ (r : RecordsOf). is_some r.scenes) c.records.view_is in
-    (scenes-answer text kept c.args.records.now it c.args.made.now c.in_ok-scenes.scenes.items c.in_ok-scenes.labels.items c.records.view_is c.made.view_is c.requires.whole c.requires.made
+    (scenes-answer text kept c.args.records.now it c.args.made.now c.in_ok-scenes.scenes.items c.in_ok-scenes.labels.items c.records.view_is same c.requires.whole c.requires.made
     (headings-can text c.args.records.now (is_some c.records.inside.scenes) c.deref.result.now locked headings c.in_ok-scenes.ensures.can)
     (c.in_ok-scenes.ensures.records ∙ ap locked_records headings) (c.in_ok-scenes.ensures.labels ∙ ap (locked_labels c.in_ok-scenes.scenes.items) headings)).whole
 
@@ -46,16 +46,15 @@ returns-clause-made c =
       scenes = option_map (λ those. those.items) c.records.inside.scenes;
       pages = option_map (λ those. those.items) c.records.inside.pages;
     } in
-    let it : MadeOf = record {
-      titles = c.made.inside.titles.elements;
-      body = c.made.inside.body.elements;
-      keys = c.made.inside.body.keys;
-      labels = option_map (λ those. those.items) c.made.inside.labels;
-      title_starts = c.made.inside.title_pages.starts;
-      sheets = c.made.inside.sheets.items;
+    let numbered : NumberedOf = record {
+      labels = option_map (λ those. those.items) c.numbered.inside.labels;
+      title_starts = c.numbered.inside.title_pages.starts;
+      sheets = c.numbered.inside.sheets.items;
     } in
+    let it : MadeOf = record { layout = laid_of c.made.inside.layout; numbered = numbered } in
+    let same = ap (λ (n : NumberedOf). let those : MadeOf = record { layout = laid_of c.made.inside.layout; numbered = n } in those) c.numbered.view_is ∙ c.made.view_is in
     let headings : c.deref.result.now ≡ headings_of c.args.lines.now.lines = c.deref.ensures.value ∙ c.in_ok-headings.ensures in
     let locked = some-map (λ those. those.items) c.records.inside.scenes ∙ ap (λ (r : RecordsOf). is_some r.scenes) c.records.view_is in
-    (scenes-answer text kept c.args.records.now it c.args.made.now c.in_ok-scenes.scenes.items c.in_ok-scenes.labels.items c.records.view_is c.made.view_is c.requires.whole c.requires.made
+    (scenes-answer text kept c.args.records.now it c.args.made.now c.in_ok-scenes.scenes.items c.in_ok-scenes.labels.items c.records.view_is same c.requires.whole c.requires.made
     (headings-can text c.args.records.now (is_some c.records.inside.scenes) c.deref.result.now locked headings c.in_ok-scenes.ensures.can)
     (c.in_ok-scenes.ensures.records ∙ ap locked_records headings) (c.in_ok-scenes.ensures.labels ∙ ap (locked_labels c.in_ok-scenes.scenes.items) headings)).made

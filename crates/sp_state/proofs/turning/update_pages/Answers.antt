@@ -1,5 +1,5 @@
-use Rattle.std.proofs.Common.{◌≡◌, ℕ, List, length, map, ap, sym, subst, ◌∙◌}
-use Rattle.std.specs.Prelude.{OnOk, OnErr}
+use Rattle.std.proofs.Common.{◌≡◌, length, map, ap, sym, subst, ◌∙◌}
+use Rattle.std.specs.Prelude.{OnOk}
 use Rattle.spec_pages.specs.Pages.{page_starts, rows_on}
 use Rattle.spec_layout.specs.Shown.{shape_of}
 use Rattle.spec_records.specs.Kept.{RecordsOf}
@@ -13,7 +13,7 @@ use Rattle.sp_layout.specs.Bodies.{shapes_in}
 use Rattle.sp_layout.specs.LaidOut.{LayoutOf}
 use Rattle.sp_reflow.specs.Starts.{many_more}
 use Rattle.sp_reflow.specs.Filling.{FilledAtMost}
-use Rattle.sp_made.specs.Made.{LaidOf}
+use Rattle.sp_relay.specs.Kept.{laid_of}
 use Rattle.sp_made.proofs.MadeLaws.{same-shapes}
 use Rattle.sp_made.proofs.StopsMade.{filled-most, starts-of}
 use Rattle.sp_state.proofs.RefilledLaws.{stale-same, window-same}
@@ -23,7 +23,7 @@ pub update-requires-clause-stale : goal.update-requires-clause-stale
 update-requires-clause-stale g c =
     let state : State = state_of (text_of c.args.lines.now) c.args.records.now in
     let edit : Exchange = record { first = c.args.first; old = c.args.old; new = c.args.new } in
-    let laid = c.layout.view_is ∙ ap (λ (l : LaidOf). l.layout) c.laid.view_is ∙ c.requires.laid.layout in
+    let laid = ap laid_of c.layout.view_is ∙ c.requires.laid in
     let shapes : c.shapes.result.now ≡ map shape_of (rows_in state) = c.shapes.ensures ∙ ap (λ (l : LayoutOf). shapes_in l.body.elements) laid ∙ sym (same-shapes state) in
     let body = c.rows_on.ensures ∙ ap (λ (r : RecordsOf). rows_on r.paper) c.records.view_is in
     stale-same edit _ (rows_on state.paper) c.rows_on.result (map shape_of (rows_in state)) c.shapes.result.now c.in_ok-stops.stops.items c.deref.result.now body shapes c.deref.ensures.value
@@ -32,7 +32,7 @@ update-requires-clause-stale g c =
 pub returns-clause-pages : goal.returns-clause-pages
 returns-clause-pages g c =
     let state : State = state_of (text_of c.args.lines.now) c.args.records.now in
-    let laid = c.layout.view_is ∙ ap (λ (l : LaidOf). l.layout) c.laid.view_is ∙ c.requires.laid.layout in
+    let laid = ap laid_of c.layout.view_is ∙ c.requires.laid in
     let shapes : c.shapes.result.now ≡ map shape_of (rows_in state) = c.shapes.ensures ∙ ap (λ (l : LayoutOf). shapes_in l.body.elements) laid ∙ sym (same-shapes state) in
     let body = c.rows_on.ensures ∙ ap (λ (r : RecordsOf). rows_on r.paper) c.records.view_is in
     subst (λ ps. OnOk c.update.result (c.update.new.self.starts ≡ ps))
@@ -42,7 +42,7 @@ pub returns-clause-fills : goal.returns-clause-fills
 returns-clause-fills g c =
     let state : State = state_of (text_of c.args.lines.now) c.args.records.now in
     let edit : Exchange = record { first = c.args.first; old = c.args.old; new = c.args.new } in
-    let laid = c.layout.view_is ∙ ap (λ (l : LaidOf). l.layout) c.laid.view_is ∙ c.requires.laid.layout in
+    let laid = ap laid_of c.layout.view_is ∙ c.requires.laid in
     let shapes : c.shapes.result.now ≡ map shape_of (rows_in state) = c.shapes.ensures ∙ ap (λ (l : LayoutOf). shapes_in l.body.elements) laid ∙ sym (same-shapes state) in
     let body = c.rows_on.ensures ∙ ap (λ (r : RecordsOf). rows_on r.paper) c.records.view_is in
     subst (λ ps. OnOk c.update.result (g.S.Steps.fills c.update.new.steps ≡ many_more (g.S.Steps.fills c.args.steps.now) (length ps)))
@@ -53,7 +53,7 @@ pub returns-clause-at_most : goal.returns-clause-at_most
 returns-clause-at_most g c =
     let state : State = state_of (text_of c.args.lines.now) c.args.records.now in
     let edit : Exchange = record { first = c.args.first; old = c.args.old; new = c.args.new } in
-    let laid = c.layout.view_is ∙ ap (λ (l : LaidOf). l.layout) c.laid.view_is ∙ c.requires.laid.layout in
+    let laid = ap laid_of c.layout.view_is ∙ c.requires.laid in
     let shapes : c.shapes.result.now ≡ map shape_of (rows_in state) = c.shapes.ensures ∙ ap (λ (l : LayoutOf). shapes_in l.body.elements) laid ∙ sym (same-shapes state) in
     let body = c.rows_on.ensures ∙ ap (λ (r : RecordsOf). rows_on r.paper) c.records.view_is in
     let made = page_starts c.rows_on.result c.shapes.result.now c.deref.result.now in

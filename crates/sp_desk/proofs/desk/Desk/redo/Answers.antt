@@ -7,7 +7,7 @@ use Rattle.sp_state.specs.Entries.{EntryState, redone_state, CanRedo}
 use Rattle.sp_desk.specs.Memories.{memory_by}
 use Rattle.sp_desk.specs.Answers.{step_to}
 use Rattle.sp_desk.proofs.DeskSteps.{IsStep, IsSameDesk, CanTurn, can-redo, redone-step, redo-back}
-use Rattle.sp_state.proofs.EntryLaws.{same-redone_state, same-undone_range, same-CanRedo}
+use Rattle.sp_state.proofs.EntryLaws.{same-redone_state, same-undone_range}
 use Rattle.sp_desk.proofs.desk.Desk.redo.Goals as goal
 
 can : (c : goal.After-redo-arg-1) → CanTurn CanRedo redone_state c.self.inside.script c.in-Some.entry
@@ -47,7 +47,7 @@ back c =
     let turn = can-redo c.self.inside.script c.self.inside.journal.done c.self.inside.journal.undone c.take_undone.new.self.undone c.in-Some.entry c.self.invariant last in
     let same = c.in-Err.ensures.handed_back in
     redo-back c.self.inside.script c.redo.new.self c.self.inside.journal.done c.self.inside.journal.undone c.take_undone.new.self.undone c.keep_undone.new.self.done c.keep_undone.new.self.undone c.in-Some.entry c.in-Err.field-0.back
-    c.self.invariant last c.in-Err.ensures.same (same-CanRedo c.self.inside.script c.in-Err.field-0.back c.in-Some.entry same turn.can) (same-redone_state c.self.inside.script c.in-Err.field-0.back c.in-Some.entry same) (same-undone_range c.in-Err.field-0.back c.in-Some.entry same)
+    c.self.invariant last c.in-Err.ensures.same c.in-Err.ensures.again (same-redone_state c.self.inside.script c.in-Err.field-0.back c.in-Some.entry same) (same-undone_range c.in-Err.field-0.back c.in-Some.entry same)
     (ap (λ (j : Entries EntryState). j.undone) c.keep_undone.ensures)
     (ap (λ (j : Entries EntryState). j.done) c.keep_undone.ensures ∙ done)
 

@@ -7,7 +7,7 @@ use Rattle.sp_state.specs.Entries.{EntryState, undone_state, CanUndo}
 use Rattle.sp_desk.specs.Memories.{memory_by}
 use Rattle.sp_desk.specs.Answers.{step_to}
 use Rattle.sp_desk.proofs.DeskSteps.{IsStep, IsSameDesk, CanTurn, can-undo, undone-step, undo-back}
-use Rattle.sp_state.proofs.EntryLaws.{same-undone_state, same-done_range, same-CanUndo}
+use Rattle.sp_state.proofs.EntryLaws.{same-undone_state, same-done_range}
 use Rattle.sp_desk.proofs.desk.Desk.undo.Goals as goal
 
 can : (c : goal.After-undo-arg-1) → CanTurn CanUndo undone_state c.self.inside.script c.in-Some.entry
@@ -47,7 +47,7 @@ back c =
     let turn = can-undo c.self.inside.script c.self.inside.journal.done c.self.inside.journal.undone c.take_done.new.self.done c.in-Some.entry c.self.invariant last in
     let same = c.in-Err.ensures.handed_back in
     undo-back c.self.inside.script c.undo.new.self c.self.inside.journal.done c.self.inside.journal.undone c.take_done.new.self.done c.keep_done.new.self.done c.keep_done.new.self.undone c.in-Some.entry c.in-Err.field-0.back
-    c.self.invariant last c.in-Err.ensures.same (same-CanUndo c.self.inside.script c.in-Err.field-0.back c.in-Some.entry same turn.can) (same-undone_state c.self.inside.script c.in-Err.field-0.back c.in-Some.entry same) (same-done_range c.in-Err.field-0.back c.in-Some.entry same)
+    c.self.invariant last c.in-Err.ensures.same c.in-Err.ensures.again (same-undone_state c.self.inside.script c.in-Err.field-0.back c.in-Some.entry same) (same-done_range c.in-Err.field-0.back c.in-Some.entry same)
     (ap (λ (j : Entries EntryState). j.done) c.keep_done.ensures)
     (ap (λ (j : Entries EntryState). j.undone) c.keep_done.ensures ∙ undone)
 

@@ -6,12 +6,13 @@ use Rattle.spec_state.specs.StateSheets.{rows_in}
 use Rattle.sp_text.specs.Gap.{text_of}
 use Rattle.sp_layout.specs.Bodies.{shapes_in}
 use Rattle.sp_made.proofs.MadeLaws.{same-shapes}
+use Rattle.sp_made.proofs.SheetPlaces.{body-made}
 use Rattle.sp_state.proofs.script.Script.shapes.Goals as goal
 
 pub returns : goal.returns
 returns c =
     let state : State = state_of (text_of c.self.inside.lines) c.self.inside.records in
     c.body_shapes.ensures
-    ∙ ap shapes_in c.self.invariant.1.body
+    ∙ ap shapes_in (body-made state c.self.inside.made c.self.invariant.1)
     ∙ sym (same-shapes state)
     ∙ ap (λ (it : State). map shape_of (rows_in it)) c.self.view_is

@@ -35,7 +35,7 @@ returns-clause-some c =
     let made = c.self.inside.made in
     let count = c.title_count-count.ensures in
     let high = c.if-i-count.false in
-    let place : c.args.i - length made.title_starts ≡ c.args.i - c.title_count-count.result = ap (λ n. c.args.i - n) (sym count) in
+    let place : c.args.i - length made.numbered.title_starts ≡ c.args.i - c.title_count-count.result = ap (λ n. c.args.i - n) (sym count) in
     made-found state c.args.self.now made c.args.i (c.args.i - c.title_count-count.result) c.made_sheet.result c.self.view_is c.self.invariant.1 (omega (arith, high, count)) place c.made_sheet.ensures.some
 
 pub returns-clause-none : goal.returns-clause-none

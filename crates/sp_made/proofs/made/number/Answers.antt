@@ -8,23 +8,19 @@ use Rattle.spec_records.specs.Kept.{RecordsOf}
 use Rattle.spec_state.specs.State.{State}
 use Rattle.spec_state.specs.Keeping.{state_of}
 use Rattle.spec_state.specs.StateSheets.{layout_in}
-use Rattle.spec_state.proofs.StateKeys.{state-row_keys}
 use Rattle.sp_text.specs.Gap.{text_of}
 use Rattle.sp_layout.specs.Bodies.{shapes_in}
 use Rattle.sp_layout.specs.LaidOut.{LayoutOf}
-use Rattle.sp_made.specs.Made.{LaidOf}
-use Rattle.sp_made.proofs.made.make_of.Goals as goal
+use Rattle.sp_relay.specs.Kept.{laid_of}
+use Rattle.sp_made.proofs.made.number.Goals as goal
 
 pub returns : goal.returns
 returns c =
     let state : State = state_of (text_of c.args.lines.now) c.args.records.now in
-    let laid = c.layout.view_is ∙ ap (λ (l : LaidOf). l.layout) c.laid.view_is ∙ c.requires.laid.layout in
+    let laid = ap laid_of c.layout.view_is ∙ c.requires.laid in
     let titles : c.layout.inside.titles.elements ≡ (layout_in state).titles = ap (λ (l : LayoutOf). l.titles.elements) laid in
     record {
-      titles = titles;
-      body = ap (λ (l : LayoutOf). l.body.elements) laid;
-      keys = ap (λ (l : LayoutOf). l.body.keys) laid ∙ sym (state-row_keys state);
-      labels = ap (λ (l : LaidOf). l.labels) c.laid.view_is ∙ c.requires.laid.labels;
+      labels = c.in_ok-labels.ensures;
       title_starts = c.in_ok-title_pages.ensures
           ∙ ap (λ (paper : Paper). page_starts (rows_on paper) (shapes_in c.layout.inside.titles.elements) []) (ap (λ (records : RecordsOf). records.paper) c.records.view_is)
           ∙ ap (λ (elements : List ElementOf). page_starts (rows_on state.paper) (shapes_in elements) []) titles

@@ -1,0 +1,82 @@
+use Rattle.std.proofs.Common.{List, ap, sym, subst, ◌∙◌}
+use Rattle.spec_text.specs.Edits.{restored}
+use Rattle.spec_pages.specs.Rows.{ElementOf}
+use Rattle.spec_records.specs.Kept.{RecordsOf}
+use Rattle.spec_state.specs.State.{State}
+use Rattle.spec_state.specs.Keeping.{state_of}
+use Rattle.spec_layout.specs.Layout.{layout_of}
+use Rattle.sp_text.specs.DisplacedLines.{displaced_of}
+use Rattle.sp_text.specs.Gap.{text_of}
+use Rattle.sp_layout.specs.LaidOut.{LayoutOf, keyed}
+use Rattle.sp_relay.specs.Edited.{WasLaidOf}
+use Rattle.sp_relay.specs.Kept.{laid_of}
+use Rattle.sp_refill.specs.Edits.{AreAhead}
+use Rattle.sp_made.specs.Made.{IsLaidOf}
+use Rattle.sp_state.specs.Raised.{state_before}
+use Rattle.sp_state.proofs.RelaidLaws.{body-now}
+use Rattle.sp_state.proofs.relaying.relay_and_raise.Goals as goal
+
+pub rows_ahead-ahead-requires : goal.rows_ahead-ahead-requires
+rows_ahead-ahead-requires c =
+    let before : State = state_before (text_of c.args.lines.now) (displaced_of c.args.displaced.now) c.args.records.now in
+    let laid = ap laid_of c.layout.view_is ∙ c.requires.was.was in
+    record {
+      state = before;
+      it = c.requires.edit.it;
+      is = c.requires.edit.is;
+      olds_are = ap (λ (l : LayoutOf). l.body.elements) laid;
+    }
+
+pub relay_edit-requires-clause-was : goal.relay_edit-requires-clause-was
+relay_edit-requires-clause-was c = record {
+  before = restored (text_of c.args.lines.now) (displaced_of c.args.displaced.now);
+  of = subst (λ (r : RecordsOf). WasLaidOf (restored (text_of c.args.lines.now) (displaced_of c.args.displaced.now)) c.args.lines.now.lines c.args.stanzas.now.stanzas c.args.swapped.now r.speakers (laid_of c.args.layout.now)) (sym c.records.view_is) c.requires.was;
+}
+
+pub carry_and_raise-requires-clause-laid : goal.carry_and_raise-requires-clause-laid
+carry_and_raise-requires-clause-laid c =
+    c.in_ok-part.ensures.layout ∙ ap (λ (r : RecordsOf). keyed c.args.lines.now.lines (layout_of r.speakers c.args.lines.now.lines)) c.records.view_is
+
+pub carry_and_raise-requires-clause-was : goal.carry_and_raise-requires-clause-was
+carry_and_raise-requires-clause-was c = c.in_ok-part.ensures.back ∙ c.requires.was.was
+
+pub carry_and_raise-requires-clause-outside : goal.carry_and_raise-requires-clause-outside
+carry_and_raise-requires-clause-outside c =
+    c.in_ok-part.ensures.outside (restored (text_of c.args.lines.now) (displaced_of c.args.displaced.now))
+    (subst (λ (r : RecordsOf). WasLaidOf (restored (text_of c.args.lines.now) (displaced_of c.args.displaced.now)) c.args.lines.now.lines c.args.stanzas.now.stanzas c.args.swapped.now r.speakers (laid_of c.args.layout.now)) (sym c.records.view_is) c.requires.was)
+
+pub exchanged_rows-rows-requires : goal.exchanged_rows-rows-requires
+exchanged_rows-rows-requires c =
+    let text = text_of c.args.lines.now in
+    let back = displaced_of c.args.displaced.now in
+    let before : State = state_before text back c.args.records.now in
+    let edit = c.requires.edit in
+    let was = ap (λ (l : LayoutOf). l.body.elements) (ap laid_of c.layout.view_is ∙ c.requires.was.was) in
+    let laid = ap laid_of c.layout-2.view_is ∙ c.in_ok-part.ensures.layout ∙ ap (λ (r : RecordsOf). keyed c.args.lines.now.lines (layout_of r.speakers c.args.lines.now.lines)) c.records.view_is in
+    record {
+      edit = record {
+        state = before;
+        it = edit.it;
+        is = edit.is;
+        ahead = subst (λ (es : List ElementOf). AreAhead c.args.stanzas.now.stanzas c.args.swapped.now es c.rows_ahead-ahead.result) was c.rows_ahead-ahead.ensures;
+        news_are = body-now text back c.args.records.now edit.it c.args.stanzas.now.stanzas c.args.swapped.now _ edit.is laid;
+      };
+    }
+
+pub returns-in-Ok-clause-rows : goal.returns-in-Ok-clause-rows
+returns-in-Ok-clause-rows c = λ it edit.
+    let text = text_of c.args.lines.now in
+    let back = displaced_of c.args.displaced.now in
+    let before : State = state_before text back c.args.records.now in
+    let was = ap (λ (l : LayoutOf). l.body.elements) (ap laid_of c.layout.view_is ∙ c.requires.was.was) in
+    let laid = ap laid_of c.layout-2.view_is ∙ c.in_ok-part.ensures.layout ∙ ap (λ (r : RecordsOf). keyed c.args.lines.now.lines (layout_of r.speakers c.args.lines.now.lines)) c.records.view_is in
+    record {
+      is = λ a b window. c.exchanged_rows-rows.ensures.found before it a b edit
+          (subst (λ (es : List ElementOf). AreAhead c.args.stanzas.now.stanzas c.args.swapped.now es c.rows_ahead-ahead.result) was c.rows_ahead-ahead.ensures)
+          (body-now text back c.args.records.now it c.args.stanzas.now.stanzas c.args.swapped.now _ edit laid) window;
+    }
+
+pub returns-in-Ok-clause-laid : goal.returns-in-Ok-clause-laid
+returns-in-Ok-clause-laid c =
+    subst (λ (r : RecordsOf). IsLaidOf (state_of (text_of c.args.lines.now) r) (laid_of c.relay_edit.new.kept)) (sym c.in-Ok.ensures.records)
+    (c.in_ok-part.ensures.layout ∙ ap (λ (r : RecordsOf). keyed c.args.lines.now.lines (layout_of r.speakers c.args.lines.now.lines)) c.records.view_is)

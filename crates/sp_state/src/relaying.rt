@@ -1,0 +1,86 @@
+//! A layout in an edit: the part that the edit changes is laid out anew, and page records are carried and raised by it.
+ghost use Rattle.std.specs.Prelude.{◌≡◌, ◌+◌, ◌≤◌, length, IfOk, OnOk, OnErr};
+ghost use Rattle.spec_text.specs.Edits.{Replacement, restored};
+ghost use Rattle.spec_state.specs.Keeping.{IsWhole, state_of};
+ghost use Rattle.spec_state.specs.StateSheets.{keys_in};
+ghost use Rattle.sp_text.specs.DisplacedLines.{displaced_of};
+ghost use Rattle.sp_text.specs.Gap.{text_of};
+ghost use Rattle.sp_exchange.specs.Restoring.{text_stanzas};
+ghost use Rattle.sp_relay.specs.Edited.{WasLaidOf};
+ghost use Rattle.sp_relay.specs.Kept.{CanSwap, HasPartRoom, laid_of, with_part};
+ghost use Rattle.sp_refill.specs.Edits.{IsOfEdit};
+ghost use Rattle.sp_made.specs.Made.{IsLaidOf, key_starts};
+ghost use Rattle.sp_state.specs.Fills.{IsExchangeOf};
+ghost use Rattle.sp_state.specs.Raised.{AreCarried, FitPages, put_back_in, records_carried, records_raised, state_before};
+ghost use Rattle.sp_state.specs.Relaid.{IsSomeEditOf};
+
+use crate::carrying::{Carried, carry_and_raise};
+use crate::turning::swap_in_room;
+use sp_records::Records;
+use sp_refill::{ExchangedRows, exchanged_rows, rows_ahead};
+use sp_relay::{KeptLayout, LayoutPart, relay_edit};
+use sp_reread::{Stanzas, Swapped};
+use sp_text::{Displaced, Lines};
+use spec_labels::Moved;
+use std::alloc::{AllocError, Global};
+
+/// What an edit displaced of a layout and of page records, and the rows that it exchanged.
+#[derive(Drop)]
+pub(crate) struct Relaid {
+    pub part: LayoutPart,
+    pub moved: Vec<Moved>,
+    pub raised: Vec<Moved>,
+    pub rows: ExchangedRows,
+}
+
+/// Lays out the part that an edit changed, carries page records, and gives those the round whose rows differ. `before` are
+/// the first rows that the page records had.
+pub(crate) fn relay_and_raise(
+    alloc: Global,
+    lines: &Lines,
+    stanzas: &Stanzas,
+    displaced: &Displaced,
+    swapped: &Swapped,
+    records: &mut Records,
+    before: &[usize],
+    layout: &mut KeptLayout,
+) -> Result<Relaid, AllocError>
+    requires stanzas { stanzas.now.stanzas ≡ text_stanzas (text_of lines.now) }
+    requires place { displaced.now.first + displaced.now.stands ≤ length lines.now.lines }
+    requires whole { IsWhole (state_before (text_of lines.now) (displaced_of displaced.now) records.old) }
+    requires carried { IsWhole (state_of (text_of lines.now) (records_carried (text_of lines.now) (displaced_of displaced.now) records.old)) }
+    requires can { AreCarried lines.now.lines displaced.now.lines records.old }
+    requires was { WasLaidOf (restored (text_of lines.now) (displaced_of displaced.now)) lines.now.lines stanzas.now.stanzas swapped.now (records.old).speakers (laid_of layout.old) }
+    requires edit { IsSomeEditOf (state_before (text_of lines.now) (displaced_of displaced.now) records.old) lines.now.lines stanzas.now.stanzas swapped.now }
+    requires before { before.now ≡ key_starts (restored (text_of lines.now) (displaced_of displaced.now)).lines (keys_in (state_before (text_of lines.now) (displaced_of displaced.now) records.old)) records.old.pages }
+    ensures laid { OnOk result (IsLaidOf (state_of (text_of lines.now) records.new) (laid_of layout.new)) }
+    ensures part { IfOk result (λ it. with_part (laid_of layout.new) it.part.places (laid_of it.part.kept) ≡ laid_of layout.old) }
+    ensures swaps { IfOk result (λ it. CanSwap (laid_of layout.new) it.part.places (laid_of it.part.kept)) }
+    ensures room { IfOk result (λ it. HasPartRoom layout.new it.part.places it.part.kept) }
+    ensures rows { (edit : Replacement) → IsOfEdit (state_before (text_of lines.now) (displaced_of displaced.now) records.old) edit lines.now.lines stanzas.now.stanzas swapped.now → IfOk result (λ it. IsExchangeOf (state_before (text_of lines.now) (displaced_of displaced.now) records.old) edit it.rows) }
+    ensures records { OnOk result (records.new ≡ records_raised (text_of lines.now) (displaced_of displaced.now) records.old) }
+    ensures raised { IfOk result (λ it. FitPages records.new it.raised.items) }
+    ensures moved { IfOk result (λ it. FitPages (put_back_in it.raised.items records.new) it.moved.items) }
+    ensures back { IfOk result (λ it. put_back_in it.moved.items (put_back_in it.raised.items records.new) ≡ records.old) }
+    ensures same { OnErr result (records.new ≡ records.old) }
+    ensures same_layout { OnErr result (laid_of layout.new ≡ laid_of layout.old) }
+{
+    let _count = lines.len();
+    let ahead = rows_ahead(lines, stanzas, swapped, &layout.body);
+    let part = relay_edit(alloc, lines, stanzas, swapped, records.speakers, layout)?;
+    match carry_and_raise(alloc, lines, displaced, records, before, layout, &part) {
+        Ok(Carried { moved, raised }) => {
+            let rows = exchanged_rows(&ahead, lines, stanzas, swapped, &layout.body);
+            Ok(Relaid {
+                part,
+                moved,
+                raised,
+                rows,
+            })
+        }
+        Err(error) => {
+            let _other = swap_in_room(layout, part);
+            Err(error)
+        }
+    }
+}
