@@ -193,7 +193,7 @@ went_looks desk desk' version changes did undid seat keeps step few =
     (own_looks desk desk' did undid keeps.own step)
 
 -- What isn't an edit at a place is asked as it is.
-same-command : (command : CommandOf) (kind : Kind) → ((range : RangeOf) → kind ≡ edits range → ⊥) → command_at command kind ≡ command
+pub same-command : (command : CommandOf) (kind : Kind) → ((range : RangeOf) → kind ≡ edits range → ⊥) → command_at command kind ≡ command
 same-command (edit it) (edits range) none = absurd (none range refl)
 same-command (edit it) undoes none = refl
 same-command (edit it) redoes none = refl

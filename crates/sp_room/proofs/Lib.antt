@@ -1,3 +1,4 @@
 pub mod OwnerLaws
 pub mod Walks
 pub mod Answering
+pub mod Counting

@@ -9,6 +9,7 @@ ghost use Rattle.sp_text.specs.Changing.{edit_of};
 ghost use Rattle.sp_wire.specs.Values.{command_of, reply_of};
 ghost use Rattle.sp_room.specs.Asking.{MakesNoChange};
 ghost use Rattle.sp_room.specs.Answers.{line_of, IsRoomAnswer};
+ghost use Rattle.sp_room.specs.Counts.{RoomReads, RoomFills};
 
 use crate::ask::ask;
 use crate::change::{Change, edit_change, is_forgetting, moved_to, turned};
@@ -79,8 +80,9 @@ impl Room {
 
     /// Does what a seat asks. An edit names the version `seen` of the text that its seat saw, and is taken at the place where the lines that
     /// it names stand now; other commands leave `seen` unread. A refusal is the first in order, the room's own or the desk's for the command
-    /// at its place, and never `Reply::Refused`; NoMemory may come in place of any answer. Both leave the room as it was. The version has to
-    /// be one below the greatest 64-bit number or less.
+    /// at its place, and never `Reply::Refused`; NoMemory may come in place of any answer. Both leave the room as it was. It reads stanzas and
+    /// fills pages as its desk does for the command at its place, and none where it refuses the command itself. The version has to be one
+    /// below the greatest 64-bit number or less.
     pub fn apply<S: Steps>(
         &mut self,
         seat: &str,
@@ -92,6 +94,8 @@ impl Room {
         ensures step { IsRoomAnswer self.old (line_of seat.now seen (command_of command)) self.new result }
         ensures unrefused { IfOk result (λ reply. is_refused (reply_of reply) ≡ false) }
         ensures same { OnErr result (self.new ≡ self.old) }
+        ensures reads { RoomReads self.old (line_of seat.now seen (command_of command)) result (S.reads steps.old) (S.reads steps.new) }
+        ensures fills { RoomFills self.old (line_of seat.now seen (command_of command)) result (S.fills steps.old) (S.fills steps.new) }
 
         // An edit takes away or changes just the lines that its seat saw.
         ensures seen { (texts : List Text) → StandsFor self.old texts → OnOk result (KeepsSeen self.old texts seen (kind_of (command_of command)) self.new) }
@@ -119,6 +123,8 @@ impl Room {
         requires version { self.old.version + 1 < 2 ^ 64 }
         ensures step { IsRoomAnswer self.old (line_of seat.now seen (commands.edit (edit_of edit))) self.new result }
         ensures unrefused { IfOk result (λ reply. is_refused (reply_of reply) ≡ false) }
+        ensures reads { RoomReads self.old (line_of seat.now seen (commands.edit (edit_of edit))) result (S.reads steps.old) (S.reads steps.new) }
+        ensures fills { RoomFills self.old (line_of seat.now seen (commands.edit (edit_of edit))) result (S.fills steps.old) (S.fills steps.new) }
     {
         let range = edit_change(&edit);
         let place = match present_place(&self.changes, self.version, lines, seen, range) {
@@ -154,6 +160,8 @@ impl Room {
         requires version { self.old.version + 1 < 2 ^ 64 }
         ensures step { (seen : ℕ) → IsRoomAnswer self.old (line_of seat.now seen commands.undo) self.new result }
         ensures unrefused { IfOk result (λ reply. is_refused (reply_of reply) ≡ false) }
+        ensures reads { S.reads steps.new ≡ S.reads steps.old }
+        ensures fills { S.fills steps.new ≡ S.fills steps.old }
     {
         let Some(owner) = last_owner(&self.done) else {
             return ask(self.alloc, &mut self.desk, Command::Undo, steps);
@@ -176,6 +184,8 @@ impl Room {
         requires version { self.old.version + 1 < 2 ^ 64 }
         ensures step { (seen : ℕ) → IsRoomAnswer self.old (line_of seat.now seen commands.redo) self.new result }
         ensures unrefused { IfOk result (λ reply. is_refused (reply_of reply) ≡ false) }
+        ensures reads { S.reads steps.new ≡ S.reads steps.old }
+        ensures fills { S.fills steps.new ≡ S.fills steps.old }
     {
         let Some(owner) = last_owner(&self.undone) else {
             return ask(self.alloc, &mut self.desk, Command::Redo, steps);
@@ -198,6 +208,8 @@ impl Room {
         requires kind { MakesNoChange (kind_of (command_of command)) }
         ensures step { (seat : List ℕ) (seen : ℕ) → IsRoomAnswer self.old (line_of seat seen (command_of command)) self.new result }
         ensures unrefused { IfOk result (λ reply. is_refused (reply_of reply) ≡ false) }
+        ensures reads { (seat : List ℕ) (seen : ℕ) → RoomReads self.old (line_of seat seen (command_of command)) result (S.reads steps.old) (S.reads steps.new) }
+        ensures fills { (seat : List ℕ) (seen : ℕ) → RoomFills self.old (line_of seat seen (command_of command)) result (S.fills steps.old) (S.fills steps.new) }
     {
         let forgets = is_forgetting(&command);
         let reply = ask(self.alloc, &mut self.desk, command, steps)?;

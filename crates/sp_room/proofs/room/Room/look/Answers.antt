@@ -1,10 +1,16 @@
-use Rattle.std.proofs.Common.{ℕ, ◌<◌, ◌^◌, List, [], length, ap, sym, ◌∙◌, subst}
-use Rattle.spec_wire.specs.Commands.{RoomLineOf}
+use Rattle.std.proofs.Common.{◌≡◌, ℕ, ◌<◌, ◌^◌, List, [], length, ap, sym, ◌∙◌, subst, Result, Ok, Err}
+use Rattle.spec_wire.specs.Commands.{CommandOf, RoomLineOf}
 use Rattle.spec_room.specs.Kinds.{kind_of}
 use Rattle.spec_room.specs.Rooms.{RoomState, room_step_to, room_step_of}
 use Rattle.sp_wire.specs.Values.{command_of, reply_of}
+use Rattle.sp_wire.specs.declared.reply.Reply.{Reply}
+use Rattle.sp_desk.specs.declared.fault.DeskFault.{DeskFault}
+use Rattle.sp_desk.specs.Reads.{CommandReads}
+use Rattle.sp_desk.specs.Fills.{CommandFills}
 use Rattle.sp_room.specs.Answers.{line_of}
+use Rattle.sp_room.specs.Counts.{RoomReads, RoomFills}
 use Rattle.sp_room.proofs.Answering.{no-change, no-change-looks, forgets_answered, looks_answered}
+use Rattle.sp_room.proofs.Counting.{is-err, of-looks}
 use Rattle.sp_room.proofs.room.Room.look.Goals as goal
 use Rattle.sp_room.proofs.room.Room.look.Goals.{then-forgets, else-forgets}
 
@@ -43,3 +49,25 @@ returns-clause-step g c = λ (seat : List ℕ) (seen : ℕ).
           c.self.invariant few (no-change-looks (kind_of (command_of c.args.command)) c.requires.kind (sym w.if-forgets.ensures)) c.in_ok-reply.ensures.step c.in_ok-reply.ensures.unrefused).step
           ∙ whole
     ]
+
+pub returns-in_err-reply-clause-reads : goal.returns-in_err-reply-clause-reads
+returns-in_err-reply-clause-reads g c = λ (seat : List ℕ) (seen : ℕ).
+    is-err (λ (r : Result Reply DeskFault). RoomReads c.args.self.now (line_of seat seen (command_of c.args.command)) r (g.S.Steps.reads c.args.steps.now) (g.S.Steps.reads c.ask.new.steps)) _ c.from_residual.result c.from_residual.ensures.1
+    (of-looks (λ (command : CommandOf). CommandReads {T = Reply} {E = DeskFault} c.args.self.now.desk.state command (Err c.in_err-reply.field-0.0) (g.S.Steps.reads c.args.steps.now) (g.S.Steps.reads c.ask.new.steps)) (g.S.Steps.reads c.ask.new.steps ≡ g.S.Steps.reads c.args.steps.now) c.args.self.now seat seen (command_of c.args.command) c.requires.kind
+    (subst (λ (room : RoomState). CommandReads {T = Reply} {E = DeskFault} room.desk.state (command_of c.args.command) (Err c.in_err-reply.field-0.0) (g.S.Steps.reads c.args.steps.now) (g.S.Steps.reads c.ask.new.steps)) c.self.view_is c.in_err-reply.ensures.reads))
+
+pub returns-clause-reads : goal.returns-clause-reads
+returns-clause-reads g c = λ (seat : List ℕ) (seen : ℕ).
+    of-looks (λ (command : CommandOf). CommandReads {T = Reply} {E = DeskFault} c.args.self.now.desk.state command (Ok c.in_ok-reply.reply) (g.S.Steps.reads c.args.steps.now) (g.S.Steps.reads c.ask.new.steps)) (g.S.Steps.reads c.ask.new.steps ≡ g.S.Steps.reads c.args.steps.now) c.args.self.now seat seen (command_of c.args.command) c.requires.kind
+    (subst (λ (room : RoomState). CommandReads {T = Reply} {E = DeskFault} room.desk.state (command_of c.args.command) (Ok c.in_ok-reply.reply) (g.S.Steps.reads c.args.steps.now) (g.S.Steps.reads c.ask.new.steps)) c.self.view_is c.in_ok-reply.ensures.reads)
+
+pub returns-in_err-reply-clause-fills : goal.returns-in_err-reply-clause-fills
+returns-in_err-reply-clause-fills g c = λ (seat : List ℕ) (seen : ℕ).
+    is-err (λ (r : Result Reply DeskFault). RoomFills c.args.self.now (line_of seat seen (command_of c.args.command)) r (g.S.Steps.fills c.args.steps.now) (g.S.Steps.fills c.ask.new.steps)) _ c.from_residual.result c.from_residual.ensures.1
+    (of-looks (λ (command : CommandOf). CommandFills {T = Reply} {E = DeskFault} c.args.self.now.desk.state command (Err c.in_err-reply.field-0.0) (g.S.Steps.fills c.args.steps.now) (g.S.Steps.fills c.ask.new.steps)) (g.S.Steps.fills c.ask.new.steps ≡ g.S.Steps.fills c.args.steps.now) c.args.self.now seat seen (command_of c.args.command) c.requires.kind
+    (subst (λ (room : RoomState). CommandFills {T = Reply} {E = DeskFault} room.desk.state (command_of c.args.command) (Err c.in_err-reply.field-0.0) (g.S.Steps.fills c.args.steps.now) (g.S.Steps.fills c.ask.new.steps)) c.self.view_is c.in_err-reply.ensures.fills))
+
+pub returns-clause-fills : goal.returns-clause-fills
+returns-clause-fills g c = λ (seat : List ℕ) (seen : ℕ).
+    of-looks (λ (command : CommandOf). CommandFills {T = Reply} {E = DeskFault} c.args.self.now.desk.state command (Ok c.in_ok-reply.reply) (g.S.Steps.fills c.args.steps.now) (g.S.Steps.fills c.ask.new.steps)) (g.S.Steps.fills c.ask.new.steps ≡ g.S.Steps.fills c.args.steps.now) c.args.self.now seat seen (command_of c.args.command) c.requires.kind
+    (subst (λ (room : RoomState). CommandFills {T = Reply} {E = DeskFault} room.desk.state (command_of c.args.command) (Ok c.in_ok-reply.reply) (g.S.Steps.fills c.args.steps.now) (g.S.Steps.fills c.ask.new.steps)) c.self.view_is c.in_ok-reply.ensures.fills)
