@@ -14,7 +14,7 @@ use Rattle.spec_state.specs.Headings.{headings_of, heading_of, is_heading_block}
 use Rattle.spec_state.specs.Keeping.{IsWhole}
 use Rattle.spec_state.proofs.StateLaws.{state-AreSceneRecords}
 use Rattle.spec_machine.specs.Outlines.{scenes_of}
-use Rattle.sp_contents.proofs.Counts.{label-count, gone-rising}
+use Rattle.sp_entries.proofs.Counts.{label-count, gone-rising}
 
 -- The records of a state, as values of the program show them.
 pub records-are : {V : Type 0} (items : V → List SceneRecordOf) (state : State) (o : Option V) → IsWhole state → option_map items o ≡ state.scenes → IfSome o (λ those. AreSceneRecords (items those))

@@ -1,13 +1,8 @@
-//! The outline of a script, its entries and its cast, and its speeches, by its blocks, its labels and its sheets (docs/RULES.md,
-//! "Outline" and "Cast sides").
+//! The outline of a script with its cast, and its speeches (docs/RULES.md, "Outline" and "Cast sides").
 #![tactic(auto)]
 
-mod entries;
-mod gone;
-mod names;
 mod reply;
 mod scenes;
-mod sheets;
 mod speeches;
 
 pub use reply::{outline_reply, outline_text};

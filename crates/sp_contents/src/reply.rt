@@ -4,9 +4,8 @@ ghost use Rattle.spec_machine.specs.Outlines.{outline_of};
 ghost use Rattle.spec_wire.specs.Replies as replies;
 ghost use Rattle.sp_wire.specs.Values.{reply_of};
 
-use crate::entries::entries_of;
-use crate::names::speaker_names;
 use crate::scenes::scenes_of;
+use sp_entries::{entries_of, speaker_names};
 use sp_layout::placed_blocks;
 use sp_outline::cast;
 use sp_state::Script;

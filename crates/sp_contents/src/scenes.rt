@@ -1,44 +1,16 @@
-//! What an outline tells of scenes.
-ghost use Rattle.std.specs.Prelude.{◌≡◌, is_some, option_map, IfOk, IfSome};
+//! What an outline tells of the scenes of a script.
+ghost use Rattle.std.specs.Prelude.{◌≡◌, option_map, IfOk};
 ghost use Rattle.spec_text.specs.Lines.{line_texts};
 ghost use Rattle.spec_script.specs.Stanzas.{blocks_of};
-ghost use Rattle.spec_labels.specs.Scenes.{AreHeadings, AreSceneRecords, scene_labels};
 ghost use Rattle.spec_state.specs.Headings.{headings_of};
 ghost use Rattle.spec_machine.specs.Outlines.{scenes_of};
 
-use crate::gone::gone_labels;
-use crate::sheets::{heading_rows, sheet_texts};
-use sp_labels::Label;
+use sp_entries::{Scenes, are_locked, gone_labels, heading_rows, labels_of, sheet_texts};
 use sp_layout::PlacedBlock;
 use sp_made::headings_among;
-use sp_scenes::{HeadingAt, SceneRecord, numbers};
+use sp_scenes::{HeadingAt, SceneRecord};
 use sp_state::Script;
 use std::alloc::{AllocError, Global};
-use std::marker::Model;
-
-/// Of the headings of a script: whether scenes are locked, the label of each, that of the sheet with its first row, and
-/// the labels of scenes that are gone.
-#[derive(Drop)]
-pub(crate) struct Scenes {
-    pub locked: bool,
-    pub labels: Vec<Label>,
-    pub sheets: Vec<String>,
-    pub gone: Vec<Label>,
-}
-
-impl Model for Scenes {
-    ghost use Rattle.std.specs.Prelude.{map, string_bytes};
-    ghost use Rattle.spec_machine.specs.Outlines.{Scenes as ScenesOf};
-
-    ghost Value = { ScenesOf };
-
-    ghost view = { λ s. record {
-      locked = s.locked;
-      labels = s.labels.items;
-      sheets = map string_bytes s.sheets.items;
-      gone = s.gone.items;
-    } };
-}
 
 /// The scene records of a script.
 fn scene_records(script: &Script) -> &Option<Vec<SceneRecord>>
@@ -46,31 +18,6 @@ fn scene_records(script: &Script) -> &Option<Vec<SceneRecord>>
 {
     let records = script.records();
     &records.scenes
-}
-
-fn are_locked(scenes: &Option<Vec<SceneRecord>>) -> bool
-    ensures { result ≡ is_some (option_map (λ those. those.items) scenes.now) }
-{
-    match scenes {
-        None => false,
-        Some(_) => true,
-    }
-}
-
-/// The labels of headings, with the records where scenes are locked.
-fn labels_of(
-    alloc: Global,
-    headings: &[HeadingAt],
-    scenes: &Option<Vec<SceneRecord>>,
-) -> Result<Vec<Label>, AllocError>
-    requires headings { AreHeadings headings.now }
-    requires records { IfSome scenes.now (λ records. AreSceneRecords records.items) }
-    ensures { IfOk result (λ labels. labels.items ≡ scene_labels headings.now (option_map (λ those. those.items) scenes.now)) }
-{
-    match scenes {
-        None => numbers(alloc, headings, None),
-        Some(records) => numbers(alloc, headings, Some(records.as_slice())),
-    }
 }
 
 /// What an outline tells of the scenes of a script with these headings.

@@ -2,10 +2,10 @@
 ghost use Rattle.std.specs.Prelude.{◌≡◌, IfOk, IfErr};
 ghost use Rattle.sp_run.specs.Collating.{FetchedSheets, NoSheets, Comes, NotCollated, CollateEnds, gives};
 
-use crate::status::Status;
 use sp_collation::collate;
 use sp_kit::{Fetched, Shelf, ShelfFault, Sink, write_whole};
 use sp_text::TextFault;
+use sp_words::Status;
 use std::alloc::Global;
 
 /// The most bytes of a file of sheets.

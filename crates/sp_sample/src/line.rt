@@ -1,4 +1,4 @@
-//! The line that tells of a desk.
+//! The line that tells of a script.
 ghost use Rattle.std.specs.Prelude.{◌≡◌, IfOk, string_bytes};
 ghost use Rattle.std.specs.Str.{IsUtf8};
 ghost use Rattle.hex.specs.Hex.{encode_lower};
@@ -10,24 +10,24 @@ ghost use Rattle.spec_sample.specs.Sample.{state_line};
 use crate::numbers::add_numbered;
 use sha2::{Digest, Sha256};
 use sp_answers::sheet_reply;
-use sp_desk::Desk;
 use sp_print::PageView;
+use sp_state::Script;
 use sp_wire::Reply;
 use std::alloc::{AllocError, Global};
 
-/// The line that tells of a desk behind the session of a sample of so many rooms.
-pub fn desk_line(alloc: Global, rooms: u32, desk: &Desk) -> Result<Vec<u8>, AllocError>
-    ensures { IfOk result (λ line. line.items ≡ state_line rooms (desk.now).state) }
+/// The line that tells of the script behind the session of a sample of so many rooms.
+pub fn state_line(alloc: Global, rooms: u32, script: &Script) -> Result<Vec<u8>, AllocError>
+    ensures { IfOk result (λ line. line.items ≡ state_line rooms script.now) }
 {
-    let digest = sheets_digest(alloc, desk)?;
+    let digest = sheets_digest(alloc, script)?;
     let mut line = Vec::new(alloc);
     add_numbered(&mut line, b"sample ", u64::from(rooms))?;
-    add_numbered(&mut line, b": ", desk.lines().len() as u64)?;
-    add_numbered(&mut line, b" lines, ", desk.sheets() as u64)?;
+    add_numbered(&mut line, b": ", script.lines().len() as u64)?;
+    add_numbered(&mut line, b" lines, ", script.sheets() as u64)?;
     add_numbered(
         &mut line,
         b" sheets, round ",
-        u64::from(desk.records().round),
+        u64::from(script.records().round),
     )?;
     line.extend_from_slice(b", sha256 ")?;
     line.extend_from_slice(digest.as_bytes())?;
@@ -35,13 +35,14 @@ pub fn desk_line(alloc: Global, rooms: u32, desk: &Desk) -> Result<Vec<u8>, Allo
     Ok(line)
 }
 
-/// The digest of all sheets of a desk, in hexadecimal. They are printed one after another, and none is kept.
-fn sheets_digest(alloc: Global, desk: &Desk) -> Result<String, AllocError>
-    ensures { IfOk result (λ text. string_bytes text ≡ encode_lower (sha256 (printed_state (desk.now).state))) }
+/// The digest of all sheets of a script, in hexadecimal. They are printed one after another, and none is kept.
+fn sheets_digest(alloc: Global, script: &Script) -> Result<String, AllocError>
+    ensures { IfOk result (λ text. string_bytes text ≡ encode_lower (sha256 (printed_state script.now))) }
 {
+    let _sheets = script.body_sheets();
     let mut hasher = Sha256::new();
-    for i in 0..desk.sheets() {
-        let Some(page) = desk.sheet(i) else {
+    for i in 0..script.sheets() {
+        let Some(page) = script.sheet(i) else {
             unreachable!();
         };
         let text = sheet_text(alloc, &page)?;

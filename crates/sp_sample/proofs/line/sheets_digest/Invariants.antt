@@ -7,4 +7,4 @@ use Rattle.sp_sample.proofs.line.sheets_digest.Given as goal
 
 -- The first sheets are taken.
 abbrev pub invariant-loop-i : goal.invariant-loop-i
-invariant-loop-i l = Holds256 l.hasher (flat_map sheet_bytes (take l.i (sheets_of_state (l.desk).state)))
+invariant-loop-i l = Holds256 l.hasher (flat_map sheet_bytes (take l.i (sheets_of_state l.script)))

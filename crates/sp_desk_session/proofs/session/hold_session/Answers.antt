@@ -1,0 +1,46 @@
+use Rattle.std.proofs.Common.{sym, ap, refl, subst}
+use Rattle.spec_session.specs.Runs.{at_shelf}
+use Rattle.spec_session.specs.Sessions.{SessionEnds, streams}
+use Rattle.std.specs.declared.option.Option.{Option}
+use Rattle.sp_kit.specs.Files.{Files}
+use Rattle.sp_kit.specs.Outside.{SourceState}
+use Rattle.sp_desk_session.specs.DeskLines.{AnswersLine, StopsAtLine, desk_at}
+use Rattle.sp_opening.specs.Records.{records_name}
+use Rattle.sp_opening.specs.Saving.{Changes, KeepsAllBut}
+use Rattle.sp_desk_session.specs.DeskEnding.{DeskEnds, HeldSession}
+use Rattle.sp_opening.specs.Unopened.{outside}
+use Rattle.sp_desk_session.proofs.DeskSessions.{session-held, held-ends, held-others, unopened-ends}
+use Rattle.sp_opening.proofs.Stores.{changes-none}
+use Rattle.sp_desk_session.proofs.session.hold_session.Goals as goal
+
+pub returns-in-Err-clause-ends : goal.returns-in-Err-clause-ends
+returns-in-Err-clause-ends g c =
+    let old = outside (g.I.Source.state c.args.input.now) (g.O.Sink.state c.args.output.now) (g.F.Shelf.state c.args.shelf.now) in
+    let new = outside (g.I.Source.state c.open_desk.new.input) (g.O.Sink.state c.args.output.now) (g.F.Shelf.state c.open_desk.new.shelf) in
+    unopened-ends (HeldSession c.args.name.now old new) c.args.name.now old new c.in-Err.status (c.in-Err.ensures.refused (g.O.Sink.state c.args.output.now))
+
+pub returns-in-Err-clause-others : goal.returns-in-Err-clause-others
+returns-in-Err-clause-others g c =
+    let name = c.args.name.now in
+    changes-none _ _ (λ (old new : Files). KeepsAllBut old new name (records_name name)) (λ files other not-first not-second. refl) c.open_desk.ensures.files_kept
+
+pub returns-clause-ends : goal.returns-clause-ends
+returns-clause-ends g c =
+    let old = outside (g.I.Source.state c.args.input.now) (g.O.Sink.state c.args.output.now) (g.F.Shelf.state c.args.shelf.now) in
+    let new = outside (g.I.Source.state c.session.new.input) (g.O.Sink.state c.session.new.output) (g.F.Shelf.state c.session.new.shelf) in
+    let between = g.F.Shelf.state c.open_desk.new.shelf in
+    let after = at_shelf c.session.new.responder (g.F.Shelf.state c.session.new.shelf) in
+    let ends = subst (λ (source : SourceState). SessionEnds AnswersLine StopsAtLine (streams source old.sink) (streams new.source new.sink) (desk_at c.args.name.now c.in-Ok.desk between) after c.session.result)
+    (ap g.I.Source.state c.open_desk.ensures.source_kept) c.session.ensures.ends in
+    let held = session-held c.args.name.now old new between c.in-Ok.desk after c.session.result c.in-Ok.ensures.opened ends refl in
+    subst (DeskEnds c.args.name.now old new) (sym c.from.ensures) (held-ends (HeldSession c.args.name.now old new) c.args.name.now old new c.session.result held)
+
+pub returns-clause-others : goal.returns-clause-others
+returns-clause-others g c =
+    let old = outside (g.I.Source.state c.open_desk.new.input) (g.O.Sink.state c.args.output.now) (g.F.Shelf.state c.args.shelf.now) in
+    let new = outside (g.I.Source.state c.session.new.input) (g.O.Sink.state c.session.new.output) (g.F.Shelf.state c.session.new.shelf) in
+    let between = g.F.Shelf.state c.open_desk.new.shelf in
+    let after = at_shelf c.session.new.responder (g.F.Shelf.state c.session.new.shelf) in
+    let name = c.args.name.now in
+    subst (λ (files : Option Files). Changes files after.shelf.files (λ (one other : Files). KeepsAllBut one other name (records_name name))) c.open_desk.ensures.files_kept
+    (held-others name c.in-Ok.desk between old new after c.session.result c.session.ensures.ends)

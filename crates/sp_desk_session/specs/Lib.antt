@@ -1,0 +1,3 @@
+pub mod DeskLines
+pub mod Promises
+pub mod DeskEnding

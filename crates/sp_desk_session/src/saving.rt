@@ -1,0 +1,24 @@
+//! A desk, saved (docs/RULES.md, "Sessions").
+ghost use Rattle.std.specs.Prelude.{IfOk, OnErr};
+ghost use Rattle.sp_wire.specs.Values.{reply_of};
+ghost use Rattle.sp_opening.specs.Saving.{RepliesToSave, StoreLeft, files_of};
+
+use sp_desk::Desk;
+use sp_kit::Shelf;
+use sp_opening::save;
+use sp_wire::Reply;
+use std::alloc::{AllocError, Global};
+
+/// Stores the present state of a desk, and answers the digest of its text, or that a store failed.
+pub fn save_desk<F: Shelf>(
+    alloc: Global,
+    name: &str,
+    desk: &Desk,
+    shelf: &mut F,
+) -> Result<Reply, AllocError>
+    ensures saved { IfOk result (λ reply. RepliesToSave name.now (desk.now).state (F.state shelf.old) (F.state shelf.new) (reply_of reply)) }
+    ensures left { OnErr result (StoreLeft (files_of name.now (desk.now).state) (F.state shelf.old) (F.state shelf.new)) }
+{
+    let _sheets = desk.sheets();
+    save(alloc, name, desk.lines(), desk.records(), shelf)
+}

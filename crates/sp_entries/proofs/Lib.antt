@@ -1,0 +1,6 @@
+mod WalkLaws
+pub mod SheetFinds
+pub mod Counts
+mod Pushes
+mod EntryLaws
+mod SaidSteps

@@ -1,0 +1,137 @@
+-- One more heading, record, block or row.
+use Rattle.std.proofs.Common.{◌≡◌, ℕ, ◌+◌, ◌<◌, ◌==◌, ◌||◌, Bool, true, false, cond, Option, Some, List, [], ◌∷◌, ◌++◌, length, map, filter, take, drop, get_or, nat_lt, nat_cmp, Less, Equal, Greater, refl, sym, ap, ◌∙◌, ⊎_elim, ne_eqb, ltb-true, arith, add-one, drop-cons}
+use Rattle.std.specs.Prelude.{is_some}
+use Rattle.std.specs.List.{list_any}
+use Rattle.std.specs.Ordering.{is_eq}
+use Rattle.std.specs.BTreeMap.{is_at}
+use Rattle.std.proofs.lemmas.Bool.{cases_Bool}
+use Rattle.std.proofs.lemmas.List.{take_more, length-take}
+use Rattle.spec_pages.specs.declared.Shape.{Shape}
+use Rattle.spec_script.specs.Stanzas.{PlacedBlock}
+use Rattle.spec_labels.specs.Labels.{LabelOf}
+use Rattle.spec_labels.specs.Scenes.{HeadingOf, SceneRecordOf}
+use Rattle.spec_layout.specs.Speakers.{cue_text, name_in}
+use Rattle.spec_state.specs.Headings.{is_heading_block}
+use Rattle.spec_machine.specs.Outlines.{Scenes, begins_heading, heading_rows, is_gone, is_speech_block, speaker_names, block_entries, entries_from, headings_behind}
+use Rattle.sp_entries.specs.Gone.{has_line, gone_among}
+use Rattle.sp_entries.proofs.Counts.{heading_rows-push}
+
+filter-push : {X Y : Type 0} (f : X → Y) (p : X → Bool) (xs : List X) (x : X) → map f (filter p (xs ++ x ∷ [])) ≡ map f (filter p xs) ++ cond (p x) (f x ∷ []) []
+filter-push f p [] x = by (p x)
+  where
+    by : (b : Bool) → map f (cond b (x ∷ []) []) ≡ cond b (f x ∷ []) []
+    by true = refl
+    by false = refl
+filter-push f p (first ∷ xs) x = by (p first) (filter-push f p xs x)
+  where
+    by : (b : Bool) → map f (filter p (xs ++ x ∷ [])) ≡ map f (filter p xs) ++ cond (p x) (f x ∷ []) []
+        → map f (cond b (first ∷ filter p (xs ++ x ∷ [])) (filter p (xs ++ x ∷ []))) ≡ map f (cond b (first ∷ filter p xs) (filter p xs)) ++ cond (p x) (f x ∷ []) []
+    by true rest = ap (λ ys. f first ∷ ys) rest
+    by false rest = rest
+
+filter-more : {X Y : Type 0} (f : X → Y) (p : X → Bool) (xs : List X) (i : ℕ) (d : X) → i < length xs
+    → map f (filter p (take (i + 1) xs)) ≡ map f (filter p (take i xs)) ++ cond (p (get_or xs i d)) (f (get_or xs i d) ∷ []) []
+filter-more f p xs i d inside = ap (λ ys. map f (filter p ys)) (take_more xs i d inside) ∙ filter-push f p (take i xs) (get_or xs i d)
+
+-- ---- lines of headings
+
+any-push : {X : Type 0} (p : X → Bool) (xs : List X) (x : X) → list_any p (xs ++ x ∷ []) ≡ (p x || list_any p xs)
+any-push p [] x = refl
+any-push p (first ∷ xs) x = by (p first) (p x) (any-push p xs x)
+  where
+    by : (a b : Bool) → list_any p (xs ++ x ∷ []) ≡ (b || list_any p xs) → (a || list_any p (xs ++ x ∷ [])) ≡ (b || (a || list_any p xs))
+    by true true rest = refl
+    by true false rest = refl
+    by false b rest = rest
+
+-- The order of numbers tells which are equal.
+same-number : (a b : ℕ) → is_eq (nat_cmp a b) ≡ (a == b)
+same-number a b =
+    let test : Bool → Bool = λ less. is_eq (cond less Less (cond (a == b) Equal Greater)) in
+    ⊎_elim
+    (λ less. ap test less ∙ sym (ne_eqb a b (λ e. omega (arith, e, ltb-true a b less))))
+    (λ past. ap test past ∙ by (a == b))
+    (cases_Bool (nat_lt a b))
+  where
+    by : (same : Bool) → is_eq (cond same Equal Greater) ≡ same
+    by true = refl
+    by false = refl
+
+some-cond : {X : Type 0} (b : Bool) (x : X) (o : Option X) → is_some (cond b (Some x) o) ≡ (b || is_some o)
+some-cond true x o = refl
+some-cond false x o = refl
+
+-- A table by line of the first headings has one more with this entry.
+pub line-more : {X : Type 0} (headings : List HeadingOf) (i line id : ℕ) (d : HeadingOf) (x : X) (old new : Option X) → i < length headings → id ≡ (get_or headings i d).id
+    → is_some old ≡ has_line (take i headings) line → new ≡ cond (is_at (nat_cmp id) line) (Some x) old → is_some new ≡ has_line (take (i + 1) headings) line
+line-more headings i line id d x old new inside here before is =
+    ap is_some is
+    ∙ some-cond (is_at (nat_cmp id) line) x old
+    ∙ ap (λ b. b || is_some old) (same-number id line ∙ ap (λ n. n == line) here)
+    ∙ ap (λ b. ((get_or headings i d).id == line) || b) before
+    ∙ sym (any-push (λ (heading : HeadingOf). heading.id == line) (take i headings) (get_or headings i d))
+    ∙ sym (ap (λ hs. has_line hs line) (take_more headings i d inside))
+
+pub gone-more : (headings : List HeadingOf) (records : List SceneRecordOf) (i : ℕ) (d : SceneRecordOf) → i < length records
+    → gone_among headings (take (i + 1) records) ≡ gone_among headings (take i records) ++ cond (is_gone headings (get_or records i d)) ((get_or records i d).label ∷ []) []
+gone-more headings records i d inside = filter-more (λ (it : SceneRecordOf). it.label) (is_gone headings) records i d inside
+
+-- ---- names and rows
+
+pub names-more : (texts : List (List ℕ)) (blocks : List PlacedBlock) (i : ℕ) (d : PlacedBlock) → i < length blocks
+    → speaker_names texts (take (i + 1) blocks) ≡ speaker_names texts (take i blocks) ++ cond (is_speech_block (get_or blocks i d)) (name_in (cue_text texts (get_or blocks i d)) ∷ []) []
+names-more texts blocks i d inside = filter-more (λ placed. name_in (cue_text texts placed)) is_speech_block blocks i d inside
+
+pub rows-more : (shapes : List Shape) (i : ℕ) (d : Shape) → i < length shapes
+    → heading_rows 0 (take (i + 1) shapes) ≡ heading_rows 0 (take i shapes) ++ cond (begins_heading (get_or shapes i d)) (i ∷ []) []
+rows-more shapes i d inside =
+    ap (heading_rows 0) (take_more shapes i d inside)
+    ∙ heading_rows-push 0 (take i shapes) (get_or shapes i d)
+    ∙ ap (λ n. heading_rows 0 (take i shapes) ++ cond (begins_heading (get_or shapes i d)) (n ∷ []) []) (omega (arith, length-take i shapes, inside))
+
+-- A record that is looked at, and a row.
+pub gone-step : (headings : List HeadingOf) (records : List SceneRecordOf) (i : ℕ) (item : SceneRecordOf) (old new : List LabelOf) (b : Bool) → i < length records → item ≡ get_or records i item
+    → old ≡ gone_among headings (take i records) → b ≡ is_gone headings item → new ≡ old ++ cond b (item.label ∷ []) [] → new ≡ gone_among headings (take (i + 1) records)
+gone-step headings records i item old new b inside same before test is =
+    is
+    ∙ ap (λ (those : List LabelOf). those ++ cond b (item.label ∷ []) []) before
+    ∙ ap (λ (t : Bool). gone_among headings (take i records) ++ cond t (item.label ∷ []) []) test
+    ∙ ap (λ (it : SceneRecordOf). gone_among headings (take i records) ++ cond (is_gone headings it) (it.label ∷ []) []) same
+    ∙ sym (gone-more headings records i item inside)
+
+pub rows-step : (shapes : List Shape) (row : ℕ) (d : Shape) (old new : List ℕ) (b : Bool) → row < length shapes → old ≡ heading_rows 0 (take row shapes) → b ≡ begins_heading (get_or shapes row d)
+    → new ≡ old ++ cond b (row ∷ []) [] → new ≡ heading_rows 0 (take (row + 1) shapes)
+rows-step shapes row d old new b inside before test is =
+    is
+    ∙ ap (λ (those : List ℕ). those ++ cond b (row ∷ []) []) before
+    ∙ ap (λ (t : Bool). heading_rows 0 (take row shapes) ++ cond t (row ∷ []) []) test
+    ∙ sym (rows-more shapes row d inside)
+
+-- ---- entries
+
+front : (blocks : List PlacedBlock) (i : ℕ) (d : PlacedBlock) → i < length blocks → drop i blocks ≡ get_or blocks i d ∷ drop (i + 1) blocks
+front blocks i d inside = rw (add-one, drop-cons blocks i d) refl
+
+pub entries-next : (scenes : Scenes) (texts : List (List ℕ)) (headings : ℕ) (blocks : List PlacedBlock) (i : ℕ) (d : PlacedBlock) → i < length blocks
+    → entries_from scenes texts headings (drop i blocks) ≡ block_entries scenes texts headings (get_or blocks i d) ++ entries_from scenes texts (headings_behind headings (get_or blocks i d)) (drop (i + 1) blocks)
+entries-next scenes texts headings blocks i d inside = ap (entries_from scenes texts headings) (front blocks i d inside)
+
+-- So many headings stand from a block on.
+pub headings-next : (blocks : List PlacedBlock) (i h : ℕ) (d : PlacedBlock) → i < length blocks
+    → h + length (filter is_heading_block (drop i blocks)) ≡ headings_behind h (get_or blocks i d) + length (filter is_heading_block (drop (i + 1) blocks))
+headings-next blocks i h d inside = ap (λ those. h + length (filter is_heading_block those)) (front blocks i d inside) ∙ by (is_heading_block (get_or blocks i d))
+  where
+    later : List PlacedBlock
+    later = filter is_heading_block (drop (i + 1) blocks)
+
+    by : (b : Bool) → h + length (cond b (get_or blocks i d ∷ later) later) ≡ cond b (h + 1) h + length later
+    by true = omega arith
+    by false = refl
+
+-- A heading that comes is one of those that are counted.
+pub heading-inside : (blocks : List PlacedBlock) (i h n : ℕ) (d : PlacedBlock) → i < length blocks → is_heading_block (get_or blocks i d) ≡ true
+    → h + length (filter is_heading_block (drop i blocks)) ≡ n → h < n
+heading-inside blocks i h n d inside is count =
+    let next : h + length (filter is_heading_block (drop i blocks)) ≡ h + 1 + length (filter is_heading_block (drop (i + 1) blocks)) =
+    headings-next blocks i h d inside ∙ ap (λ b. cond b (h + 1) h + length (filter is_heading_block (drop (i + 1) blocks))) is in
+    omega (arith, next, count)

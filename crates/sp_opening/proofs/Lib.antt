@@ -1,0 +1,5 @@
+pub mod Held
+pub mod Openings
+pub mod OpenedStates
+pub mod SavedTexts
+pub mod Stores

@@ -1,0 +1,6 @@
+pub mod Reading
+pub mod Fetching
+pub mod Records
+pub mod Opening
+pub mod Saving
+pub mod Unopened

@@ -1,0 +1,10 @@
+use Rattle.std.proofs.Common.{subst}
+use Rattle.spec_machine.specs.KeptMemories.{IsWholeMemory}
+use Rattle.spec_locked_pages.specs.Chains.{AreLinked}
+use Rattle.sp_room_session.proofs.Seats.{answer-follows}
+use Rattle.sp_room_session.proofs.room_lines.ask_room.Goals as goal
+
+pub returns-clause-follows : goal.returns-clause-follows
+returns-clause-follows g c =
+    answer-follows c.args.room.now _ c.apply-answer.new.self c.apply-answer.result c.apply-answer.ensures.step c.apply-answer.ensures.same (subst IsWholeMemory c.desk.ensures c.sheets-before.ensures.whole)
+    (subst IsWholeMemory c.desk-2.ensures c.sheets-after.ensures.whole) (subst AreLinked c.desk-2.ensures c.sheets-after.ensures.linked)

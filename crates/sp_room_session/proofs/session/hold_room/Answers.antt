@@ -1,0 +1,52 @@
+use Rattle.std.proofs.Common.{sym, ap, refl, subst}
+use Rattle.spec_session.specs.Runs.{at_shelf}
+use Rattle.spec_session.specs.Sessions.{SessionEnds, streams}
+use Rattle.std.specs.declared.option.Option.{Option}
+use Rattle.sp_kit.specs.Files.{Files}
+use Rattle.sp_kit.specs.Outside.{SourceState}
+use Rattle.spec_room.specs.Rooms.{RoomState, opened_room}
+use Rattle.sp_room_session.specs.RoomLines.{AnswersRoomLine, StopsAtRoomLine, room_at}
+use Rattle.sp_opening.specs.Records.{records_name}
+use Rattle.sp_opening.specs.Saving.{Changes, KeepsAllBut}
+use Rattle.sp_room_session.specs.RoomEnding.{RoomEnds, HeldRoom}
+use Rattle.sp_opening.specs.Unopened.{outside}
+use Rattle.sp_desk_session.proofs.DeskSessions.{held-ends, unopened-ends}
+use Rattle.sp_room_session.proofs.RoomSessions.{room-held, room-others}
+use Rattle.sp_opening.proofs.Stores.{changes-none}
+use Rattle.sp_room_session.proofs.session.hold_room.Goals as goal
+
+pub returns-in-Err-clause-ends : goal.returns-in-Err-clause-ends
+returns-in-Err-clause-ends g c =
+    let old = outside (g.I.Source.state c.args.input.now) (g.O.Sink.state c.args.output.now) (g.F.Shelf.state c.args.shelf.now) in
+    let new = outside (g.I.Source.state c.open_desk.new.input) (g.O.Sink.state c.args.output.now) (g.F.Shelf.state c.open_desk.new.shelf) in
+    unopened-ends (HeldRoom c.args.name.now old new) c.args.name.now old new c.in-Err.status (c.in-Err.ensures.refused (g.O.Sink.state c.args.output.now))
+
+pub returns-in-Err-clause-others : goal.returns-in-Err-clause-others
+returns-in-Err-clause-others g c =
+    let name = c.args.name.now in
+    changes-none _ _ (λ (old new : Files). KeepsAllBut old new name (records_name name)) (λ files other not-first not-second. refl) c.open_desk.ensures.files_kept
+
+pub returns-clause-ends : goal.returns-clause-ends
+returns-clause-ends g c =
+    let old = outside (g.I.Source.state c.args.input.now) (g.O.Sink.state c.args.output.now) (g.F.Shelf.state c.args.shelf.now) in
+    let new = outside (g.I.Source.state c.session.new.input) (g.O.Sink.state c.session.new.output) (g.F.Shelf.state c.session.new.shelf) in
+    let between = g.F.Shelf.state c.open_desk.new.shelf in
+    let after = at_shelf c.session.new.responder (g.F.Shelf.state c.session.new.shelf) in
+    let opened = subst (λ (room : RoomState). SessionEnds AnswersRoomLine StopsAtRoomLine (streams (g.I.Source.state c.open_desk.new.input) old.sink) (streams new.source new.sink) (room_at c.args.name.now room between) after c.session.result)
+    c.open.ensures.room c.session.ensures.ends in
+    let ends = subst (λ (source : SourceState). SessionEnds AnswersRoomLine StopsAtRoomLine (streams source old.sink) (streams new.source new.sink) (room_at c.args.name.now (opened_room c.in-Ok.desk) between) after c.session.result)
+    (ap g.I.Source.state c.open_desk.ensures.source_kept) opened in
+    let held = room-held c.args.name.now old new between c.in-Ok.desk after c.session.result c.in-Ok.ensures.opened ends refl in
+    subst (RoomEnds c.args.name.now old new) (sym c.from.ensures) (held-ends (HeldRoom c.args.name.now old new) c.args.name.now old new c.session.result held)
+
+pub returns-clause-others : goal.returns-clause-others
+returns-clause-others g c =
+    let old = outside (g.I.Source.state c.open_desk.new.input) (g.O.Sink.state c.args.output.now) (g.F.Shelf.state c.args.shelf.now) in
+    let new = outside (g.I.Source.state c.session.new.input) (g.O.Sink.state c.session.new.output) (g.F.Shelf.state c.session.new.shelf) in
+    let between = g.F.Shelf.state c.open_desk.new.shelf in
+    let after = at_shelf c.session.new.responder (g.F.Shelf.state c.session.new.shelf) in
+    let name = c.args.name.now in
+    let ends = subst (λ (room : RoomState). SessionEnds AnswersRoomLine StopsAtRoomLine (streams old.source old.sink) (streams new.source new.sink) (room_at name room between) after c.session.result)
+    c.open.ensures.room c.session.ensures.ends in
+    subst (λ (files : Option Files). Changes files after.shelf.files (λ (one other : Files). KeepsAllBut one other name (records_name name))) c.open_desk.ensures.files_kept
+    (room-others name c.in-Ok.desk between old new after c.session.result ends)

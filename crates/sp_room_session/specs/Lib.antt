@@ -1,0 +1,3 @@
+pub mod RoomLines
+pub mod Seats
+pub mod RoomEnding

@@ -1,0 +1,132 @@
+//! Command lines of several seats, answered by a room.
+ghost use Rattle.std.specs.Prelude.{◌≡◌, ℕ, ◌+◌, ◌-◌, ◌^◌, ◌<◌, ◌≤◌, IfOk, OnErr};
+ghost use Rattle.std.specs.declared.result.Result.TheVariants.{Ok};
+ghost use Rattle.spec_wire.specs.Lines.{room_line_of_line};
+ghost use Rattle.spec_wire.specs.Commands.{RoomLineOf};
+ghost use Rattle.sp_wire.specs.Values.{room_line_of, reply_of};
+ghost use Rattle.sp_room.specs.Answers.{IsRoomAnswer};
+ghost use Rattle.sp_desk_session.specs.Promises.{Follows};
+ghost use Rattle.sp_room_session.specs.RoomLines.{SeatReplies, SeatStops, room_at};
+
+use sp_desk::DeskFault;
+use sp_desk_session::{is_packet, is_save, packet_reply, save_desk};
+use sp_kit::{Shelf, Steps};
+use sp_room::Room;
+use sp_session::Responder;
+use sp_wire::{Refusal, Reply, RoomLine, WireFault, read_room_command, write_room_reply};
+use std::alloc::{AllocError, Global};
+use std::marker::Model;
+
+/// What answers the command lines of several seats: a room, its script's name, and what counts its steps.
+#[derive(Drop)]
+pub struct RoomLines<'a, 'b, S> {
+    pub alloc: Global,
+    pub name: &'a str,
+    pub room: Room,
+    pub steps: &'b mut S,
+}
+
+impl<'a, 'b, S> Model for RoomLines<'a, 'b, S> {
+    ghost use Rattle.sp_room_session.specs.RoomLines.{NamedRoom};
+
+    ghost Value = { NamedRoom };
+
+    ghost view = { λ r. record { name = r.name.now; room = r.room } };
+}
+
+/// Does a seat's command by the room. A refusal and want of memory leave it as it was.
+fn ask_room<S: Steps>(room: &mut Room, asked: RoomLine, steps: &mut S) -> Result<Reply, DeskFault>
+    requires version { (room.old).version + 1 < 2 ^ 64 }
+    ensures step { IsRoomAnswer room.old (room_line_of asked) room.new result }
+    ensures same { OnErr result (room.new ≡ room.old) }
+    ensures follows { Follows (room.old).desk (room.new).desk }
+    ensures version { (room.new).version ≤ (room.old).version + 1 }
+{
+    let RoomLine {
+        seat,
+        seen,
+        command,
+    } = asked;
+    let _before = room.desk().sheets();
+    let answer = room.apply(seat.as_str(), seen, command, steps);
+    let _after = room.desk().sheets();
+    answer
+}
+
+/// Does a seat's command, and answers it. Only `save` touches the shelf.
+fn reply_to_seat<F: Shelf, S: Steps>(
+    alloc: Global,
+    name: &str,
+    room: &mut Room,
+    asked: RoomLine,
+    shelf: &mut F,
+    steps: &mut S,
+) -> Result<Reply, AllocError>
+    requires version { (room.old).version + 1 < 2 ^ 64 }
+    ensures reply { IfOk result (λ reply. SeatReplies (room_at name.now room.old (F.state shelf.old)) (Ok (room_line_of asked)) (room_at name.now room.new (F.state shelf.new)) (reply_of reply)) }
+    ensures stops { OnErr result (SeatStops (room_at name.now room.old (F.state shelf.old)) (Ok (room_line_of asked)) (room_at name.now room.new (F.state shelf.new))) }
+    ensures follows { Follows (room.old).desk (room.new).desk }
+    ensures version { (room.new).version ≤ (room.old).version + 1 }
+{
+    if is_save(&asked.command) {
+        let _sheets = room.desk().sheets();
+        return save_desk(alloc, name, room.desk(), shelf);
+    }
+    if is_packet(&asked.command) {
+        let _sheets = room.desk().sheets();
+        return packet_reply(alloc, room.desk());
+    }
+    match ask_room(room, asked, steps) {
+        Ok(reply) => Ok(reply),
+        Err(DeskFault::Refused(reason)) => Ok(Reply::Refused(reason)),
+        Err(DeskFault::NoMemory) => Err(AllocError),
+    }
+}
+
+/// Does what a line asks for, and answers it; a line that is no command of a seat changes nothing.
+fn reply_to_room_line<F: Shelf, S: Steps>(
+    alloc: Global,
+    name: &str,
+    room: &mut Room,
+    line: &[u8],
+    shelf: &mut F,
+    steps: &mut S,
+) -> Result<Reply, AllocError>
+    requires version { (room.old).version + 1 < 2 ^ 64 }
+    ensures reply { IfOk result (λ reply. SeatReplies (room_at name.now room.old (F.state shelf.old)) (room_line_of_line line.now) (room_at name.now room.new (F.state shelf.new)) (reply_of reply)) }
+    ensures stops { OnErr result (SeatStops (room_at name.now room.old (F.state shelf.old)) (room_line_of_line line.now) (room_at name.now room.new (F.state shelf.new))) }
+    ensures follows { Follows (room.old).desk (room.new).desk }
+    ensures version { (room.new).version ≤ (room.old).version + 1 }
+{
+    let _sheets = room.desk().sheets();
+    match read_room_command(alloc, line) {
+        Ok(asked) => reply_to_seat(alloc, name, room, asked, shelf, steps),
+        Err(WireFault::BadJson) => Ok(Reply::Refused(Refusal::BadJson)),
+        Err(WireFault::UnknownCommand) => Ok(Reply::Refused(Refusal::UnknownCommand)),
+        Err(WireFault::BadField(name)) => Ok(Reply::Refused(Refusal::BadField(name))),
+        Err(WireFault::NoMemory) => Err(AllocError),
+    }
+}
+
+impl<'a, 'b, S: Steps> Responder for RoomLines<'a, 'b, S> {
+    ghost use Rattle.std.specs.Prelude.{◌-◌, ◌^◌};
+    ghost use Rattle.sp_room_session.specs.RoomLines.{AnswersRoomLine, StopsAtRoomLine};
+
+    ghost answers = { AnswersRoomLine };
+
+    ghost stops = { StopsAtRoomLine };
+
+    ghost lasts = { λ r. 2 ^ 64 - 1 - r.room.version };
+
+    fn answer<F: Shelf>(&mut self, line: &[u8], shelf: &mut F) -> Result<Vec<u8>, AllocError> {
+        let reply = reply_to_room_line(
+            self.alloc,
+            self.name,
+            &mut self.room,
+            line,
+            shelf,
+            self.steps,
+        )?;
+        write_room_reply(self.alloc, &reply, self.room.version())
+    }
+}

@@ -1,0 +1,39 @@
+//! A session of a room (docs/RULES.md, "The program" and "Sessions").
+ghost use Rattle.std.specs.Prelude.{◌≡◌};
+ghost use Rattle.sp_opening.specs.Records.{records_name};
+ghost use Rattle.sp_opening.specs.Saving.{Changes, KeepsAllBut};
+ghost use Rattle.sp_opening.specs.Unopened.{outside};
+ghost use Rattle.sp_room_session.specs.RoomEnding.{RoomEnds};
+
+use crate::room_lines::RoomLines;
+use sp_desk_session::open_desk;
+use sp_kit::{Shelf, Sink, Source, Steps};
+use sp_room::Room;
+use sp_session::session;
+use sp_words::Status;
+use std::alloc::Global;
+
+/// Answers the command lines of the source by a room round the desk of the script that the shelf has under a name.
+pub fn hold_room<I: Source, O: Sink, F: Shelf, S: Steps>(
+    alloc: Global,
+    name: &str,
+    input: &mut I,
+    output: &mut O,
+    shelf: &mut F,
+    steps: &mut S,
+) -> Status
+    ensures ends { RoomEnds name.now (outside (I.state input.old) (O.state output.old) (F.state shelf.old)) (outside (I.state input.new) (O.state output.new) (F.state shelf.new)) result }
+    ensures others { Changes (F.state shelf.old).files (F.state shelf.new).files (λ old new. KeepsAllBut old new name.now (records_name name.now)) }
+{
+    let desk = match open_desk(alloc, name, input, shelf, steps) {
+        Ok(desk) => desk,
+        Err(status) => return status,
+    };
+    let mut lines = RoomLines {
+        alloc,
+        name,
+        room: Room::open(alloc, desk),
+        steps,
+    };
+    Status::from(session(alloc, &mut lines, input, output, shelf))
+}

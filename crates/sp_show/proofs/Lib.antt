@@ -1,0 +1,5 @@
+pub mod WrittenParts
+pub mod WrittenSheets
+pub mod PacketSheets
+pub mod ShowEnds
+pub mod Answering

@@ -1,0 +1,4 @@
+pub mod Views
+pub mod Showing
+pub mod SheetBuffer
+pub mod SheetForms

@@ -1,0 +1,94 @@
+//! Writing a script: its sheets, its outline, its page for a browser, the sides of its cast or its packet to the sink (docs/RULES.md, "The program").
+ghost use Rattle.std.specs.Prelude.{◌≡◌, ◌+◌, true, false};
+ghost use Rattle.spec_text.specs.Limits.{raw_limit};
+ghost use Rattle.spec_machine.specs.Outlines.{outline_of};
+ghost use Rattle.spec_cast.specs.Said.{said_of};
+ghost use Rattle.spec_cast.specs.Sides.{sides_of};
+ghost use Rattle.sp_show.specs.Views.{HasView, LacksView, view_bytes};
+ghost use Rattle.sp_words.specs.Forms.{origin_of};
+ghost use Rattle.sp_opening.specs.Opening.{LeavesSource, LeavesShelf};
+ghost use Rattle.sp_show.specs.Showing.{EndsAs};
+ghost use Rattle.sp_opening.specs.Unopened.{ReadsUpTo, outside};
+ghost use Rattle.sp_words.specs.Written.{IsWritten};
+
+use crate::sheets::{write_packet, write_pages, write_sheets};
+use sp_cast::sides;
+use sp_contents::{outline_text, said};
+use sp_kit::{Shelf, Sink, Source, Steps, write_whole};
+use sp_opening::open_state;
+use sp_state::Script;
+use sp_words::{Origin, Status, View};
+use std::alloc::Global;
+
+/// Writes a view of a script.
+pub fn show_script<I: Source, O: Sink, F: Shelf, S: Steps>(
+    alloc: Global,
+    view: View,
+    origin: Origin<'_>,
+    input: &mut I,
+    output: &mut O,
+    shelf: &mut F,
+    steps: &mut S,
+) -> Result<(), Status>
+    ensures ends { EndsAs view (origin_of origin.entry) (outside (I.state input.old) (O.state output.old) (F.state shelf.old)) (outside (I.state input.new) (O.state output.new) (F.state shelf.new)) result }
+    ensures budget { ReadsUpTo (I.state input.old).unread (I.state input.new).unread (raw_limit + 1) }
+    ensures source_kept { LeavesSource (origin_of origin.entry) input.old input.new }
+    ensures shelf_kept { LeavesShelf (origin_of origin.entry) shelf.old shelf.new }
+    ensures files_kept { (F.state shelf.new).files ≡ (F.state shelf.old).files }
+{
+    let opened = open_state(alloc, origin, input, shelf)?;
+    let script = Script::open(alloc, opened.lines, opened.records, steps)?;
+    if lacks_view(view, &script) {
+        return Err(Status::NotLocked);
+    }
+    write_view(alloc, view, &script, output)
+}
+
+/// Whether a script hasn't this view: a packet where its pages aren't locked, and no other.
+fn lacks_view(view: View, script: &Script) -> bool
+    ensures lacks { result ≡ true → LacksView view script.now }
+    ensures has { result ≡ false → HasView view script.now }
+{
+    match view {
+        View::Packet => script.records().pages.is_none(),
+        _ => false,
+    }
+}
+
+/// Writes a view of a script that was opened.
+fn write_view<O: Sink>(
+    alloc: Global,
+    view: View,
+    script: &Script,
+    output: &mut O,
+) -> Result<(), Status>
+    requires { HasView view script.now }
+    ensures { IsWritten (O.state output.old) (O.state output.new) (view_bytes view script.now) result }
+{
+    match view {
+        View::Sheets => write_sheets(alloc, script, output),
+        View::Outline => write_outline(alloc, script, output),
+        View::Html => write_pages(alloc, script, output),
+        View::Cast => write_cast(alloc, script, output),
+        View::Packet => write_packet(alloc, script, output),
+    }
+}
+
+/// Writes the outline of a script, which is made whole first.
+fn write_outline<O: Sink>(alloc: Global, script: &Script, output: &mut O) -> Result<(), Status>
+    ensures { IsWritten (O.state output.old) (O.state output.new) (outline_of script.now) result }
+{
+    let text = outline_text(alloc, script)?;
+    write_whole(output, text.as_bytes())?;
+    Ok(())
+}
+
+/// Writes the sides of a script's cast, which are made whole first.
+fn write_cast<O: Sink>(alloc: Global, script: &Script, output: &mut O) -> Result<(), Status>
+    ensures { IsWritten (O.state output.old) (O.state output.new) (sides_of (said_of script.now)) result }
+{
+    let said = said(alloc, script)?;
+    let text = sides(alloc, &said)?;
+    write_whole(output, text.as_bytes())?;
+    Ok(())
+}
