@@ -1,6 +1,6 @@
 """Times `print` on scripts of 1, 2, 4, 8 and 16 MiB, beside `fold -s -w 60 FILE | pr -l 57` on the same file in the same run,
 and on scripts of 25,000 to 200,000 lines that a careless reader is slow on; and sessions of `desk` on scripts of 2,000 to
-200,000 lines: the opening, a splice and an undo.
+200,000 lines: the opening, a splice and an undo; and of many edits and undos of 200,000 lines, beside `print` of them.
 
 For each kind of script and each size it prints the time of `print`, MB/s, the peak memory over the size of the input, how
 much longer it took than at half the size, the ratio to `fold | pr`, and that of `html` to `print`. Each time is the least of several runs.
@@ -25,6 +25,8 @@ HTML = '"$PROGRAM" html "$FILE" > /dev/null'
 DESK = '"$PROGRAM" desk "$FILE" < "$FILE.commands" > /dev/null'
 # How many splices a session has, and how many undos.
 EDITS = 200
+# How many edits and undos of 200,000 lines are timed beside `print`.
+EDITED = 2_000
 # A script has at most 16,777,216 bytes with a line end behind its last line.
 MOST_BYTES = 16_777_215
 
@@ -114,6 +116,25 @@ def session(lines, splices, undos):
     return "".join(json.dumps(command) + "\n" for command in commands)
 
 
+def turned(edits):
+    """These edits, and as many undos."""
+    return edits + [{"do": "undo"}] * len(edits)
+
+
+def apart(count):
+    """Splices of lines that are far from one another, one after another, as in row after row of a script of short actions."""
+    return [{"do": "splice", "line": 100 * k, "from": 2, "to": 2, "text": "b"} for k in range(count)]
+
+
+def anywhere(lines, count):
+    """Splices of actions at random places of short scenes."""
+    rng = random.Random(count)
+    return [{"do": "splice", "line": rng.randrange(lines // 11) * 11 + 2, "from": 0, "to": 0, "text": "Now. "} for _ in range(count)]
+
+
+LOCKS = [{"do": "lock_scenes"}, {"do": "lock_pages"}, {"do": "next_round"}]
+
+
 def seats(lines, behind, form):
     """1,000 splices of the first lines, and then some near the end of so many lines, by ten seats in turn that are each so many versions
     behind; `desk` is asked the same."""
@@ -163,14 +184,24 @@ def peak_memory(path):
     return peak
 
 
+def session_peak(path, commands):
+    """The peak memory of one session in bytes: asked for before each piece of its replies is read."""
+    peak = 0
+    with open(commands, "rb") as asked:
+        with subprocess.Popen([PROGRAM, "desk", path], stdin=asked, stdout=subprocess.PIPE) as process:
+            while process.stdout.read1(1 << 16):
+                peak = max(peak, resident_peak(process))
+    return peak
+
+
 def main():
     parser = argparse.ArgumentParser()
-    parser.add_argument("--kind", choices=sorted([*KINDS, *LINES, "session", "locks", "cast", "collate", "room"]), action="append")
+    parser.add_argument("--kind", choices=sorted([*KINDS, *LINES, "session", "edits", "locks", "cast", "collate", "room"]), action="append")
     parser.add_argument("--runs", type=int, default=5)
     parser.add_argument("--most", type=int, default=16)
     options = parser.parse_args()
     subprocess.run([TOP / "run", "print"], stdin=subprocess.DEVNULL, check=True)
-    kinds = options.kind or [*KINDS, *LINES, "session", "locks", "cast", "collate", "room"]
+    kinds = options.kind or [*KINDS, *LINES, "session", "edits", "locks", "cast", "collate", "room"]
     with tempfile.TemporaryDirectory() as folder:
         folder = pathlib.Path(folder)
         if sizes := [kind for kind in kinds if kind in KINDS]:
@@ -179,6 +210,8 @@ def main():
             time_lines(folder, lines, options)
         if "session" in kinds:
             time_sessions(folder, options)
+        if "edits" in kinds:
+            time_edits(folder, options)
         if "locks" in kinds:
             time_locks(folder, options)
         if "cast" in kinds:
@@ -239,6 +272,32 @@ def time_sessions(folder, options):
             times.append(least(DESK, path, 1 if lines == 200_000 else options.runs))
         opened, spliced, undone = times
         print(f"{'session':10} {lines:7} {opened:9.4f} {(spliced - opened) / EDITS:9.5f} {(undone - spliced) / EDITS:9.5f}", flush=True)
+
+
+def time_edits(folder, options):
+    """Times many edits of 200,000 lines and their undos beside `print` of the same script in the same run, and prints the memory that they add."""
+    print(f"{'kind':24} {'print s':>9} {'session s':>9} {'/ print':>8} {'an edit s':>9} {'an undo s':>9} {'more MB':>8}")
+    actions, scenes = "!a\n\n" * 100_000, SCENE * (200_000 // 11)
+    for kind, text, before, edits in (
+        ("lines far apart", actions, [], apart(EDITED)),
+        ("random places", scenes, [], anywhere(200_000, EDITED)),
+        ("lines apart, locked", actions, LOCKS, apart(EDITED)),
+        ("random places, locked", scenes, LOCKS, anywhere(200_000, EDITED)),
+    ):
+        path = folder / "edits"
+        commands = folder / "edits.commands"
+        path.write_text(text)
+        printed = least('"$PROGRAM" print "$FILE" > /dev/null', path, options.runs)
+        times, peaks = [], []
+        for session in (before, before + edits, before + turned(edits)):
+            commands.write_text("".join(json.dumps(command) + "\n" for command in session))
+            times.append(least(DESK, path, options.runs))
+            peaks.append(session_peak(path, commands))
+        opened, edited, undone = times
+        print(
+            f"{kind:24} {printed:9.4f} {undone:9.4f} {undone / printed:8.2f} {(edited - opened) / EDITED:9.6f} {(undone - edited) / EDITED:9.6f} {(peaks[2] - peaks[0]) / 1e6:8.1f}",
+            flush=True,
+        )
 
 
 def time_cast(folder, options):
