@@ -118,7 +118,7 @@ def session(lines, splices, undos):
 
 def turned(edits):
     """These edits, and as many undos."""
-    return edits + [{"do": "undo"}] * len(edits)
+    return edits + UNDO * len(edits)
 
 
 def apart(count):
@@ -132,6 +132,7 @@ def anywhere(lines, count):
     return [{"do": "splice", "line": rng.randrange(lines // 11) * 11 + 2, "from": 0, "to": 0, "text": "Now. "} for _ in range(count)]
 
 
+UNDO = [{"do": "undo"}]
 LOCKS = [{"do": "lock_scenes"}, {"do": "lock_pages"}, {"do": "next_round"}]
 
 
@@ -289,7 +290,8 @@ def time_edits(folder, options):
         path.write_text(text)
         printed = least('"$PROGRAM" print "$FILE" > /dev/null', path, options.runs)
         times, peaks = [], []
-        for session in (before, before + edits, before + turned(edits)):
+        # A refused undo is answered, so that there is a reply to ask for the memory before.
+        for session in (before + UNDO, before + edits, before + turned(edits)):
             commands.write_text("".join(json.dumps(command) + "\n" for command in session))
             times.append(least(DESK, path, options.runs))
             peaks.append(session_peak(path, commands))
