@@ -25,7 +25,7 @@ HTML = '"$PROGRAM" html "$FILE" > /dev/null'
 DESK = '"$PROGRAM" desk "$FILE" < "$FILE.commands" > /dev/null'
 # How many splices a session has, and how many undos.
 EDITS = 200
-# How many edits and undos of 200,000 lines are timed beside `print`.
+# How many edits and undos of 200,000 lines are timed beside `print`, where pages aren't locked.
 EDITED = 2_000
 # A script has at most 16,777,216 bytes with a line end behind its last line.
 MOST_BYTES = 16_777_215
@@ -282,8 +282,8 @@ def time_edits(folder, options):
     for kind, text, before, edits in (
         ("lines far apart", actions, [], apart(EDITED)),
         ("random places", scenes, [], anywhere(200_000, EDITED)),
-        ("lines apart, locked", actions, LOCKS, apart(EDITED)),
-        ("random places, locked", scenes, LOCKS, anywhere(200_000, EDITED)),
+        ("lines apart, locked", actions, LOCKS, apart(EDITS)),
+        ("random places, locked", scenes, LOCKS, anywhere(200_000, EDITS)),
     ):
         path = folder / "edits"
         commands = folder / "edits.commands"
@@ -297,7 +297,7 @@ def time_edits(folder, options):
             peaks.append(session_peak(path, commands))
         opened, edited, undone = times
         print(
-            f"{kind:24} {printed:9.4f} {undone:9.4f} {undone / printed:8.2f} {(edited - opened) / EDITED:9.6f} {(undone - edited) / EDITED:9.6f} {(peaks[2] - peaks[0]) / 1e6:8.1f}",
+            f"{kind:24} {printed:9.4f} {undone:9.4f} {undone / printed:8.2f} {(edited - opened) / len(edits):9.6f} {(undone - edited) / len(edits):9.6f} {(peaks[2] - peaks[0]) / 1e6:8.1f}",
             flush=True,
         )
 
