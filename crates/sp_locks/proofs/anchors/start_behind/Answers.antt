@@ -1,0 +1,12 @@
+use Rattle.std.proofs.Common.{ap, sym, ◌∙◌}
+use Rattle.spec_labels.specs.PageRecords.{PageRecordOf}
+use Rattle.sp_locks.proofs.PlaceLaws.{one-anchor}
+use Rattle.sp_locks.proofs.anchors.start_behind.Goals as goal
+
+pub returns-in-Some : goal.returns-in-Some
+returns-in-Some c =
+    let one : PageRecordOf = c.in-Some.other.now in
+    let line = sym (ap (λ (it : PageRecordOf). it.line) c.other.view_is) ∙ c.if-other-record.true ∙ ap (λ (it : PageRecordOf). it.line) c.record.view_is in
+    let row = sym (ap (λ (it : PageRecordOf). it.row) c.other.view_is) ∙ c.if-other-record-2.true ∙ ap (λ (it : PageRecordOf). it.row) c.record.view_is in
+    c.requires.before c.in-Some.other c.in-Some.is
+    ∙ one-anchor c.args.lines.now.lines c.args.rows.now one c.args.record.now line row
