@@ -4,7 +4,11 @@ ghost use Rattle.sp_splice.specs.Runs.{Poured, exchanged};
 
 use std::alloc::AllocError;
 
-/// Makes room for so many items in all. On an error the list has the room that it had.
+/// One part of so many is the room that a list gets beside what is asked for.
+const MORE_ROOM: usize = 16;
+
+/// Makes room for so many items in all, and where there was none for some more: a list that was made whole would else take twice
+/// its memory at its first change. On an error the list has the room that it had.
 pub fn make_room<T>(list: &mut Vec<T>, total: usize) -> Result<(), AllocError>
     ensures items { list.new.items ≡ list.old.items }
     ensures len { vec_len list.new ≡ vec_len list.old }
@@ -13,7 +17,11 @@ pub fn make_room<T>(list: &mut Vec<T>, total: usize) -> Result<(), AllocError>
     ensures succeeds { total ≤ vec_capacity list.old → IsOk result }
     ensures err { OnErr result (vec_capacity list.new ≡ vec_capacity list.old) }
 {
-    list.reserve(total.saturating_sub(list.len()))
+    if total <= list.capacity() {
+        return Ok(());
+    }
+    let more = total.saturating_add(total / MORE_ROOM);
+    list.reserve_exact(more.saturating_sub(list.len()))
 }
 
 /// Takes so many items off the end of a list and puts them behind another, the last first.
