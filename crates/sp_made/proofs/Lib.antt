@@ -5,3 +5,4 @@ mod PageRows
 pub mod SheetPlaces
 pub mod MadeLaws
 pub mod StopsMade
+mod LinesOfHeadings

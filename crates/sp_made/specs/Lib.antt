@@ -2,3 +2,4 @@ pub mod Numbered
 pub mod Numbers
 pub mod Made
 pub mod Places
+pub mod HeadingLines

@@ -1,19 +1,21 @@
 //! The headings of a script.
-ghost use Rattle.std.specs.Prelude.{◌≡◌, ◌==◌, None, if◌then◌else◌, length, map, filter, nat_le, option_and_then, option_map, string_bytes, All, IfOk, IfSome};
+ghost use Rattle.std.specs.Prelude.{◌≡◌, ◌++◌, ◌==◌, None, if◌then◌else◌, length, map, filter, nat_le, option_and_then, string_bytes, All, IfOk, OnOk};
 ghost use Rattle.std.specs.List.{list_all};
 ghost use Rattle.spec_text.specs.Lines.{line_texts};
 ghost use Rattle.spec_text.specs.Parts.{Parts};
 ghost use Rattle.spec_script.specs.BlockParts.{BlockLies};
 ghost use Rattle.spec_script.specs.Elements.{placed_at, PlacedLies};
+ghost use Rattle.spec_script.specs.Stanzas.{blocks_from};
 ghost use Rattle.spec_labels.specs.LabelReading.{label_read};
-ghost use Rattle.spec_labels.specs.Scenes.{AreHeadings, AreSceneRecords, locked_labels};
-ghost use Rattle.spec_state.specs.Headings.{as_scene_label, heading_of, is_heading_block, letter_limit};
+ghost use Rattle.spec_state.specs.Headings.{as_scene_label, heading_of, is_heading_block, is_heading_kind, letter_limit};
+ghost use Rattle.sp_made.specs.HeadingLines.{heading_line, heading_lines};
 ghost use Rattle.sp_made.specs.Numbers.{parts_text};
 
-use sp_blocks::{Block, Kind};
+use sp_blocks::{Block, Kind, Stanza};
 use sp_labels::{Label, parse};
 use sp_layout::PlacedBlock;
-use sp_scenes::{HeadingAt, SceneRecord, numbers};
+use sp_reread::Stanzas;
+use sp_scenes::HeadingAt;
 use sp_text::Lines;
 use spec_text::Span;
 use std::alloc::{AllocError, Global};
@@ -107,8 +109,7 @@ pub fn heading_at(
 fn is_heading(placed: &PlacedBlock<'_>) -> bool
     ensures { result ≡ is_heading_block placed.now }
 {
-    let block = placed.block;
-    matches!(block.kind, Kind::Heading)
+    is_heading_block(placed.block)
 }
 
 /// The headings among blocks that lie in the lines, in order (docs/RULES.md, "Scene numbers"). `AllocError` comes for
@@ -130,18 +131,53 @@ pub fn headings_among(
     Ok(headings)
 }
 
-/// The labels of headings, where scenes are locked.
-pub fn scene_labels(
-    alloc: Global,
-    headings: &[HeadingAt],
-    scenes: &Option<Vec<SceneRecord>>,
-) -> Result<Option<Vec<Label>>, AllocError>
-    requires headings { AreHeadings headings.now }
-    requires records { IfSome scenes.now (λ records. AreSceneRecords records.items) }
-    ensures { IfOk result (λ labels. option_map (λ those. those.items) labels ≡ option_map (λ records. locked_labels records.items headings.now) scenes.now) }
+/// Whether a block is a heading.
+fn is_heading_block(block: &Block) -> bool
+    ensures { result ≡ is_heading_kind (block.now).kind }
 {
-    match scenes {
-        None => Ok(None),
-        Some(records) => Ok(Some(numbers(alloc, headings, Some(records.as_slice()))?)),
+    matches!(block.kind, Kind::Heading)
+}
+
+/// The id of the line that a block begins with, in a stanza which begins at a line.
+fn line_of_block(lines: &Lines, first: usize, block: &Block) -> u64
+    requires { BlockLies (line_texts lines.now.lines) first block.now }
+    ensures { result ≡ heading_line lines.now.lines (placed_at first block.now) }
+{
+    let line = lines.line(first + block.first as usize);
+    line.id
+}
+
+/// Adds the lines of the headings of the stanza that begins at a place.
+fn add_heading_lines(
+    ids: &mut Vec<u64>,
+    lines: &Lines,
+    first: usize,
+    stanza: &Stanza,
+) -> Result<(), AllocError>
+    requires { All (BlockLies (line_texts lines.now.lines) first) (stanza.now).blocks }
+    ensures { OnOk result (ids.new.items ≡ ids.old.items ++ heading_lines lines.now.lines (map (placed_at first) (stanza.now).blocks)) }
+{
+    for block in &stanza.blocks {
+        if is_heading_block(block) {
+            ids.push(line_of_block(lines, first, block))?;
+        }
     }
+    Ok(())
+}
+
+/// The ids of the lines of the headings of stanzas that lie in the lines, in order. `AllocError` comes for want of memory
+/// alone.
+pub fn heading_lines(
+    alloc: Global,
+    lines: &Lines,
+    stanzas: &Stanzas,
+) -> Result<Vec<u64>, AllocError>
+    requires { All (PlacedLies (line_texts lines.now.lines)) (blocks_from 0 stanzas.now.stanzas) }
+    ensures { IfOk result (λ ids. ids.items ≡ heading_lines lines.now.lines (blocks_from 0 stanzas.now.stanzas)) }
+{
+    let mut ids = Vec::new(alloc);
+    for i in 0..stanzas.len() {
+        add_heading_lines(&mut ids, lines, stanzas.lines_before(i), stanzas.stanza(i))?;
+    }
+    Ok(ids)
 }

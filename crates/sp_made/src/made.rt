@@ -16,7 +16,7 @@ ghost use Rattle.sp_reflow.specs.Filling.{FilledAtMost};
 ghost use Rattle.sp_relay.specs.Kept.{laid_of};
 ghost use Rattle.sp_made.specs.Made.{AreStopsOf, AskedOfPages, IsLaidOf, IsMadeOf, IsNumberedOf, key_starts, marked_or_locked};
 
-use crate::headings::{headings_among, scene_labels};
+use crate::headings::heading_lines;
 use crate::numbered::marked_sheets;
 use crate::stops::merged_stops;
 use sp_kit::{Counter, Steps};
@@ -27,6 +27,7 @@ use sp_records::Records;
 use sp_reflow::Pages;
 use sp_relay::KeptLayout;
 use sp_reread::Stanzas;
+use sp_scenes::numbers_of_lines;
 use sp_text::Lines;
 use spec_pages::Paper;
 use std::alloc::{AllocError, Global};
@@ -90,13 +91,13 @@ fn made_labels(
     requires stanzas { stanzas.now.stanzas ≡ stanzas_of (line_texts lines.now.lines) }
     ensures { IfOk result (λ labels. option_map (λ those. those.items) labels ≡ heading_labels lines.now.lines records.now.scenes) }
 {
-    if records.scenes.is_none() {
-        return Ok(None);
+    match &records.scenes {
+        None => Ok(None),
+        Some(scenes) => {
+            let ids = heading_lines(alloc, lines, stanzas)?;
+            Ok(Some(numbers_of_lines(alloc, &ids, scenes.as_slice())?))
+        }
     }
-    let blocks = placed_blocks(alloc, stanzas)?;
-    let headings = headings_among(alloc, lines, &blocks)?;
-    let labels = scene_labels(alloc, &headings, &records.scenes)?;
-    Ok(labels)
 }
 
 /// The first rows of the title sheets. Their fills aren't counted with those of the body.

@@ -1,3 +1,4 @@
 pub mod RecordLabels
 pub mod LinePlaces
 pub mod NewLabels
+pub mod LineLabels

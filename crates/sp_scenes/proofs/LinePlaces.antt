@@ -1,92 +1,91 @@
--- The place of a line's record among the first records.
-use Rattle.std.proofs.Common.{◌≡◌, ℕ, ◌+◌, ◌<◌, ◌==◌, Bool, true, false, not, List, [], ◌∷◌, ◌++◌, length, cond, get_or, take, nat_lt, eqb-true, eq-eqb, ltb-true, ltb-false, ne_eqb, nat_cmp, Less, Equal, Greater, ⊎_elim, refl, ap, sym, ◌∙◌, subst, length-append, arith}
-use Rattle.std.specs.Prelude.{Option, Some, None, position}
-use Rattle.std.specs.List.{position_or_len}
-use Rattle.std.specs.Ordering.{is_eq}
-use Rattle.std.specs.BTreeMap.{is_at}
-use Rattle.std.proofs.lemmas.Bool.{cases_Bool}
-use Rattle.std.proofs.lemmas.Grind.{common_steps}
-use Rattle.std.proofs.lemmas.List.{take_more, get_or-take}
-use Rattle.std.proofs.lemmas.List.Folds.{position_or_len_push}
-use Rattle.std.proofs.lemmas.List.Quantifiers.{position-Some}
-use Rattle.std.proofs.lemmas.List.Sums.{prefix_len-le-length}
+-- The place of a line's record, as the entries tell it.
+use Rattle.std.proofs.Common.{◌≡◌, ℕ, ◌+◌, ◌<◌, ◌≢◌, eqb, ltb, cond, List, [], ◌∷◌, ◌++◌, length, get_or, Ok, Err, Some, None, Option, sym, ap, ◌∙◌, subst, inl, inr, arith, All}
+use Rattle.std.specs.List.{Contains}
+use Rattle.std.specs.List.Sorted.{IsSearchInRange, IsBinarySearchResult, IsNonDecreasingBy, IsPermutation}
+use Rattle.std.specs.Ordering.{nat_cmp, ordering_index}
+use Rattle.std.proofs.lemmas.Bool.{cases_lt, eq-eqb, ne_eqb, lt-ltb, le-ltb}
+use Rattle.std.proofs.lemmas.Bool.Decides.{nat_tests}
+use Rattle.std.proofs.lemmas.Cmp.{ranked}
+use Rattle.std.proofs.lemmas.List.{get_or-map}
+use Rattle.std.proofs.lemmas.List.Elements.{All-push, Contains-append_left, Contains-push}
+use Rattle.std.proofs.lemmas.List.Sorted.{All-permutation, Contains-permutation}
+use Rattle.std.proofs.lemmas.List.Sums.{position_or_len_is}
 use Rattle.spec_labels.specs.Scenes.{SceneRecordOf, AreSceneRecords, line_place}
+use Rattle.sp_scenes.specs.declared.places.LinePlace.{LinePlace}
+use Rattle.sp_scenes.specs.LinePlaces.{record_lines, entry_at, Stands, ArePlaces}
 
--- The first place that passes in a list with one more element, which passes only where no other does.
-position-push : {X : Type 0} (p : X → Bool) (xs : List X) (y : X) → (p y ≡ true → position_or_len p xs ≡ length xs)
-    → position p (xs ++ y ∷ []) ≡ cond (p y) (Some (length xs)) (position p xs)
-position-push {X = X} p xs y alone = ⊎_elim yes no_more (cases_Bool (p y))
-  where
-    long : length (xs ++ y ∷ []) ≡ length xs + 1
-    long = length-append xs (y ∷ [])
+pub line-at : (records : List SceneRecordOf) (place : ℕ) (d : SceneRecordOf) → place < length records → (get_or records place d).line ≡ get_or (record_lines records) place 0
+line-at records place d inside = sym (get_or-map (λ (it : SceneRecordOf). it.line) records place d 0 inside)
 
-    yes : p y ≡ true → position p (xs ++ y ∷ []) ≡ cond (p y) (Some (length xs)) (position p xs)
-    yes passes =
-        let here : position_or_len p xs ≡ length xs = alone passes in
-        let at : position_or_len p (xs ++ y ∷ []) ≡ length xs =
-        position_or_len_push p xs y
-        ∙ ap (λ b. cond b (length xs + cond (p y) 0 1) (position_or_len p xs)) (eq-eqb (position_or_len p xs) (length xs) here)
-        ∙ ap (λ b. length xs + cond b 0 1) passes ∙ omega arith in
-        grind (arith, at, long, passes)
+-- A record with the line is the only one.
+pub place-only : (records : List SceneRecordOf) (place line : ℕ) (d : SceneRecordOf) → AreSceneRecords records → place < length records → (get_or records place d).line ≡ line → Some place ≡ line_place records line
+place-only records place line d are inside is =
+    let test = λ (it : SceneRecordOf). eqb it.line line in
+    let first = position_or_len_is test records place d (omega arith) (λ k below. ne_eqb _ line (λ same. are.distinct k place d below inside (same ∙ sym is))) (λ within. eq-eqb _ line is) in
+    sym (ap (λ n. cond (ltb n (length records)) (Some n) None) first ∙ ap (λ b. let o : Option ℕ = cond b (Some place) None in o) (lt-ltb place (length records) inside))
 
-    no_more : p y ≡ false → position p (xs ++ y ∷ []) ≡ cond (p y) (Some (length xs)) (position p xs)
-    no_more fails = grind (arith, position_or_len_push p xs y, long, fails, prefix_len-le-length (λ x. not (p x)) xs)
+place-none : (records : List SceneRecordOf) (line : ℕ) (d : SceneRecordOf) → ((k : ℕ) → k < length records → (get_or records k d).line ≢ line) → None ≡ line_place records line
+place-none records line d none =
+    let test = λ (it : SceneRecordOf). eqb it.line line in
+    let all = position_or_len_is test records (length records) d (omega arith) (λ k below. ne_eqb _ line (none k below)) (λ within. absurd (omega arith)) in
+    sym (ap (λ n. cond (ltb n (length records)) (Some n) None) all ∙ ap (λ b. let o : Option ℕ = cond b (Some (length records)) None in o) (le-ltb (length records) (length records) (omega arith)))
 
--- No earlier record has the line of a record.
-line-alone : (records : List SceneRecordOf) (i : ℕ) (d : SceneRecordOf) → AreSceneRecords records → i < length records
-    → position_or_len (λ (it : SceneRecordOf). it.line == (get_or records i d).line) (take i records) ≡ length (take i records)
-line-alone records i d are within = ⊎_elim found past (cases_Bool (nat_lt (position_or_len is_it first) (length first)))
-  where
-    line : ℕ
-    line = (get_or records i d).line
+module _ (records : List SceneRecordOf) (places : List LinePlace) (are : ArePlaces records places) (line : ℕ) where
+  -- the comparisons with the line rise along the entries, as a binary search asks
+  comparisons_rise : IsNonDecreasingBy (λ (entry : LinePlace). ordering_index (nat_cmp entry.line line)) places
+  comparisons_rise = λ i j d le inside. (let rise = are.sorted i j d le inside in grind (arith, nat_tests, rise))
 
-    is_it : SceneRecordOf → Bool
-    is_it it = it.line == line
+  -- A search that found an entry found the record's place.
+  pub place-found : (found : ℕ) (d : LinePlace) → AreSceneRecords records → IsSearchInRange (Ok found) (length places) → IsBinarySearchResult (λ (it : LinePlace). nat_cmp it.line line) places (Ok found)
+      → Some (get_or places found d).place ≡ line_place records line
+  place-found found d kept inside equal =
+      let entry = get_or places found d in
+      let stands : Stands records entry = are.stand found d inside in
+      let same : entry.line ≡ line = ranked _ line _ (sym (equal d)) in
+      let none : SceneRecordOf = record { label = record { number = 0; path = [] }; line = 0 } in
+      place-only records entry.place line none kept stands.inside (line-at records entry.place none stands.inside ∙ stands.is ∙ same)
 
-    first : List SceneRecordOf
-    first = take i records
+  -- A search that found none shows that no record has the line.
+  pub place-missing : (end : ℕ) → IsBinarySearchResult (λ (it : LinePlace). nat_cmp it.line line) places (Err end) → None ≡ line_place records line
+  place-missing end parted =
+      let d : SceneRecordOf = record { label = record { number = 0; path = [] }; line = 0 } in
+      place-none records line d (λ k below same.
+      let entry = entry_at records k in
+      let (at, inside, is) = are.known k below in
+      let here : (get_or places at entry).line ≡ line = ap (λ (it : LinePlace). it.line) is ∙ sym (line-at records k d below) ∙ same in
+      elim (cases_lt at end) [
+        | inl low ↦ omega (arith, ranked (get_or places at entry).line line _ (sym ((parted comparisons_rise).0 at entry (omega arith) low)), here)
+        | inr high ↦ omega (arith, ranked (get_or places at entry).line line _ (sym ((parted comparisons_rise).1 at entry high inside)), here)
+      ])
 
-    found : nat_lt (position_or_len is_it first) (length first) ≡ true → position_or_len is_it first ≡ length first
-    found less =
-        let j : ℕ = position_or_len is_it first in
-        let (inside, passes, before) = position-Some is_it first j d (ap (λ b. cond b (Some j) None) less) in
-        let lower : j < i = grind (arith, common_steps) in
-        let same : (get_or records j d).line ≡ line = ap (λ (it : SceneRecordOf). it.line) (sym (get_or-take i records j d lower)) ∙ eqb-true (get_or first j d).line line passes in
-        absurd (are.distinct j i d lower within same)
+-- The entries of the first records.
+pub record ArePlacesOf (count : ℕ) (records : List SceneRecordOf) (places : List LinePlace) : Type 0 where
+  pub stand : All (Stands records) places
+  pub known : (place : ℕ) → place < count → Contains places (entry_at records place)
 
-    past : nat_lt (position_or_len is_it first) (length first) ≡ false → position_or_len is_it first ≡ length first
-    past more = omega (arith, ltb-false (position_or_len is_it first) (length first) more, prefix_len-le-length (λ x. not (is_it x)) first)
+pub ArePlacesOf-more : (count line : ℕ) (records : List SceneRecordOf) (d : SceneRecordOf) (old new : List LinePlace) → count < length records → line ≡ (get_or records count d).line
+    → new ≡ old ++ record { line = line; place = count } ∷ [] → ArePlacesOf count records old → ArePlacesOf (count + 1) records new
+ArePlacesOf-more count line records d old new inside is pushed are =
+    let entry : LinePlace = record { line = line; place = count } in
+    let here : line ≡ get_or (record_lines records) count 0 = is ∙ line-at records count d inside in
+    let same : entry ≡ entry_at records count = ap (λ n. let it : LinePlace = record { line = n; place = count } in it) here in
+    let P : List LinePlace → Type 0 = λ places. ArePlacesOf (count + 1) records places in
+    subst P (sym pushed) (record {
+      stand = All-push (Stands records) old entry are.stand (record { inside = inside; is = sym here });
+      known = λ place below. elim (cases_lt place count) [
+        | inl low ↦ Contains-append_left old (entry ∷ []) (entry_at records place) (are.known place low)
+        | inr high ↦
+            let last : count ≡ place = omega arith in
+            let Q : LinePlace → Type 0 = λ it. Contains (old ++ entry ∷ []) it in
+            subst Q (same ∙ ap (entry_at records) last) (Contains-push old entry)
+      ];
+    })
 
--- With one record more its line has its place, and every other line the place that it had.
-line_place-more : (records : List SceneRecordOf) (i line : ℕ) (d : SceneRecordOf) → AreSceneRecords records → i < length records
-    → line_place (take (i + 1) records) line ≡ cond ((get_or records i d).line == line) (Some i) (line_place (take i records) line)
-line_place-more records i line d are within =
-    let is_it : SceneRecordOf → Bool = λ it. it.line == line in
-    let long : length (take i records) ≡ i = grind (arith, common_steps) in
-    let alone : is_it (get_or records i d) ≡ true → position_or_len is_it (take i records) ≡ length (take i records) =
-    λ passes. subst (λ l. position_or_len (λ (it : SceneRecordOf). it.line == l) (take i records) ≡ length (take i records)) (eqb-true (get_or records i d).line line passes) (line-alone records i d are within) in
-    ap (λ rs. line_place rs line) (take_more records i d within)
-    ∙ position-push is_it (take i records) (get_or records i d) alone
-    ∙ ap (λ n. cond (is_it (get_or records i d)) (Some n) (line_place (take i records) line)) long
-
--- The order of numbers tells which are equal.
-same-number : (a b : ℕ) → is_eq (nat_cmp a b) ≡ (a == b)
-same-number a b =
-    let test : Bool → Bool = λ less. is_eq (cond less Less (cond (a == b) Equal Greater)) in
-    ⊎_elim
-    (λ less. ap test less ∙ sym (ne_eqb a b (λ e. omega (arith, e, ltb-true a b less))))
-    (λ past. ap test past ∙ by (a == b))
-    (cases_Bool (nat_lt a b))
-  where
-    by : (same : Bool) → is_eq (cond same Equal Greater) ≡ same
-    by true = refl
-    by false = refl
-
--- So a table by line that has the first records has one more with this entry.
-pub entry-more : (records : List SceneRecordOf) (i line at_line : ℕ) (d : SceneRecordOf) (old new : Option ℕ) → AreSceneRecords records → i < length records
-    → at_line ≡ (get_or records i d).line → old ≡ line_place (take i records) line → new ≡ cond (is_at (nat_cmp at_line) line) (Some i) old → new ≡ line_place (take (i + 1) records) line
-entry-more records i line at_line d old new are within here before is =
-    is
-    ∙ ap (λ b. cond b (Some i) old) (same-number at_line line ∙ ap (λ l. l == line) here)
-    ∙ ap (λ o. cond ((get_or records i d).line == line) (Some i) o) before
-    ∙ sym (line_place-more records i line d are within)
+-- Sorted, the entries of all records are their places.
+pub ArePlaces-sorted : (records : List SceneRecordOf) (all places : List LinePlace) (count : ℕ) → count ≡ length records → IsPermutation all places → IsNonDecreasingBy (λ (entry : LinePlace). entry.line) places
+    → ArePlacesOf count records all → ArePlaces records places
+ArePlaces-sorted records all places count whole permuted sorted are = record {
+  sorted = sorted;
+  stand = All-permutation (Stands records) all places permuted are.stand;
+  known = λ place below. Contains-permutation all places (entry_at records place) permuted (are.known place (omega (arith, whole)));
+}

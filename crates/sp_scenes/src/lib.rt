@@ -12,5 +12,5 @@ pub use extension::extend_scenes;
 pub use fault::SceneFault;
 pub use heading::{HeadingAt, SceneRecord};
 pub use locking::lock_scenes;
-pub use numbering::numbers;
+pub use numbering::{numbers, numbers_of_lines};
 pub use sp_labels::LockFault;

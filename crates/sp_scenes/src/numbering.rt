@@ -1,16 +1,16 @@
 ghost use Rattle.std.specs.Prelude.{◌≡◌, ℕ, ◌+◌, ◌<◌, ◌≤◌, ◌++◌, ◌∷◌, [], length, All, IfOk, OnOk, option_copied, unwrap_or, ◌^◌};
 ghost use Rattle.std.specs.Option.{ForSome};
-ghost use Rattle.std.specs.BTreeMap.{get};
-ghost use Rattle.std.specs.Ordering.{nat_cmp};
+ghost use Rattle.spec_text.specs.Limits.{line_count_limit};
 ghost use Rattle.spec_labels.specs.Labels.{IsLabel, plain_label};
-ghost use Rattle.spec_labels.specs.Scenes.{AreHeadings, AreSceneRecords, label_at, label_before, label_between, line_place, locked_labels, scene_labels, unlocked_labels};
+ghost use Rattle.spec_labels.specs.Scenes.{AreHeadings, AreSceneRecords, label_at, label_before, label_between, locked_labels, scene_labels, unlocked_labels};
+ghost use Rattle.sp_scenes.specs.LineLabels.{heading_lines, line_labels};
+ghost use Rattle.sp_scenes.specs.LinePlaces.{ArePlaces};
 ghost use Rattle.sp_scenes.specs.NewLabels.{new_labels};
 
 use crate::heading::{HeadingAt, SceneRecord};
-use crate::places::places_of;
+use crate::places::{LinePlace, place_of, places_of};
 use sp_labels::{Label, between};
 use std::alloc::{AllocError, Global};
-use std::collections::BTreeMap;
 
 /// The label of each heading, with the scene records where scenes are locked (docs/RULES.md, "Scene numbers"). It takes
 /// the headings of a text, at most 200,000: their places rise strictly, their ids are distinct, and a number is given
@@ -63,27 +63,75 @@ fn unlocked_label(alloc: Global, heading: &HeadingAt, before: u32) -> Result<Lab
     }
 }
 
+/// The label of the heading of each of these lines, where scenes are locked (docs/RULES.md, "Scene numbers"). It takes the
+/// ids of the lines of a text's headings in order, at most 200,000, and records as `numbers` does. `AllocError` comes for
+/// want of memory alone.
+pub fn numbers_of_lines(
+    alloc: Global,
+    lines: &[u64],
+    records: &[SceneRecord],
+) -> Result<Vec<Label>, AllocError>
+    requires lines { length lines.now ≤ line_count_limit }
+    requires records { AreSceneRecords records.now }
+    ensures numbers { IfOk result (λ labels. labels.items ≡ line_labels records.now lines.now) }
+    ensures labels { IfOk result (λ labels. All IsLabel labels.items) }
+{
+    locked_lines(alloc, lines, records, &places_of(alloc, records)?)
+}
+
 /// The labels with records, of which the places by line are given.
 pub(crate) fn locked(
     alloc: Global,
     headings: &[HeadingAt],
     records: &[SceneRecord],
-    places: &BTreeMap<u64, usize>,
+    places: &[LinePlace],
 ) -> Result<Vec<Label>, AllocError>
     requires headings { AreHeadings headings.now }
     requires records { AreSceneRecords records.now }
-    requires places { (line : ℕ) → get nat_cmp places.now line ≡ line_place records.now line }
+    requires places { ArePlaces records.now places.now }
     ensures numbers { IfOk result (λ labels. labels.items ≡ locked_labels records.now headings.now) }
     ensures count { IfOk result (λ labels. length labels.items ≡ length headings.now) }
     ensures labels { IfOk result (λ labels. All IsLabel labels.items) }
 {
-    let mut labels = Vec::with_capacity(alloc, headings.len())?;
-    let mut waiting = 0;
+    let lines = heading_lines(alloc, headings)?;
+    locked_lines(alloc, &lines, records, places)
+}
+
+/// The ids of the lines of headings.
+fn heading_lines(alloc: Global, headings: &[HeadingAt]) -> Result<Vec<u64>, AllocError>
+    ensures { IfOk result (λ lines. lines.items ≡ heading_lines headings.now) }
+{
+    let mut lines = Vec::with_capacity(alloc, headings.len())?;
     for heading in headings {
-        match places.get(&heading.id) {
+        lines.push(heading.id)?;
+    }
+    Ok(lines)
+}
+
+/// The labels of the headings of these lines, with records, of which the places by line are given. The record of a line is
+/// looked for directly behind that of the line before.
+fn locked_lines(
+    alloc: Global,
+    lines: &[u64],
+    records: &[SceneRecord],
+    places: &[LinePlace],
+) -> Result<Vec<Label>, AllocError>
+    requires few { length lines.now ≤ line_count_limit }
+    requires records { AreSceneRecords records.now }
+    requires places { ArePlaces records.now places.now }
+    ensures numbers { IfOk result (λ labels. labels.items ≡ line_labels records.now lines.now) }
+    ensures count { IfOk result (λ labels. length labels.items ≡ length lines.now) }
+    ensures labels { IfOk result (λ labels. All IsLabel labels.items) }
+{
+    let mut labels = Vec::with_capacity(alloc, lines.len())?;
+    let mut waiting = 0;
+    let mut guess = 0;
+    for line in lines {
+        match place_of(records, places, guess, *line) {
             Some(place) => {
-                push_recorded(alloc, &mut labels, records, *place, waiting)?;
+                push_recorded(alloc, &mut labels, records, place, waiting)?;
                 waiting = 0;
+                guess = place + 1;
             }
             None => waiting += 1,
         }
