@@ -1,6 +1,6 @@
 -- A command that finds no memory may read nothing and fill nothing.
-use Rattle.std.proofs.Common.{ℕ, Result, Ok, Err, refl, arith}
-use Rattle.spec_text.specs.Edits.{EditOf, replacement_of}
+use Rattle.std.proofs.Common.{ℕ, Err, refl, arith}
+use Rattle.spec_text.specs.Edits.{replacement_of}
 use Rattle.spec_text.specs.Lines.{line_texts}
 use Rattle.spec_text.specs.Ranges.{range_of}
 use Rattle.spec_state.specs.State.{State}

@@ -1,4 +1,5 @@
 pub mod EntryLaws
 pub mod Counting
+pub mod OutcomeLaws
 mod DeskSteps
 mod Labels

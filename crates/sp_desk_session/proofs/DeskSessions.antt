@@ -8,7 +8,7 @@ use Rattle.std.specs.Io.KnownBytes.{Appends}
 use Rattle.json.proofs.OnLiterals.{json_on_literals}
 use Rattle.serde_json.proofs.OnLiterals.{serde_json_on_literals}
 use Rattle.spec_session.specs.CommandLines.{command_lines}
-use Rattle.spec_session.specs.Runs.{Answered, AtShelf, Runs, left_by, output_of, steps_seen}
+use Rattle.spec_session.specs.Runs.{Answered, AtShelf, Counts, Runs, left_by, output_of, steps_seen}
 use Rattle.spec_session.specs.Sessions.{SessionEnds, streams}
 use Rattle.spec_session.specs.declared.SessionEnd.{SessionEnd}
 use Rattle.spec_session.specs.declared.SessionEnd.TheVariants as endings
@@ -26,6 +26,8 @@ use Rattle.sp_opening.specs.Records.{records_name}
 use Rattle.sp_opening.specs.Saving.{Changes, KeepsAllBut}
 use Rattle.sp_desk_session.specs.DeskLines.{NamedDesk, AnswersLine, RepliesTo, StopsAtLine, asks_save, answered_line, answered_lines, desk_at, desk_itself, line_step_by, other_step, saved_step, saves}
 use Rattle.sp_words.specs.Forms.{from_file}
+use Rattle.sp_desk_session.specs.Counted.{NotOpenedCounts}
+use Rattle.sp_opening.specs.Counted.{OpeningCounts}
 use Rattle.sp_opening.specs.Opening.{SameShelf}
 use Rattle.sp_opening.specs.Unopened.{Outside, Unopened}
 use Rattle.sp_desk_session.specs.DeskEnding.{AnsweredAll, AnsweredCalmly, CommandsEnd, CountsUnsaved, HeldSession, OpensDesk}
@@ -64,7 +66,7 @@ answer-touches before line after bytes it = by it.replies
     by (inr failed) = record { named = ap (λ (d : NamedDesk). d.name) failed.same; stored = inr (record { saves = failed.asks; failed = failed.failed }); follows = it.follows }
 
 stop-halts : (before : AtShelf NamedDesk) (line : List ℕ) (after : AtShelf NamedDesk) → StopsAtLine before line after → Halts (saves line) before after
-stop-halts before line after it = record { named = it.name; leaves = it.leaves }
+stop-halts before line after it = record { named = it.stops.name; leaves = it.stops.leaves }
 
 abbrev by_desk : Way
 by_desk = record { It = NamedDesk; desk = desk_itself; saves = saves; answers = AnswersLine; stops = StopsAtLine; touches = answer-touches; halts = stop-halts }
@@ -75,66 +77,75 @@ pub same-shelf : (old new : ShelfState) → SameShelf old new → new ≡ old
 same-shelf old new same = λ i. record { files = same.files i; faults = same.faults i }
 
 -- The session of a desk that was opened.
-pub session-held : (name : List ℕ) (old new : Outside) (between : ShelfState) (memory : Memory) (after : AtShelf NamedDesk) (end : SessionEnd) → OpensDesk old.shelf between name memory
-    → SessionEnds AnswersLine StopsAtLine (streams old.source old.sink) (streams new.source new.sink) (desk_at name memory between) after end → new.shelf ≡ after.shelf → HeldSession name old new end
-session-held name old new between memory after end opens ends left =
+pub session-held : (name : List ℕ) (old new : Outside) (from opened to : Counts) (between : ShelfState) (memory : Memory) (after : AtShelf NamedDesk) (end : SessionEnd) → OpensDesk old.shelf between name memory
+    → OpeningCounts memory.state from opened
+    → SessionEnds AnswersLine StopsAtLine (streams old.source old.sink) (streams new.source new.sink) (desk_at name memory between opened) after end → new.shelf ≡ after.shelf → to ≡ after.counts
+    → HeldSession name old new from to end
+session-held name old new from opened to between memory after end opens opening ends left counts =
     let same = same-shelf old.shelf between opens.same in
-    let before = desk_at name (opened_memory opens.state) old.shelf in
+    let before = desk_at name (opened_memory opens.state) old.shelf opened in
     let held : SessionEnds AnswersLine StopsAtLine (streams old.source old.sink) (streams new.source new.sink) before after end =
-    subst (λ (it : Memory). SessionEnds AnswersLine StopsAtLine (streams old.source old.sink) (streams new.source new.sink) (desk_at name it old.shelf) after end) opens.is
-    (subst (λ (it : ShelfState). SessionEnds AnswersLine StopsAtLine (streams old.source old.sink) (streams new.source new.sink) (desk_at name memory it) after end) same ends) in
+    subst (λ (it : Memory). SessionEnds AnswersLine StopsAtLine (streams old.source old.sink) (streams new.source new.sink) (desk_at name it old.shelf opened) after end) opens.is
+    (subst (λ (it : ShelfState). SessionEnds AnswersLine StopsAtLine (streams old.source old.sink) (streams new.source new.sink) (desk_at name memory it opened) after end) same ends) in
     record {
       state = opens.state;
       has = opens.has;
+      opened = opened;
+      opening = subst (λ (it : Memory). OpeningCounts it.state from opened) opens.is opening;
       after = after;
       ends = held;
       left = left;
+      counts = counts;
       promised = runs-promised by_desk before held.course.lines held.course.steps held.went.runs (subst IsWholeMemory opens.is opens.whole) (subst AreLinked opens.is opens.linked);
       counted = session-counted by_desk (streams old.source old.sink) (streams new.source new.sink) before new.shelf after end held left;
     }
 
-pub held-ends : (held : SessionEnd → Type 0) (name : List ℕ) (old new : Outside) (end : SessionEnd) → held end → CommandsEnd held name old new (status_of_end end)
-held-ends held name old new endings.Done it = it
-held-ends held name old new endings.ReadFault it = it
-held-ends held name old new endings.WriteFault it = it
-held-ends held name old new endings.NoMemory it = inr it
-held-ends held name old new (endings.CommandLong number) it = it
-held-ends held name old new endings.InputFull it = it
+pub held-ends : (held : SessionEnd → Type 0) (name : List ℕ) (old new : Outside) (from to : Counts) (end : SessionEnd) → held end → CommandsEnd held name old new from to (status_of_end end)
+held-ends held name old new from to endings.Done it = it
+held-ends held name old new from to endings.ReadFault it = it
+held-ends held name old new from to endings.WriteFault it = it
+held-ends held name old new from to endings.NoMemory it = inr it
+held-ends held name old new from to (endings.CommandLong number) it = it
+held-ends held name old new from to endings.InputFull it = it
 
 -- A script that didn't open has no session.
-pub unopened-ends : (held : SessionEnd → Type 0) (name : List ℕ) (old new : Outside) (status : Status) → Unopened (from_file name) old new status → CommandsEnd held name old new status
-unopened-ends held name old new statuses.Done it = absurd it
-unopened-ends held name old new statuses.Usage it = absurd it
-unopened-ends held name old new (statuses.NoFile given) it = it
-unopened-ends held name old new (statuses.BadText (faults.NotUtf8 place)) it = it
-unopened-ends held name old new (statuses.BadText (faults.LineFull place)) it = it
-unopened-ends held name old new (statuses.BadText faults.TextFull) it = it
-unopened-ends held name old new (statuses.BadText faults.NoMemory) it = absurd it
-unopened-ends held name old new statuses.ReadFault it = absurd it.failed
-unopened-ends held name old new statuses.WriteFault it = absurd it
-unopened-ends held name old new statuses.ShelfFault it = it
-unopened-ends held name old new (statuses.BadRecords fault) it = it
-unopened-ends held name old new statuses.NoMemory it = inl it
-unopened-ends held name old new (statuses.CommandLong number) it = absurd it
-unopened-ends held name old new statuses.InputFull it = absurd it
-unopened-ends held name old new (statuses.BadSheets file sheet) it = absurd it
-unopened-ends held name old new statuses.NotLocked it = absurd it
+pub unopened-ends : (held : SessionEnd → Type 0) (name : List ℕ) (old new : Outside) (from to : Counts) (status : Status) → Unopened (from_file name) old new status
+    → NotOpenedCounts old.shelf name from to status → CommandsEnd held name old new from to status
+unopened-ends held name old new from to statuses.Done it counts = absurd it
+unopened-ends held name old new from to statuses.Usage it counts = absurd it
+unopened-ends held name old new from to (statuses.NoFile given) it counts = (it, counts)
+unopened-ends held name old new from to (statuses.BadText (faults.NotUtf8 place)) it counts = (it, counts)
+unopened-ends held name old new from to (statuses.BadText (faults.LineFull place)) it counts = (it, counts)
+unopened-ends held name old new from to (statuses.BadText faults.TextFull) it counts = (it, counts)
+unopened-ends held name old new from to (statuses.BadText faults.NoMemory) it counts = absurd it
+unopened-ends held name old new from to statuses.ReadFault it counts = absurd it.failed
+unopened-ends held name old new from to statuses.WriteFault it counts = absurd it
+unopened-ends held name old new from to statuses.ShelfFault it counts = (it, counts)
+unopened-ends held name old new from to (statuses.BadRecords fault) it counts = (it, counts)
+unopened-ends held name old new from to statuses.NoMemory it counts = inl (it, counts)
+unopened-ends held name old new from to (statuses.CommandLong number) it counts = absurd it
+unopened-ends held name old new from to statuses.InputFull it counts = absurd it
+unopened-ends held name old new from to (statuses.BadSheets file sheet) it counts = absurd it
+unopened-ends held name old new from to statuses.NotLocked it counts = absurd it
 
 -- A session that was held to its end.
-pub held-answered : (name : List ℕ) (old new : Outside) → HeldSession name old new endings.Done → AnsweredAll name old new
-held-answered name old new held =
+pub held-answered : (name : List ℕ) (old new : Outside) (from to : Counts) → HeldSession name old new from to endings.Done → AnsweredAll name old new from to
+held-answered name old new from to held =
     let course = held.ends.course in
     let all = held.ends.ends in
-    let before = desk_at name (opened_memory held.state) old.shelf in
+    let before = desk_at name (opened_memory held.state) old.shelf held.opened in
     let runs : Runs AnswersLine before (command_lines course.read) course.steps = subst (λ (lines : List (List ℕ)). Runs AnswersLine before lines course.steps) all.lines held.ends.went.runs in
     record {
       state = held.state;
       has = held.has;
+      opened = held.opened;
+      opening = held.opening;
       input = course.read;
       gave = held.ends.went.gave;
       at_end = all.at_end;
       steps = course.steps;
       runs = runs;
+      counts = held.counts ∙ ap (λ (it : AtShelf NamedDesk). it.counts) all.replied.left;
       wrote = all.replied.wrote;
       left = held.left ∙ ap (λ (it : AtShelf NamedDesk). it.shelf) all.replied.left ∙ sym (runs-last by_desk before (command_lines course.read) course.steps runs);
       promised = held.promised;
@@ -166,9 +177,9 @@ calm-answers before (line ∷ lines) (step ∷ steps) runs same low =
     calm-answers step.after lines steps runs.1 calm.later calm.low ∙ ap (λ (it : Answered Memory). answered_lines it.after lines) first in
     ap₂ (λ (one : Answered Memory) (rest : List (Answered Memory)). one ∷ rest) first others
 
-pub answered-calmly : (name : List ℕ) (old new : Outside) → AnsweredAll name old new → new.shelf.faults ≡ old.shelf.faults → old.shelf.faults < 2 ^ 64 - 1 → AnsweredCalmly name old new
-answered-calmly name old new all same low =
-    let before = desk_at name (opened_memory all.state) old.shelf in
+pub answered-calmly : (name : List ℕ) (old new : Outside) (from to : Counts) → AnsweredAll name old new from to → new.shelf.faults ≡ old.shelf.faults → old.shelf.faults < 2 ^ 64 - 1 → AnsweredCalmly name old new
+answered-calmly name old new from to all same low =
+    let before = desk_at name (opened_memory all.state) old.shelf all.opened in
     let last : (left_by before all.steps).shelf ≡ new.shelf = sym (runs-last by_desk before (command_lines all.input) all.steps all.runs) ∙ sym all.left in
     let end : (left_by before all.steps).shelf.faults ≡ old.shelf.faults = ap (λ (it : ShelfState). it.faults) last ∙ same in
     let steps = calm-answers before (command_lines all.input) all.steps all.runs end low in
@@ -183,7 +194,7 @@ answered-calmly name old new all same low =
 
 -- ---- no other file is touched
 
-pub held-others : (name : List ℕ) (memory : Memory) (shelf : ShelfState) (old new : Outside) (after : AtShelf NamedDesk) (end : SessionEnd)
-    → SessionEnds AnswersLine StopsAtLine (streams old.source old.sink) (streams new.source new.sink) (desk_at name memory shelf) after end
+pub held-others : (name : List ℕ) (memory : Memory) (shelf : ShelfState) (opened : Counts) (old new : Outside) (after : AtShelf NamedDesk) (end : SessionEnd)
+    → SessionEnds AnswersLine StopsAtLine (streams old.source old.sink) (streams new.source new.sink) (desk_at name memory shelf opened) after end
     → Changes shelf.files after.shelf.files (λ one other. KeepsAllBut one other name (records_name name))
-held-others name memory shelf old new after end ends = session-others by_desk (streams old.source old.sink) (streams new.source new.sink) (desk_at name memory shelf) after end ends
+held-others name memory shelf opened old new after end ends = session-others by_desk (streams old.source old.sink) (streams new.source new.sink) (desk_at name memory shelf opened) after end ends

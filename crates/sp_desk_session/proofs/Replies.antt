@@ -1,16 +1,20 @@
 -- Replies of a desk, and what want of memory leaves.
 use Rattle.std.proofs.Common.{inl, inr, sym, ap, subst}
-use Rattle.std.specs.Prelude.{Bool, true, false, OnErr, Ok, Err}
+use Rattle.std.specs.Prelude.{Bool, true, false, OnErr, OnOk, Ok, Err}
 use Rattle.std.specs.declared.result.Result.{Result}
 use Rattle.spec_wire.specs.Commands.{CommandOf, FaultOf}
-use Rattle.spec_wire.specs.Replies.{ReplyOf, shelf}
+use Rattle.spec_wire.specs.Replies.{ReplyOf}
 use Rattle.spec_session.specs.Runs.{AtShelf}
 use Rattle.spec_machine.specs.Answers.{Step}
 use Rattle.sp_opening.specs.Saving.{files_of}
 use Rattle.sp_desk_session.specs.DeskLines.{NamedDesk, asks_save, Stores, RepliesTo, Leaves, StopsAt}
 use Rattle.sp_opening.proofs.Stores.{failed-left, names-differ, stored-left}
 
--- What holds where an answer is an error.
+-- What holds where there is an answer, and where it is an error.
+pub on-ok : {T E : Type 0} {P : Type 0} (result : Result T E) → P → OnOk result P
+on-ok (Ok value) holds = holds
+on-ok (Err fault) holds = tt
+
 pub on-err : {T E : Type 0} {P : Type 0} (result : Result T E) → P → OnErr result P
 on-err (Ok value) holds = tt
 on-err (Err fault) holds = holds

@@ -56,12 +56,12 @@ pub record Way : Type 1 where
   pub answers : AtShelf It → List ℕ → AtShelf It → List ℕ → Type 0
   pub stops : AtShelf It → List ℕ → AtShelf It → Type 0
   pub touches : (before : AtShelf It) (line : List ℕ) (after : AtShelf It) (bytes : List ℕ) → answers before line after bytes
-      → Touches (saves line) (at_shelf (desk before.it) before.shelf) (at_shelf (desk after.it) after.shelf) bytes
-  pub halts : (before : AtShelf It) (line : List ℕ) (after : AtShelf It) → stops before line after → Halts (saves line) (at_shelf (desk before.it) before.shelf) (at_shelf (desk after.it) after.shelf)
+      → Touches (saves line) (at_shelf (desk before.it) before.shelf before.counts) (at_shelf (desk after.it) after.shelf after.counts) bytes
+  pub halts : (before : AtShelf It) (line : List ℕ) (after : AtShelf It) → stops before line after → Halts (saves line) (at_shelf (desk before.it) before.shelf before.counts) (at_shelf (desk after.it) after.shelf after.counts)
 
 -- The desk of what answers, with the shelf.
 abbrev pub desk_seen : (way : Way) → AtShelf way.It → AtShelf NamedDesk
-desk_seen way at = at_shelf (way.desk at.it) at.shelf
+desk_seen way at = at_shelf (way.desk at.it) at.shelf at.counts
 
 -- ---- how many stores failed
 

@@ -4,7 +4,7 @@ use Rattle.std.specs.Io.KnownBytes.{Appends, Consumes, IsAtEnd}
 use Rattle.spec_state.specs.State.{State}
 use Rattle.spec_machine.specs.Machine.{Memory, opened_memory}
 use Rattle.spec_session.specs.CommandLines.{KeepsLimits, IsFirstLong, IsFull, command_lines}
-use Rattle.spec_session.specs.Runs.{Answered, AtShelf, Runs, output_of}
+use Rattle.spec_session.specs.Runs.{Answered, AtShelf, Counts, Runs, left_by, output_of}
 use Rattle.spec_session.specs.Sessions.{SessionEnds, streams}
 use Rattle.spec_session.specs.declared.SessionEnd.{SessionEnd}
 use Rattle.spec_session.specs.declared.SessionEnd.TheVariants as endings
@@ -16,6 +16,8 @@ use Rattle.sp_words.specs.declared.status.Status.TheVariants as statuses
 use Rattle.sp_words.specs.Forms.{from_file}
 use Rattle.spec_machine.specs.KeptMemories.{IsWholeMemory}
 use Rattle.spec_locked_pages.specs.Chains.{AreLinked}
+use Rattle.sp_desk_session.specs.Counted.{LackingCounts}
+use Rattle.sp_opening.specs.Counted.{OpeningCounts}
 use Rattle.sp_desk_session.specs.DeskLines.{AnswersLine, NamedDesk, StopsAtLine, answered_lines, desk_at, desk_itself, memories_of, saves, shelf_behind, unsaved_count}
 use Rattle.sp_desk_session.specs.Promises.{ArePromised}
 use Rattle.sp_opening.specs.Opening.{SameShelf, HasState}
@@ -27,13 +29,16 @@ abbrev pub CountsUnsaved : {R : Type 0} → (List ℕ → Bool) → ShelfState �
 CountsUnsaved test old new asked steps = new.faults < 2 ^ 64 - 1 → old.faults + unsaved_count test asked steps ≤ new.faults
 
 -- The shelf has a script under the name; it was opened as a desk with what stands beside it, and so its session ended, which
--- left the shelf as it is now. All memories that the desk had keep what is promised.
-pub record HeldSession (name : List ℕ) (old new : Outside) (end : SessionEnd) : Type 0 where
+-- left the shelf and the counts as they are now. All memories that the desk had keep what is promised.
+pub record HeldSession (name : List ℕ) (old new : Outside) (from to : Counts) (end : SessionEnd) : Type 0 where
   pub state : State
   pub has : HasState old.shelf name state
+  pub opened : Counts
+  pub opening : OpeningCounts state from opened
   pub after : AtShelf NamedDesk
-  pub ends : SessionEnds AnswersLine StopsAtLine (streams old.source old.sink) (streams new.source new.sink) (desk_at name (opened_memory state) old.shelf) after end
+  pub ends : SessionEnds AnswersLine StopsAtLine (streams old.source old.sink) (streams new.source new.sink) (desk_at name (opened_memory state) old.shelf opened) after end
   pub left : new.shelf ≡ after.shelf
+  pub counts : to ≡ after.counts
   pub promised : ArePromised (memories_of desk_itself (opened_memory state) ends.course.steps)
   pub counted : CountsUnsaved saves old.shelf new.shelf ends.course.lines ends.course.steps
 
@@ -46,39 +51,43 @@ pub record OpensDesk (shelf after : ShelfState) (name : List ℕ) (memory : Memo
   pub whole : IsWholeMemory memory
   pub linked : AreLinked memory
 
--- How a run ends that answers commands, where a session is held so.
-abbrev pub CommandsEnd : (SessionEnd → Type 0) → List ℕ → Outside → Outside → Status → Type 0
-CommandsEnd held name old new statuses.Done = held endings.Done
-CommandsEnd held name old new statuses.Usage = ⊥
-CommandsEnd held name old new (statuses.NoFile given) = FoundNone (from_file name) old new (string_bytes given)
-CommandsEnd held name old new (statuses.BadText (faults.NotUtf8 place)) = Refused (from_file name) old new (no_utf8 place)
-CommandsEnd held name old new (statuses.BadText (faults.LineFull place)) = Refused (from_file name) old new (long_line place)
-CommandsEnd held name old new (statuses.BadText faults.TextFull) = TooLong (from_file name) old new
-CommandsEnd held name old new (statuses.BadText faults.NoMemory) = ⊥
-CommandsEnd held name old new statuses.ReadFault = held endings.ReadFault
-CommandsEnd held name old new statuses.WriteFault = held endings.WriteFault
-CommandsEnd held name old new statuses.ShelfFault = FetchFailed (from_file name) old new
-CommandsEnd held name old new (statuses.BadRecords fault) = RecordsRefused (from_file name) old new fault
-CommandsEnd held name old new statuses.NoMemory = NotOpened (from_file name) old new ⊎ held endings.NoMemory
-CommandsEnd held name old new (statuses.CommandLong number) = held (endings.CommandLong number)
-CommandsEnd held name old new statuses.InputFull = held endings.InputFull
-CommandsEnd held name old new (statuses.BadSheets file sheet) = ⊥
-CommandsEnd held name old new statuses.NotLocked = ⊥
+-- How a run ends that answers commands, where a session is held so: a session that doesn't begin reads and fills nothing, or where
+-- there is no memory, no more than its opening asks.
+abbrev pub CommandsEnd : (SessionEnd → Type 0) → List ℕ → Outside → Outside → Counts → Counts → Status → Type 0
+CommandsEnd held name old new from to statuses.Done = held endings.Done
+CommandsEnd held name old new from to statuses.Usage = ⊥
+CommandsEnd held name old new from to (statuses.NoFile given) = FoundNone (from_file name) old new (string_bytes given) × (to ≡ from)
+CommandsEnd held name old new from to (statuses.BadText (faults.NotUtf8 place)) = Refused (from_file name) old new (no_utf8 place) × (to ≡ from)
+CommandsEnd held name old new from to (statuses.BadText (faults.LineFull place)) = Refused (from_file name) old new (long_line place) × (to ≡ from)
+CommandsEnd held name old new from to (statuses.BadText faults.TextFull) = TooLong (from_file name) old new × (to ≡ from)
+CommandsEnd held name old new from to (statuses.BadText faults.NoMemory) = ⊥
+CommandsEnd held name old new from to statuses.ReadFault = held endings.ReadFault
+CommandsEnd held name old new from to statuses.WriteFault = held endings.WriteFault
+CommandsEnd held name old new from to statuses.ShelfFault = FetchFailed (from_file name) old new × (to ≡ from)
+CommandsEnd held name old new from to (statuses.BadRecords fault) = RecordsRefused (from_file name) old new fault × (to ≡ from)
+CommandsEnd held name old new from to statuses.NoMemory = (NotOpened (from_file name) old new × LackingCounts old.shelf name from to) ⊎ held endings.NoMemory
+CommandsEnd held name old new from to (statuses.CommandLong number) = held (endings.CommandLong number)
+CommandsEnd held name old new from to statuses.InputFull = held endings.InputFull
+CommandsEnd held name old new from to (statuses.BadSheets file sheet) = ⊥
+CommandsEnd held name old new from to statuses.NotLocked = ⊥
 
 -- How a run ends that answers commands by a desk, and by a room.
-abbrev pub DeskEnds : List ℕ → Outside → Outside → Status → Type 0
-DeskEnds name old new status = CommandsEnd (HeldSession name old new) name old new status
+abbrev pub DeskEnds : List ℕ → Outside → Outside → Counts → Counts → Status → Type 0
+DeskEnds name old new from to status = CommandsEnd (HeldSession name old new from to) name old new from to status
 
 -- All command lines of the input were answered by a desk of the script, in order, what was written are the replies, and all
 -- memories that the desk had keep what is promised.
-pub record AnsweredAll (name : List ℕ) (old new : Outside) : Type 0 where
+pub record AnsweredAll (name : List ℕ) (old new : Outside) (from to : Counts) : Type 0 where
   pub state : State
   pub has : HasState old.shelf name state
+  pub opened : Counts
+  pub opening : OpeningCounts state from opened
   pub input : List ℕ
   pub gave : Consumes old.source.unread new.source.unread input
   pub at_end : IsAtEnd new.source.unread
   pub steps : List (Answered (AtShelf NamedDesk))
-  pub runs : Runs AnswersLine (desk_at name (opened_memory state) old.shelf) (command_lines input) steps
+  pub runs : Runs AnswersLine (desk_at name (opened_memory state) old.shelf opened) (command_lines input) steps
+  pub counts : to ≡ (left_by (desk_at name (opened_memory state) old.shelf opened) steps).counts
   pub wrote : Appends old.sink.taken new.sink.taken (output_of steps)
   pub left : new.shelf ≡ shelf_behind saves old.shelf (command_lines input) steps
   pub promised : ArePromised (memories_of desk_itself (opened_memory state) steps)

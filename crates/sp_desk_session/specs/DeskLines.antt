@@ -8,12 +8,13 @@ use Rattle.spec_wire.specs.Commands.{CommandOf, FaultOf, save, packet}
 use Rattle.spec_wire.specs.Lines.{command_of_line}
 use Rattle.spec_wire.specs.Replies as replies
 use Rattle.spec_wire.specs.Replies.{ReplyOf, refused, saved, shelf, unreadable, pages_not_locked, reply_line}
-use Rattle.spec_session.specs.Runs.{Answered, AtShelf}
+use Rattle.spec_session.specs.Runs.{Answered, AtShelf, Counts, at_shelf}
 use Rattle.spec_state.specs.State.{State}
 use Rattle.spec_machine.specs.Machine.{Memory}
 use Rattle.spec_machine.specs.Answers.{Step, step_of}
 use Rattle.spec_packet.specs.StatePackets.{packet_places}
 use Rattle.sp_kit.specs.Files.{ShelfState}
+use Rattle.sp_desk_session.specs.Counted.{LineCounts, LineCountsAtMost}
 use Rattle.sp_desk_session.specs.Promises.{Follows}
 use Rattle.sp_opening.specs.Saving.{SavesState, StoreFailed, StoreLeft, files_of}
 
@@ -22,9 +23,9 @@ pub record NamedDesk : Type 0 where
   pub name : List ℕ
   pub memory : Memory
 
--- A desk, its script's name, and the shelf.
-abbrev pub desk_at : List ℕ → Memory → ShelfState → AtShelf NamedDesk
-desk_at name memory files = record { it = record { name = name; memory = memory }; shelf = files }
+-- A desk, its script's name, the shelf, and what was counted.
+abbrev pub desk_at : List ℕ → Memory → ShelfState → Counts → AtShelf NamedDesk
+desk_at name memory files counts = at_shelf (record { name = name; memory = memory }) files counts
 
 -- A desk seen as itself.
 abbrev pub desk_itself : NamedDesk → NamedDesk
@@ -110,6 +111,7 @@ pub record AnswersLine (before : AtShelf NamedDesk) (line : List ℕ) (after : A
   pub reply : ReplyOf
   pub is : bytes ≡ reply_line reply
   pub replies : RepliesTo before (command_of_line line) after reply
+  pub counts : LineCounts before.it.memory (command_of_line line) before.counts after.counts
   pub follows : Follows before.it.memory after.it.memory
 
 -- The memory of a desk, and behind it those that these steps left.
@@ -143,5 +145,6 @@ pub record StopsAt (before : AtShelf NamedDesk) (asked : Result CommandOf FaultO
   pub name : after.it.name ≡ before.it.name
   pub leaves : Leaves (asks_save asked) before after
 
-abbrev pub StopsAtLine : AtShelf NamedDesk → List ℕ → AtShelf NamedDesk → Type 0
-StopsAtLine before line after = StopsAt before (command_of_line line) after
+pub record StopsAtLine (before : AtShelf NamedDesk) (line : List ℕ) (after : AtShelf NamedDesk) : Type 0 where
+  pub stops : StopsAt before (command_of_line line) after
+  pub counts : LineCountsAtMost before.it.memory (command_of_line line) before.counts after.counts

@@ -1,3 +1,5 @@
+pub mod Counted
 pub mod DeskLines
 pub mod Promises
 pub mod DeskEnding
+pub mod SampleCounts

@@ -1,9 +1,11 @@
 //! Command lines, answered by a desk.
-ghost use Rattle.std.specs.Prelude.{◌≡◌, IfOk, OnErr};
+ghost use Rattle.std.specs.Prelude.{◌≡◌, IfOk, OnOk, OnErr};
 ghost use Rattle.std.specs.declared.result.Result.TheVariants.{Ok};
 ghost use Rattle.spec_wire.specs.Lines.{command_of_line};
 ghost use Rattle.spec_machine.specs.LabelPromises.{LosesNone};
 ghost use Rattle.sp_wire.specs.Values.{command_of, reply_of};
+ghost use Rattle.spec_session.specs.Runs.{counts_of};
+ghost use Rattle.sp_desk_session.specs.Counted.{LineCounts, LineCountsAtMost};
 ghost use Rattle.sp_desk_session.specs.DeskLines.{RepliesTo, StopsAt, is_packet, is_save, packet_reply, desk_at};
 
 use crate::saving::save_desk;
@@ -15,16 +17,15 @@ use sp_wire::{Command, Refusal, Reply, WireFault, read_command, write_reply};
 use std::alloc::{AllocError, Global};
 use std::marker::Model;
 
-/// What answers the command lines of a session: a desk, its script's name, and what counts its steps.
+/// What answers the command lines of a session: a desk, and its script's name.
 #[derive(Drop)]
-pub struct DeskLines<'a, 'b, S> {
+pub struct DeskLines<'a> {
     pub alloc: Global,
     pub name: &'a str,
     pub desk: Desk,
-    pub steps: &'b mut S,
 }
 
-impl<'a, 'b, S> Model for DeskLines<'a, 'b, S> {
+impl<'a> Model for DeskLines<'a> {
     ghost use Rattle.sp_desk_session.specs.DeskLines.{NamedDesk};
 
     ghost Value = { NamedDesk };
@@ -66,8 +67,10 @@ fn reply_to_command<F: Shelf, S: Steps>(
     shelf: &mut F,
     steps: &mut S,
 ) -> Result<Reply, AllocError>
-    ensures reply { IfOk result (λ reply. RepliesTo (desk_at name.now desk.old (F.state shelf.old)) (Ok (command_of command)) (desk_at name.now desk.new (F.state shelf.new)) (reply_of reply)) }
-    ensures stops { OnErr result (StopsAt (desk_at name.now desk.old (F.state shelf.old)) (Ok (command_of command)) (desk_at name.now desk.new (F.state shelf.new))) }
+    ensures reply { IfOk result (λ reply. RepliesTo (desk_at name.now desk.old (F.state shelf.old) (counts_of (S.reads steps.old) (S.fills steps.old))) (Ok (command_of command)) (desk_at name.now desk.new (F.state shelf.new) (counts_of (S.reads steps.new) (S.fills steps.new))) (reply_of reply)) }
+    ensures stops { OnErr result (StopsAt (desk_at name.now desk.old (F.state shelf.old) (counts_of (S.reads steps.old) (S.fills steps.old))) (Ok (command_of command)) (desk_at name.now desk.new (F.state shelf.new) (counts_of (S.reads steps.new) (S.fills steps.new)))) }
+    ensures counts { OnOk result (LineCounts desk.old (Ok (command_of command)) (counts_of (S.reads steps.old) (S.fills steps.old)) (counts_of (S.reads steps.new) (S.fills steps.new))) }
+    ensures at_most { OnErr result (LineCountsAtMost desk.old (Ok (command_of command)) (counts_of (S.reads steps.old) (S.fills steps.old)) (counts_of (S.reads steps.new) (S.fills steps.new))) }
     ensures lost { LosesNone (desk.old).state (desk.new).state }
 {
     if is_save(&command) {
@@ -92,8 +95,10 @@ fn reply_to_line<F: Shelf, S: Steps>(
     shelf: &mut F,
     steps: &mut S,
 ) -> Result<Reply, AllocError>
-    ensures reply { IfOk result (λ reply. RepliesTo (desk_at name.now desk.old (F.state shelf.old)) (command_of_line line.now) (desk_at name.now desk.new (F.state shelf.new)) (reply_of reply)) }
-    ensures stops { OnErr result (StopsAt (desk_at name.now desk.old (F.state shelf.old)) (command_of_line line.now) (desk_at name.now desk.new (F.state shelf.new))) }
+    ensures reply { IfOk result (λ reply. RepliesTo (desk_at name.now desk.old (F.state shelf.old) (counts_of (S.reads steps.old) (S.fills steps.old))) (command_of_line line.now) (desk_at name.now desk.new (F.state shelf.new) (counts_of (S.reads steps.new) (S.fills steps.new))) (reply_of reply)) }
+    ensures stops { OnErr result (StopsAt (desk_at name.now desk.old (F.state shelf.old) (counts_of (S.reads steps.old) (S.fills steps.old))) (command_of_line line.now) (desk_at name.now desk.new (F.state shelf.new) (counts_of (S.reads steps.new) (S.fills steps.new)))) }
+    ensures counts { OnOk result (LineCounts desk.old (command_of_line line.now) (counts_of (S.reads steps.old) (S.fills steps.old)) (counts_of (S.reads steps.new) (S.fills steps.new))) }
+    ensures at_most { OnErr result (LineCountsAtMost desk.old (command_of_line line.now) (counts_of (S.reads steps.old) (S.fills steps.old)) (counts_of (S.reads steps.new) (S.fills steps.new))) }
     ensures lost { LosesNone (desk.old).state (desk.new).state }
 {
     match read_command(alloc, line) {
@@ -105,7 +110,7 @@ fn reply_to_line<F: Shelf, S: Steps>(
     }
 }
 
-impl<'a, 'b, S: Steps> Responder for DeskLines<'a, 'b, S> {
+impl<'a> Responder for DeskLines<'a> {
     ghost use Rattle.spec_session.specs.CommandLines.{command_count_limit};
     ghost use Rattle.sp_desk_session.specs.DeskLines.{AnswersLine, StopsAtLine};
 
@@ -115,15 +120,13 @@ impl<'a, 'b, S: Steps> Responder for DeskLines<'a, 'b, S> {
 
     ghost lasts = { λ d. command_count_limit };
 
-    fn answer<F: Shelf>(&mut self, line: &[u8], shelf: &mut F) -> Result<Vec<u8>, AllocError> {
-        let reply = reply_to_line(
-            self.alloc,
-            self.name,
-            &mut self.desk,
-            line,
-            shelf,
-            self.steps,
-        )?;
+    fn answer<F: Shelf, S: Steps>(
+        &mut self,
+        line: &[u8],
+        shelf: &mut F,
+        steps: &mut S,
+    ) -> Result<Vec<u8>, AllocError> {
+        let reply = reply_to_line(self.alloc, self.name, &mut self.desk, line, shelf, steps)?;
         let _sheets = self.desk.sheets();
         write_reply(self.alloc, &reply)
     }

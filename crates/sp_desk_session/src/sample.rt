@@ -1,8 +1,15 @@
 //! The session of a sample.
-ghost use Rattle.std.specs.Prelude.{◌≡◌, ◌≤◌, fold, map, IfOk, OnOk};
+ghost use Rattle.std.specs.Prelude.{◌≡◌, ◌≤◌, fold, length, map, IfOk, OnOk, OnErr};
+ghost use Rattle.spec_script.specs.Stanzas.{stanzas_of};
 ghost use Rattle.spec_machine.specs.Machine.{opened_memory};
-ghost use Rattle.spec_sample.specs.Sample.{sample_opened, sample_output, stepped};
+ghost use Rattle.spec_locked_pages.specs.Segments.{pages_of};
+ghost use Rattle.spec_sample.specs.Sample.{sample_lines, sample_opened, sample_output, stepped};
 ghost use Rattle.sp_wire.specs.Values.{command_of};
+ghost use Rattle.sp_reread.specs.Cache.{RisesWithin, counted_on};
+ghost use Rattle.sp_reflow.specs.Filling.{FilledAtMost};
+ghost use Rattle.sp_reflow.specs.Starts.{many_more};
+ghost use Rattle.sp_desk.specs.Outcomes.{FillsAtMost, FillsOf, ReadsAtMost, ReadsOf};
+ghost use Rattle.sp_desk_session.specs.SampleCounts.{CountsAlong, CountsUpTo, SampleFills, SampleFillsAtMost, SampleReads, SampleReadsAtMost};
 
 use sp_desk::{Desk, DeskFault};
 use sp_kit::Steps;
@@ -15,7 +22,11 @@ use std::alloc::{AllocError, Global};
 /// refused one changes nothing (docs/RULES.md, "The sample"). `AllocError` comes for want of memory alone.
 pub fn run_sample<S: Steps>(alloc: Global, rooms: u32, steps: &mut S) -> Result<Vec<u8>, AllocError>
     requires { rooms ≤ 2000 }
-    ensures { IfOk result (λ line. line.items ≡ sample_output rooms) }
+    ensures line { IfOk result (λ line. line.items ≡ sample_output rooms) }
+    ensures reads { OnOk result (SampleReads rooms (S.reads steps.old) (S.reads steps.new)) }
+    ensures fills { OnOk result (SampleFills rooms (S.fills steps.old) (S.fills steps.new)) }
+    ensures reads_at_most { OnErr result (SampleReadsAtMost rooms (S.reads steps.old) (S.reads steps.new)) }
+    ensures fills_at_most { OnErr result (SampleFillsAtMost rooms (S.fills steps.old) (S.fills steps.new)) }
 {
     let mut desk = open_sample(alloc, rooms, steps)?;
     let commands = sample_commands(alloc, rooms)?;
@@ -26,7 +37,11 @@ pub fn run_sample<S: Steps>(alloc: Global, rooms: u32, steps: &mut S) -> Result<
 /// The desk of the script of a sample, which keeps the limits.
 fn open_sample<S: Steps>(alloc: Global, rooms: u32, steps: &mut S) -> Result<Desk, AllocError>
     requires { rooms ≤ 2000 }
-    ensures { IfOk result (λ desk. desk ≡ opened_memory (sample_opened rooms)) }
+    ensures memory { IfOk result (λ desk. desk ≡ opened_memory (sample_opened rooms)) }
+    ensures reads { OnOk result (S.reads steps.new ≡ counted_on (length (stanzas_of (sample_lines rooms))) (S.reads steps.old)) }
+    ensures fills { OnOk result (S.fills steps.new ≡ many_more (S.fills steps.old) (length (pages_of (sample_opened rooms)))) }
+    ensures reads_at_most { RisesWithin (length (stanzas_of (sample_lines rooms))) (S.reads steps.old) (S.reads steps.new) }
+    ensures fills_at_most { FilledAtMost (S.fills steps.old) (S.fills steps.new) (length (pages_of (sample_opened rooms))) }
 {
     let script = sample_script(alloc, rooms)?;
     match Lines::read(alloc, script.as_slice()) {
@@ -43,7 +58,11 @@ fn answer_all<S: Steps>(
     commands: Vec<Command>,
     steps: &mut S,
 ) -> Result<(), AllocError>
-    ensures { OnOk result (desk.new ≡ fold stepped desk.old (map command_of commands.items)) }
+    ensures memory { OnOk result (desk.new ≡ fold stepped desk.old (map command_of commands.items)) }
+    ensures reads { OnOk result (CountsAlong ReadsOf desk.old (map command_of commands.items) (S.reads steps.old) (S.reads steps.new)) }
+    ensures fills { OnOk result (CountsAlong FillsOf desk.old (map command_of commands.items) (S.fills steps.old) (S.fills steps.new)) }
+    ensures reads_at_most { OnErr result (CountsUpTo ReadsOf ReadsAtMost desk.old (map command_of commands.items) (S.reads steps.old) (S.reads steps.new)) }
+    ensures fills_at_most { OnErr result (CountsUpTo FillsOf FillsAtMost desk.old (map command_of commands.items) (S.fills steps.old) (S.fills steps.new)) }
 {
     for command in commands {
         answer(alloc, desk, command, steps)?;
@@ -58,7 +77,11 @@ fn answer<S: Steps>(
     command: Command,
     steps: &mut S,
 ) -> Result<(), AllocError>
-    ensures { OnOk result (desk.new ≡ stepped desk.old (command_of command)) }
+    ensures memory { OnOk result (desk.new ≡ stepped desk.old (command_of command)) }
+    ensures reads { OnOk result (ReadsOf desk.old (command_of command) (S.reads steps.old) (S.reads steps.new)) }
+    ensures fills { OnOk result (FillsOf desk.old (command_of command) (S.fills steps.old) (S.fills steps.new)) }
+    ensures reads_at_most { OnErr result (ReadsAtMost desk.old (command_of command) (S.reads steps.old) (S.reads steps.new)) }
+    ensures fills_at_most { OnErr result (FillsAtMost desk.old (command_of command) (S.fills steps.old) (S.fills steps.new)) }
 {
     match desk.apply(alloc, command, steps) {
         Ok(_) => Ok(()),

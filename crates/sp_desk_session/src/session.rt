@@ -4,6 +4,9 @@ ghost use Rattle.sp_kit.specs.Outside.{SinkState};
 ghost use Rattle.sp_words.specs.Forms.{from_file};
 ghost use Rattle.sp_opening.specs.Records.{records_name};
 ghost use Rattle.sp_opening.specs.Saving.{Changes, KeepsAllBut};
+ghost use Rattle.spec_session.specs.Runs.{counts_of};
+ghost use Rattle.sp_desk_session.specs.Counted.{NotOpenedCounts};
+ghost use Rattle.sp_opening.specs.Counted.{OpeningCounts};
 ghost use Rattle.sp_desk_session.specs.DeskEnding.{DeskEnds, OpensDesk};
 ghost use Rattle.sp_opening.specs.Unopened.{Unopened, outside};
 
@@ -24,6 +27,8 @@ pub fn open_desk<I: Source, F: Shelf, S: Steps>(
     steps: &mut S,
 ) -> Result<Desk, Status>
     ensures opened { IfOk result (OpensDesk (F.state shelf.old) (F.state shelf.new) name.now) }
+    ensures counts { IfOk result (λ desk. OpeningCounts desk.state (counts_of (S.reads steps.old) (S.fills steps.old)) (counts_of (S.reads steps.new) (S.fills steps.new))) }
+    ensures uncounted { IfErr result (NotOpenedCounts (F.state shelf.old) name.now (counts_of (S.reads steps.old) (S.fills steps.old)) (counts_of (S.reads steps.new) (S.fills steps.new))) }
     ensures refused { (sink : SinkState) → IfErr result (Unopened (from_file name.now) (outside (I.state input.old) sink (F.state shelf.old)) (outside (I.state input.new) sink (F.state shelf.new))) }
     ensures source_kept { input.new ≡ input.old }
     ensures files_kept { (F.state shelf.new).files ≡ (F.state shelf.old).files }
@@ -43,18 +48,13 @@ pub fn hold_session<I: Source, O: Sink, F: Shelf, S: Steps>(
     shelf: &mut F,
     steps: &mut S,
 ) -> Status
-    ensures ends { DeskEnds name.now (outside (I.state input.old) (O.state output.old) (F.state shelf.old)) (outside (I.state input.new) (O.state output.new) (F.state shelf.new)) result }
+    ensures ends { DeskEnds name.now (outside (I.state input.old) (O.state output.old) (F.state shelf.old)) (outside (I.state input.new) (O.state output.new) (F.state shelf.new)) (counts_of (S.reads steps.old) (S.fills steps.old)) (counts_of (S.reads steps.new) (S.fills steps.new)) result }
     ensures others { Changes (F.state shelf.old).files (F.state shelf.new).files (λ old new. KeepsAllBut old new name.now (records_name name.now)) }
 {
     let desk = match open_desk(alloc, name, input, shelf, steps) {
         Ok(desk) => desk,
         Err(status) => return status,
     };
-    let mut lines = DeskLines {
-        alloc,
-        name,
-        desk,
-        steps,
-    };
-    Status::from(session(alloc, &mut lines, input, output, shelf))
+    let mut lines = DeskLines { alloc, name, desk };
+    Status::from(session(alloc, &mut lines, input, output, shelf, steps))
 }

@@ -4,3 +4,4 @@ pub mod Records
 pub mod Opening
 pub mod Saving
 pub mod Unopened
+pub mod Counted

@@ -8,7 +8,7 @@ use Rattle.std.specs.Io.KnownBytes.{Appends}
 use Rattle.json.proofs.OnLiterals.{json_on_literals}
 use Rattle.serde_json.proofs.OnLiterals.{serde_json_on_literals}
 use Rattle.spec_session.specs.CommandLines.{command_lines}
-use Rattle.spec_session.specs.Runs.{Answered, AtShelf, Runs, left_by, output_of, steps_seen}
+use Rattle.spec_session.specs.Runs.{Answered, AtShelf, Counts, Runs, left_by, output_of, steps_seen}
 use Rattle.spec_session.specs.Sessions.{SessionEnds, streams, FailedNothing}
 use Rattle.spec_session.specs.declared.SessionEnd.{SessionEnd}
 use Rattle.spec_session.specs.declared.SessionEnd.TheVariants as endings
@@ -28,6 +28,7 @@ use Rattle.spec_room.specs.Sessions.{Session, opens}
 use Rattle.sp_kit.specs.Files.{ShelfState, Files}
 use Rattle.sp_opening.specs.Records.{records_name}
 use Rattle.sp_opening.specs.Saving.{Changes, KeepsAllBut}
+use Rattle.sp_opening.specs.Counted.{OpeningCounts}
 use Rattle.sp_desk_session.specs.DeskLines.{asks_save}
 use Rattle.sp_room_session.specs.RoomLines.{NamedRoom, AnswersRoomLine, SeatReplies, StopsAtRoomLine, answered_room_line, answered_room_lines, desk_in, desk_of_room, other_room, room_at, room_line_step_by, saved_room, seat_saves, seatless, step_line}
 use Rattle.sp_room_session.specs.Seats.{AreTakenSeen}
@@ -73,7 +74,7 @@ answer-touches before line after bytes it = by it.replies
     by (inr failed) = record { named = ap (λ (r : NamedRoom). r.name) failed.same; stored = inr (record { saves = failed.asks; failed = failed.failed }); follows = it.follows }
 
 stop-halts : (before : AtShelf NamedRoom) (line : List ℕ) (after : AtShelf NamedRoom) → StopsAtRoomLine before line after → Halts (seat_saves line) (desk_of_room before) (desk_of_room after)
-stop-halts before line after it = record { named = it.name; leaves = it.leaves }
+stop-halts before line after it = record { named = it.stops.name; leaves = it.stops.leaves }
 
 abbrev by_room : Way
 by_room = record { It = NamedRoom; desk = desk_in; saves = seat_saves; answers = AnswersRoomLine; stops = StopsAtRoomLine; touches = answer-touches; halts = stop-halts }
@@ -98,57 +99,63 @@ runs-taken state commands before texts (line ∷ lines) (step ∷ steps) whole s
 -- ---- how a session ends
 
 -- The session of a room round a desk that was opened.
-pub room-held : (name : List ℕ) (old new : Outside) (between : ShelfState) (memory : Memory) (after : AtShelf NamedRoom) (end : SessionEnd) → OpensDesk old.shelf between name memory
-    → SessionEnds AnswersRoomLine StopsAtRoomLine (streams old.source old.sink) (streams new.source new.sink) (room_at name (opened_room memory) between) after end → new.shelf ≡ after.shelf
-    → HeldRoom name old new end
-room-held name old new between memory after end opens_as ends left =
+pub room-held : (name : List ℕ) (old new : Outside) (from opened to : Counts) (between : ShelfState) (memory : Memory) (after : AtShelf NamedRoom) (end : SessionEnd) → OpensDesk old.shelf between name memory
+    → OpeningCounts memory.state from opened
+    → SessionEnds AnswersRoomLine StopsAtRoomLine (streams old.source old.sink) (streams new.source new.sink) (room_at name (opened_room memory) between opened) after end → new.shelf ≡ after.shelf
+    → to ≡ after.counts → HeldRoom name old new from to end
+room-held name old new from opened to between memory after end opens_as opening ends left counts =
     let same = same-shelf old.shelf between opens_as.same in
-    let opened = opened_memory opens_as.state in
-    let before = room_at name (opened_room opened) old.shelf in
+    let before = room_at name (opened_room (opened_memory opens_as.state)) old.shelf opened in
     let held : SessionEnds AnswersRoomLine StopsAtRoomLine (streams old.source old.sink) (streams new.source new.sink) before after end =
-    subst (λ (it : Memory). SessionEnds AnswersRoomLine StopsAtRoomLine (streams old.source old.sink) (streams new.source new.sink) (room_at name (opened_room it) old.shelf) after end) opens_as.is
-    (subst (λ (it : ShelfState). SessionEnds AnswersRoomLine StopsAtRoomLine (streams old.source old.sink) (streams new.source new.sink) (room_at name (opened_room memory) it) after end) same ends) in
+    subst (λ (it : Memory). SessionEnds AnswersRoomLine StopsAtRoomLine (streams old.source old.sink) (streams new.source new.sink) (room_at name (opened_room it) old.shelf opened) after end) opens_as.is
+    (subst (λ (it : ShelfState). SessionEnds AnswersRoomLine StopsAtRoomLine (streams old.source old.sink) (streams new.source new.sink) (room_at name (opened_room memory) it opened) after end) same ends) in
     let whole = subst IsWholeMemory opens_as.is opens_as.whole in
     record {
       state = opens_as.state;
       has = opens_as.has;
+      opened = opened;
+      opening = subst (λ (it : Memory). OpeningCounts it.state from opened) opens_as.is opening;
       after = after;
       ends = held;
       left = left;
+      counts = counts;
       promised = runs-promised by_room before held.course.lines held.course.steps held.went.runs whole (subst AreLinked opens_as.is opens_as.linked);
       seen = runs-taken opens_as.state [] before (opens_as.state.lines ∷ []) held.course.lines held.course.steps whole.state opens held.went.runs;
       counted = session-counted by_room (streams old.source old.sink) (streams new.source new.sink) before new.shelf after end held left;
     }
 
 -- A session that was held to its end.
-pub room-answered : (name : List ℕ) (old new : Outside) → HeldRoom name old new endings.Done → RoomAnsweredAll name old new
-room-answered name old new held =
+pub room-answered : (name : List ℕ) (old new : Outside) (from to : Counts) → HeldRoom name old new from to endings.Done → RoomAnsweredAll name old new from to
+room-answered name old new from to held =
     let course = held.ends.course in
     let all = held.ends.ends in
-    let opened = opened_room (opened_memory held.state) in
-    let before = room_at name opened old.shelf in
+    let room = opened_room (opened_memory held.state) in
+    let before = room_at name room old.shelf held.opened in
     let runs : Runs AnswersRoomLine before (command_lines course.read) course.steps = subst (λ (lines : List (List ℕ)). Runs AnswersRoomLine before lines course.steps) all.lines held.ends.went.runs in
     record {
       state = held.state;
       has = held.has;
+      opened = held.opened;
+      opening = held.opening;
       input = course.read;
       gave = held.ends.went.gave;
       at_end = all.at_end;
       steps = course.steps;
       runs = runs;
+      counts = held.counts ∙ ap (λ (it : AtShelf NamedRoom). it.counts) all.replied.left;
       wrote = all.replied.wrote;
       left = held.left ∙ ap (λ (it : AtShelf NamedRoom). it.shelf) all.replied.left ∙ sym (runs-last by_room before (command_lines course.read) course.steps runs);
       promised = held.promised;
-      seen = subst (λ (lines : List (List ℕ)). AreTakenSeen opened (held.state.lines ∷ []) lines course.steps) all.lines held.seen;
+      seen = subst (λ (lines : List (List ℕ)). AreTakenSeen room (held.state.lines ∷ []) lines course.steps) all.lines held.seen;
       counted = subst (λ (lines : List (List ℕ)). CountsUnsaved seat_saves old.shelf new.shelf lines course.steps) all.lines held.counted;
     }
 
 -- A room's session ends as the command lines ask for.
-pub room-settles : (name : List ℕ) (old new : Outside) → FailedNothing (streams old.source old.sink) (streams new.source new.sink) → (files : Files) → old.shelf.files ≡ Some files → (input : List ℕ)
-    → old.source.unread ≡ Some input → (end : SessionEnd) → HeldRoom name old new end → AnswersDesk name (files name) (files (records_name name)) input (status_of_end end)
-room-settles name old new calm files is input told end held =
+pub room-settles : (name : List ℕ) (old new : Outside) (from to : Counts) → FailedNothing (streams old.source old.sink) (streams new.source new.sink) → (files : Files) → old.shelf.files ≡ Some files → (input : List ℕ)
+    → old.source.unread ≡ Some input → (end : SessionEnd) → HeldRoom name old new from to end → AnswersDesk name (files name) (files (records_name name)) input (status_of_end end)
+room-settles name old new from to calm files is input told end held =
     session-answers name old end held.state held.has input
-    (ends-settle AnswersRoomLine StopsAtRoomLine (streams old.source old.sink) (streams new.source new.sink) (room_at name (opened_room (opened_memory held.state)) old.shelf) held.after end held.ends calm input told) files is
+    (ends-settle AnswersRoomLine StopsAtRoomLine (streams old.source old.sink) (streams new.source new.sink) (room_at name (opened_room (opened_memory held.state)) old.shelf held.opened) held.after end held.ends calm input told) files is
 
 -- ---- where no store failed
 
@@ -175,9 +182,9 @@ calm-answers before (line ∷ lines) (step ∷ steps) runs same low =
     calm-answers step.after lines steps runs.1 calm.later calm.low ∙ ap (λ (it : Answered RoomState). answered_room_lines it.after lines) first in
     ap₂ (λ (one : Answered RoomState) (rest : List (Answered RoomState)). one ∷ rest) first others
 
-pub room-calmly : (name : List ℕ) (old new : Outside) → RoomAnsweredAll name old new → new.shelf.faults ≡ old.shelf.faults → old.shelf.faults < 2 ^ 64 - 1 → RoomAnsweredCalmly name old new
-room-calmly name old new all same low =
-    let before = room_at name (opened_room (opened_memory all.state)) old.shelf in
+pub room-calmly : (name : List ℕ) (old new : Outside) (from to : Counts) → RoomAnsweredAll name old new from to → new.shelf.faults ≡ old.shelf.faults → old.shelf.faults < 2 ^ 64 - 1 → RoomAnsweredCalmly name old new
+room-calmly name old new from to all same low =
+    let before = room_at name (opened_room (opened_memory all.state)) old.shelf all.opened in
     let last : (left_by before all.steps).shelf ≡ new.shelf = sym (runs-last by_room before (command_lines all.input) all.steps all.runs) ∙ sym all.left in
     let end : (left_by before all.steps).shelf.faults ≡ old.shelf.faults = ap (λ (it : ShelfState). it.faults) last ∙ same in
     let steps = calm-answers before (command_lines all.input) all.steps all.runs end low in
@@ -192,7 +199,7 @@ room-calmly name old new all same low =
 
 -- ---- no other file is touched
 
-pub room-others : (name : List ℕ) (memory : Memory) (shelf : ShelfState) (old new : Outside) (after : AtShelf NamedRoom) (end : SessionEnd)
-    → SessionEnds AnswersRoomLine StopsAtRoomLine (streams old.source old.sink) (streams new.source new.sink) (room_at name (opened_room memory) shelf) after end
+pub room-others : (name : List ℕ) (memory : Memory) (shelf : ShelfState) (opened : Counts) (old new : Outside) (after : AtShelf NamedRoom) (end : SessionEnd)
+    → SessionEnds AnswersRoomLine StopsAtRoomLine (streams old.source old.sink) (streams new.source new.sink) (room_at name (opened_room memory) shelf opened) after end
     → Changes shelf.files after.shelf.files (λ one other. KeepsAllBut one other name (records_name name))
-room-others name memory shelf old new after end ends = session-others by_room (streams old.source old.sink) (streams new.source new.sink) (room_at name (opened_room memory) shelf) after end ends
+room-others name memory shelf opened old new after end ends = session-others by_room (streams old.source old.sink) (streams new.source new.sink) (room_at name (opened_room memory) shelf opened) after end ends

@@ -1,3 +1,4 @@
+pub mod SeatCounted
 pub mod RoomLines
 pub mod Seats
 pub mod RoomEnding

@@ -4,11 +4,12 @@ use Rattle.std.specs.Io.KnownBytes.{Appends, Consumes, IsAtEnd}
 use Rattle.spec_state.specs.State.{State}
 use Rattle.spec_machine.specs.Machine.{opened_memory}
 use Rattle.spec_session.specs.CommandLines.{command_lines}
-use Rattle.spec_session.specs.Runs.{Answered, AtShelf, Runs, output_of}
+use Rattle.spec_session.specs.Runs.{Answered, AtShelf, Counts, Runs, left_by, output_of}
 use Rattle.spec_session.specs.Sessions.{SessionEnds, streams}
 use Rattle.spec_session.specs.declared.SessionEnd.{SessionEnd}
 use Rattle.sp_words.specs.declared.status.Status.{Status}
 use Rattle.spec_room.specs.Rooms.{opened_room}
+use Rattle.sp_opening.specs.Counted.{OpeningCounts}
 use Rattle.sp_desk_session.specs.DeskLines.{memories_of, shelf_behind}
 use Rattle.sp_room_session.specs.RoomLines.{AnswersRoomLine, NamedRoom, StopsAtRoomLine, answered_room_lines, desk_in, room_at, seat_saves}
 use Rattle.sp_room_session.specs.Seats.{AreTakenSeen}
@@ -19,28 +20,34 @@ use Rattle.sp_desk_session.specs.DeskEnding.{CommandsEnd, CountsUnsaved}
 
 -- The same of a room round a desk that was opened so: its desk keeps what is promised, and each edit that the room took took away or
 -- changed just the lines that its seat saw.
-pub record HeldRoom (name : List ℕ) (old new : Outside) (end : SessionEnd) : Type 0 where
+pub record HeldRoom (name : List ℕ) (old new : Outside) (from to : Counts) (end : SessionEnd) : Type 0 where
   pub state : State
   pub has : HasState old.shelf name state
+  pub opened : Counts
+  pub opening : OpeningCounts state from opened
   pub after : AtShelf NamedRoom
-  pub ends : SessionEnds AnswersRoomLine StopsAtRoomLine (streams old.source old.sink) (streams new.source new.sink) (room_at name (opened_room (opened_memory state)) old.shelf) after end
+  pub ends : SessionEnds AnswersRoomLine StopsAtRoomLine (streams old.source old.sink) (streams new.source new.sink) (room_at name (opened_room (opened_memory state)) old.shelf opened) after end
   pub left : new.shelf ≡ after.shelf
+  pub counts : to ≡ after.counts
   pub promised : ArePromised (memories_of desk_in (opened_memory state) ends.course.steps)
   pub seen : AreTakenSeen (opened_room (opened_memory state)) (state.lines ∷ []) ends.course.lines ends.course.steps
   pub counted : CountsUnsaved seat_saves old.shelf new.shelf ends.course.lines ends.course.steps
 
-abbrev pub RoomEnds : List ℕ → Outside → Outside → Status → Type 0
-RoomEnds name old new status = CommandsEnd (HeldRoom name old new) name old new status
+abbrev pub RoomEnds : List ℕ → Outside → Outside → Counts → Counts → Status → Type 0
+RoomEnds name old new from to status = CommandsEnd (HeldRoom name old new from to) name old new from to status
 
 -- The same of a room.
-pub record RoomAnsweredAll (name : List ℕ) (old new : Outside) : Type 0 where
+pub record RoomAnsweredAll (name : List ℕ) (old new : Outside) (from to : Counts) : Type 0 where
   pub state : State
   pub has : HasState old.shelf name state
+  pub opened : Counts
+  pub opening : OpeningCounts state from opened
   pub input : List ℕ
   pub gave : Consumes old.source.unread new.source.unread input
   pub at_end : IsAtEnd new.source.unread
   pub steps : List (Answered (AtShelf NamedRoom))
-  pub runs : Runs AnswersRoomLine (room_at name (opened_room (opened_memory state)) old.shelf) (command_lines input) steps
+  pub runs : Runs AnswersRoomLine (room_at name (opened_room (opened_memory state)) old.shelf opened) (command_lines input) steps
+  pub counts : to ≡ (left_by (room_at name (opened_room (opened_memory state)) old.shelf opened) steps).counts
   pub wrote : Appends old.sink.taken new.sink.taken (output_of steps)
   pub left : new.shelf ≡ shelf_behind seat_saves old.shelf (command_lines input) steps
   pub promised : ArePromised (memories_of desk_in (opened_memory state) steps)

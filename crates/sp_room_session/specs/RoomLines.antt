@@ -6,9 +6,10 @@ use Rattle.spec_records.specs.RecordFile.{digest_of}
 use Rattle.spec_wire.specs.Commands.{CommandOf, FaultOf, RoomLineOf}
 use Rattle.spec_wire.specs.Lines.{room_line_of_line}
 use Rattle.spec_wire.specs.Replies.{ReplyOf, refused, saved, shelf, unreadable, room_reply_line}
-use Rattle.spec_session.specs.Runs.{Answered, AtShelf, at_shelf}
+use Rattle.spec_session.specs.Runs.{Answered, AtShelf, Counts, at_shelf}
 use Rattle.spec_room.specs.Rooms.{RoomState, RoomStep, room_step_to, room_step_of}
 use Rattle.sp_kit.specs.Files.{ShelfState}
+use Rattle.sp_room_session.specs.SeatCounted.{SeatCounts, SeatCountsAtMost}
 use Rattle.sp_desk_session.specs.DeskLines.{NamedDesk, Leaves, Stores, asks_save, is_packet, is_save, packet_reply}
 use Rattle.sp_desk_session.specs.Promises.{Follows}
 use Rattle.sp_opening.specs.Saving.{StoreFailed, files_of}
@@ -18,16 +19,16 @@ pub record NamedRoom : Type 0 where
   pub name : List ℕ
   pub room : RoomState
 
--- A room, its script's name, and the shelf.
-abbrev pub room_at : List ℕ → RoomState → ShelfState → AtShelf NamedRoom
-room_at name room files = record { it = record { name = name; room = room }; shelf = files }
+-- A room, its script's name, the shelf, and what was counted.
+abbrev pub room_at : List ℕ → RoomState → ShelfState → Counts → AtShelf NamedRoom
+room_at name room files counts = at_shelf (record { name = name; room = room }) files counts
 
 -- Its desk.
 abbrev pub desk_in : NamedRoom → NamedDesk
 desk_in it = record { name = it.name; memory = it.room.desk }
 
 abbrev pub desk_of_room : AtShelf NamedRoom → AtShelf NamedDesk
-desk_of_room at = at_shelf (desk_in at.it) at.shelf
+desk_of_room at = at_shelf (desk_in at.it) at.shelf at.counts
 
 -- What was read of a line, without the seat.
 abbrev pub seatless : Result RoomLineOf FaultOf → Result CommandOf FaultOf
@@ -94,6 +95,7 @@ pub record AnswersRoomLine (before : AtShelf NamedRoom) (line : List ℕ) (after
   pub reply : ReplyOf
   pub is : bytes ≡ room_reply_line reply after.it.room.version
   pub replies : SeatReplies before (room_line_of_line line) after reply
+  pub counts : SeatCounts before.it.room (room_line_of_line line) before.counts after.counts
   pub follows : Follows before.it.room.desk after.it.room.desk
 
 -- How want of memory leaves a room and its shelf: there was none for what the line asks, or for the line of the reply.
@@ -102,5 +104,6 @@ pub record SeatStops (before : AtShelf NamedRoom) (asked : Result RoomLineOf Fau
   pub name : after.it.name ≡ before.it.name
   pub leaves : Leaves (asks_save (seatless asked)) (desk_of_room before) (desk_of_room after)
 
-abbrev pub StopsAtRoomLine : AtShelf NamedRoom → List ℕ → AtShelf NamedRoom → Type 0
-StopsAtRoomLine before line after = SeatStops before (room_line_of_line line) after
+pub record StopsAtRoomLine (before : AtShelf NamedRoom) (line : List ℕ) (after : AtShelf NamedRoom) : Type 0 where
+  pub stops : SeatStops before (room_line_of_line line) after
+  pub counts : SeatCountsAtMost before.it.room (room_line_of_line line) before.counts after.counts

@@ -1,10 +1,13 @@
 //! Command lines of several seats, answered by a room.
-ghost use Rattle.std.specs.Prelude.{◌≡◌, ℕ, ◌+◌, ◌-◌, ◌^◌, ◌<◌, ◌≤◌, IfOk, OnErr};
+ghost use Rattle.std.specs.Prelude.{◌≡◌, ℕ, ◌+◌, ◌-◌, ◌^◌, ◌<◌, ◌≤◌, IfOk, OnOk, OnErr};
 ghost use Rattle.std.specs.declared.result.Result.TheVariants.{Ok};
 ghost use Rattle.spec_wire.specs.Lines.{room_line_of_line};
 ghost use Rattle.spec_wire.specs.Commands.{RoomLineOf};
 ghost use Rattle.sp_wire.specs.Values.{room_line_of, reply_of};
 ghost use Rattle.sp_room.specs.Answers.{IsRoomAnswer};
+ghost use Rattle.spec_session.specs.Runs.{counts_of};
+ghost use Rattle.sp_room.specs.Counts.{RoomReads, RoomFills};
+ghost use Rattle.sp_room_session.specs.SeatCounted.{SeatCounts, SeatCountsAtMost};
 ghost use Rattle.sp_desk_session.specs.Promises.{Follows};
 ghost use Rattle.sp_room_session.specs.RoomLines.{SeatReplies, SeatStops, room_at};
 
@@ -17,16 +20,15 @@ use sp_wire::{Refusal, Reply, RoomLine, WireFault, read_room_command, write_room
 use std::alloc::{AllocError, Global};
 use std::marker::Model;
 
-/// What answers the command lines of several seats: a room, its script's name, and what counts its steps.
+/// What answers the command lines of several seats: a room, and its script's name.
 #[derive(Drop)]
-pub struct RoomLines<'a, 'b, S> {
+pub struct RoomLines<'a> {
     pub alloc: Global,
     pub name: &'a str,
     pub room: Room,
-    pub steps: &'b mut S,
 }
 
-impl<'a, 'b, S> Model for RoomLines<'a, 'b, S> {
+impl<'a> Model for RoomLines<'a> {
     ghost use Rattle.sp_room_session.specs.RoomLines.{NamedRoom};
 
     ghost Value = { NamedRoom };
@@ -39,6 +41,8 @@ fn ask_room<S: Steps>(room: &mut Room, asked: RoomLine, steps: &mut S) -> Result
     requires version { (room.old).version + 1 < 2 ^ 64 }
     ensures step { IsRoomAnswer room.old (room_line_of asked) room.new result }
     ensures same { OnErr result (room.new ≡ room.old) }
+    ensures reads { RoomReads room.old (room_line_of asked) result (S.reads steps.old) (S.reads steps.new) }
+    ensures fills { RoomFills room.old (room_line_of asked) result (S.fills steps.old) (S.fills steps.new) }
     ensures follows { Follows (room.old).desk (room.new).desk }
     ensures version { (room.new).version ≤ (room.old).version + 1 }
 {
@@ -63,8 +67,10 @@ fn reply_to_seat<F: Shelf, S: Steps>(
     steps: &mut S,
 ) -> Result<Reply, AllocError>
     requires version { (room.old).version + 1 < 2 ^ 64 }
-    ensures reply { IfOk result (λ reply. SeatReplies (room_at name.now room.old (F.state shelf.old)) (Ok (room_line_of asked)) (room_at name.now room.new (F.state shelf.new)) (reply_of reply)) }
-    ensures stops { OnErr result (SeatStops (room_at name.now room.old (F.state shelf.old)) (Ok (room_line_of asked)) (room_at name.now room.new (F.state shelf.new))) }
+    ensures reply { IfOk result (λ reply. SeatReplies (room_at name.now room.old (F.state shelf.old) (counts_of (S.reads steps.old) (S.fills steps.old))) (Ok (room_line_of asked)) (room_at name.now room.new (F.state shelf.new) (counts_of (S.reads steps.new) (S.fills steps.new))) (reply_of reply)) }
+    ensures stops { OnErr result (SeatStops (room_at name.now room.old (F.state shelf.old) (counts_of (S.reads steps.old) (S.fills steps.old))) (Ok (room_line_of asked)) (room_at name.now room.new (F.state shelf.new) (counts_of (S.reads steps.new) (S.fills steps.new)))) }
+    ensures counts { OnOk result (SeatCounts room.old (Ok (room_line_of asked)) (counts_of (S.reads steps.old) (S.fills steps.old)) (counts_of (S.reads steps.new) (S.fills steps.new))) }
+    ensures at_most { OnErr result (SeatCountsAtMost room.old (Ok (room_line_of asked)) (counts_of (S.reads steps.old) (S.fills steps.old)) (counts_of (S.reads steps.new) (S.fills steps.new))) }
     ensures follows { Follows (room.old).desk (room.new).desk }
     ensures version { (room.new).version ≤ (room.old).version + 1 }
 {
@@ -93,8 +99,10 @@ fn reply_to_room_line<F: Shelf, S: Steps>(
     steps: &mut S,
 ) -> Result<Reply, AllocError>
     requires version { (room.old).version + 1 < 2 ^ 64 }
-    ensures reply { IfOk result (λ reply. SeatReplies (room_at name.now room.old (F.state shelf.old)) (room_line_of_line line.now) (room_at name.now room.new (F.state shelf.new)) (reply_of reply)) }
-    ensures stops { OnErr result (SeatStops (room_at name.now room.old (F.state shelf.old)) (room_line_of_line line.now) (room_at name.now room.new (F.state shelf.new))) }
+    ensures reply { IfOk result (λ reply. SeatReplies (room_at name.now room.old (F.state shelf.old) (counts_of (S.reads steps.old) (S.fills steps.old))) (room_line_of_line line.now) (room_at name.now room.new (F.state shelf.new) (counts_of (S.reads steps.new) (S.fills steps.new))) (reply_of reply)) }
+    ensures stops { OnErr result (SeatStops (room_at name.now room.old (F.state shelf.old) (counts_of (S.reads steps.old) (S.fills steps.old))) (room_line_of_line line.now) (room_at name.now room.new (F.state shelf.new) (counts_of (S.reads steps.new) (S.fills steps.new)))) }
+    ensures counts { OnOk result (SeatCounts room.old (room_line_of_line line.now) (counts_of (S.reads steps.old) (S.fills steps.old)) (counts_of (S.reads steps.new) (S.fills steps.new))) }
+    ensures at_most { OnErr result (SeatCountsAtMost room.old (room_line_of_line line.now) (counts_of (S.reads steps.old) (S.fills steps.old)) (counts_of (S.reads steps.new) (S.fills steps.new))) }
     ensures follows { Follows (room.old).desk (room.new).desk }
     ensures version { (room.new).version ≤ (room.old).version + 1 }
 {
@@ -108,7 +116,7 @@ fn reply_to_room_line<F: Shelf, S: Steps>(
     }
 }
 
-impl<'a, 'b, S: Steps> Responder for RoomLines<'a, 'b, S> {
+impl<'a> Responder for RoomLines<'a> {
     ghost use Rattle.std.specs.Prelude.{◌-◌, ◌^◌};
     ghost use Rattle.sp_room_session.specs.RoomLines.{AnswersRoomLine, StopsAtRoomLine};
 
@@ -118,15 +126,13 @@ impl<'a, 'b, S: Steps> Responder for RoomLines<'a, 'b, S> {
 
     ghost lasts = { λ r. 2 ^ 64 - 1 - r.room.version };
 
-    fn answer<F: Shelf>(&mut self, line: &[u8], shelf: &mut F) -> Result<Vec<u8>, AllocError> {
-        let reply = reply_to_room_line(
-            self.alloc,
-            self.name,
-            &mut self.room,
-            line,
-            shelf,
-            self.steps,
-        )?;
+    fn answer<F: Shelf, S: Steps>(
+        &mut self,
+        line: &[u8],
+        shelf: &mut F,
+        steps: &mut S,
+    ) -> Result<Vec<u8>, AllocError> {
+        let reply = reply_to_room_line(self.alloc, self.name, &mut self.room, line, shelf, steps)?;
         write_room_reply(self.alloc, &reply, self.room.version())
     }
 }

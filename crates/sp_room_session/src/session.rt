@@ -3,6 +3,7 @@ ghost use Rattle.std.specs.Prelude.{◌≡◌};
 ghost use Rattle.sp_opening.specs.Records.{records_name};
 ghost use Rattle.sp_opening.specs.Saving.{Changes, KeepsAllBut};
 ghost use Rattle.sp_opening.specs.Unopened.{outside};
+ghost use Rattle.spec_session.specs.Runs.{counts_of};
 ghost use Rattle.sp_room_session.specs.RoomEnding.{RoomEnds};
 
 use crate::room_lines::RoomLines;
@@ -22,7 +23,7 @@ pub fn hold_room<I: Source, O: Sink, F: Shelf, S: Steps>(
     shelf: &mut F,
     steps: &mut S,
 ) -> Status
-    ensures ends { RoomEnds name.now (outside (I.state input.old) (O.state output.old) (F.state shelf.old)) (outside (I.state input.new) (O.state output.new) (F.state shelf.new)) result }
+    ensures ends { RoomEnds name.now (outside (I.state input.old) (O.state output.old) (F.state shelf.old)) (outside (I.state input.new) (O.state output.new) (F.state shelf.new)) (counts_of (S.reads steps.old) (S.fills steps.old)) (counts_of (S.reads steps.new) (S.fills steps.new)) result }
     ensures others { Changes (F.state shelf.old).files (F.state shelf.new).files (λ old new. KeepsAllBut old new name.now (records_name name.now)) }
 {
     let desk = match open_desk(alloc, name, input, shelf, steps) {
@@ -33,7 +34,6 @@ pub fn hold_room<I: Source, O: Sink, F: Shelf, S: Steps>(
         alloc,
         name,
         room: Room::open(alloc, desk),
-        steps,
     };
-    Status::from(session(alloc, &mut lines, input, output, shelf))
+    Status::from(session(alloc, &mut lines, input, output, shelf, steps))
 }

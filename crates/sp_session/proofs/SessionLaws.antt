@@ -29,7 +29,7 @@ pub record Answering {R : Type 0} (answers : R → List ℕ → R → List ℕ �
   pub runs : Runs answers before lines steps
   pub replied : Replied old new before after steps
 
-none-answered : {R : Type 0} (answers : R → List ℕ → R → List ℕ → Type 0) (sink : SinkState) (before : R) → Answering answers sink sink before before []
+pub none-answered : {R : Type 0} (answers : R → List ℕ → R → List ℕ → Type 0) (sink : SinkState) (before : R) → Answering answers sink sink before before []
 none-answered answers sink before = record { steps = []; runs = tt; replied = record { wrote = Appends-nil sink.taken; kept = refl; left = refl } }
 
 -- A line more was answered; what the sink took of the reply is said apart.

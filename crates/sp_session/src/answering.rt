@@ -1,12 +1,12 @@
 ghost use Rattle.std.specs.Prelude.{◌≡◌, ◌+◌, ◌<◌, ◌≤◌, IfSome, OnOk};
 ghost use Rattle.spec_session.specs.CommandLines.{command_count_limit, KeepsLimits};
-ghost use Rattle.spec_session.specs.Runs.{at_shelf};
+ghost use Rattle.spec_session.specs.Runs.{at_shelf, counts_of};
 ghost use Rattle.spec_session.specs.Sessions.{streams, SessionEnds, Tells, Settles, AnswersAll, FailedNothing};
 ghost use Rattle.sp_session.specs.Answering.{AnswersLine, end_of};
 
 use crate::lines::{CommandLines, LineStop, NextLine};
 use crate::responder::Responder;
-use sp_kit::{Shelf, Sink, Source, write_whole};
+use sp_kit::{Shelf, Sink, Source, Steps, write_whole};
 use spec_session::SessionEnd;
 use std::alloc::Global;
 
@@ -15,16 +15,17 @@ use std::alloc::Global;
 /// `WriteFault` come only where that count of faults rose in this call, `CommandLong` and `InputFull` exactly where a
 /// line or their number passes its limit, and at most one byte past a limit is read. What answers has to last for as many
 /// lines as a session may have.
-pub fn session<R: Responder, I: Source, O: Sink, F: Shelf>(
+pub fn session<R: Responder, I: Source, O: Sink, F: Shelf, S: Steps>(
     alloc: Global,
     responder: &mut R,
     input: &mut I,
     output: &mut O,
     shelf: &mut F,
+    steps: &mut S,
 ) -> SessionEnd
     requires lasts { command_count_limit ≤ R.lasts responder.old }
     ensures ends { SessionEnds R.answers R.stops (streams (I.state input.old) (O.state output.old)) (streams (I.state input.new) (O.state output.new))
-        (at_shelf responder.old (F.state shelf.old)) (at_shelf responder.new (F.state shelf.new)) result }
+        (at_shelf responder.old (F.state shelf.old) (counts_of (S.reads steps.old) (S.fills steps.old))) (at_shelf responder.new (F.state shelf.new) (counts_of (S.reads steps.new) (S.fills steps.new))) result }
 
     // What the end tells of the whole input, where the source tells it.
     ensures tells { IfSome (I.state input.old).unread (λ all. Tells all result) }
@@ -35,20 +36,21 @@ pub fn session<R: Responder, I: Source, O: Sink, F: Shelf>(
     ensures complete { FailedNothing (streams (I.state input.old) (O.state output.old)) (streams (I.state input.new) (O.state output.new))
         → IfSome (I.state input.old).unread (λ all. KeepsLimits all → AnswersAll result) }
 {
-    answer_lines(alloc, responder, input, output, shelf)
+    answer_lines(alloc, responder, input, output, shelf, steps)
 }
 
 /// Answers line after line until the session ends.
-fn answer_lines<R: Responder, I: Source, O: Sink, F: Shelf>(
+fn answer_lines<R: Responder, I: Source, O: Sink, F: Shelf, S: Steps>(
     alloc: Global,
     responder: &mut R,
     input: &mut I,
     output: &mut O,
     shelf: &mut F,
+    steps: &mut S,
 ) -> SessionEnd
     requires lasts { command_count_limit ≤ R.lasts responder.old }
     ensures { SessionEnds R.answers R.stops (streams (I.state input.old) (O.state output.old)) (streams (I.state input.new) (O.state output.new))
-        (at_shelf responder.old (F.state shelf.old)) (at_shelf responder.new (F.state shelf.new)) result }
+        (at_shelf responder.old (F.state shelf.old) (counts_of (S.reads steps.old) (S.fills steps.old))) (at_shelf responder.new (F.state shelf.new) (counts_of (S.reads steps.new) (S.fills steps.new))) result }
 {
     let mut lines = match CommandLines::new(alloc) {
         Ok(lines) => lines,
@@ -57,12 +59,12 @@ fn answer_lines<R: Responder, I: Source, O: Sink, F: Shelf>(
     loop {
         match lines.next(input) {
             Ok(NextLine::Whole) => {
-                if let Err(end) = answer_line(responder, lines.line(), output, shelf) {
+                if let Err(end) = answer_line(responder, lines.line(), output, shelf, steps) {
                     return end;
                 }
             }
             Ok(NextLine::Last) => {
-                if let Err(end) = answer_line(responder, lines.line(), output, shelf) {
+                if let Err(end) = answer_line(responder, lines.line(), output, shelf, steps) {
                     return end;
                 }
                 return SessionEnd::Done;
@@ -74,17 +76,18 @@ fn answer_lines<R: Responder, I: Source, O: Sink, F: Shelf>(
 }
 
 /// Answers one line and writes the reply whole.
-fn answer_line<R: Responder, O: Sink, F: Shelf>(
+fn answer_line<R: Responder, O: Sink, F: Shelf, S: Steps>(
     responder: &mut R,
     line: &[u8],
     output: &mut O,
     shelf: &mut F,
+    steps: &mut S,
 ) -> Result<(), SessionEnd>
     requires can { 0 < R.lasts responder.old }
-    ensures answers { AnswersLine R.answers R.stops (O.state output.old) (O.state output.new) (at_shelf responder.old (F.state shelf.old)) (at_shelf responder.new (F.state shelf.new)) line.now result }
+    ensures answers { AnswersLine R.answers R.stops (O.state output.old) (O.state output.new) (at_shelf responder.old (F.state shelf.old) (counts_of (S.reads steps.old) (S.fills steps.old))) (at_shelf responder.new (F.state shelf.new) (counts_of (S.reads steps.new) (S.fills steps.new))) line.now result }
     ensures lasts_on { OnOk result (R.lasts responder.old ≤ R.lasts responder.new + 1) }
 {
-    let reply = match responder.answer(line, shelf) {
+    let reply = match responder.answer(line, shelf, steps) {
         Ok(reply) => reply,
         Err(_) => return Err(SessionEnd::NoMemory),
     };

@@ -1,13 +1,17 @@
 //! Writing a script: its sheets, its outline, its page for a browser, the sides of its cast or its packet to the sink (docs/RULES.md, "The program").
 ghost use Rattle.std.specs.Prelude.{◌≡◌, ◌+◌, true, false};
 ghost use Rattle.spec_text.specs.Limits.{raw_limit};
+ghost use Rattle.spec_session.specs.Runs.{counts_of};
+ghost use Rattle.spec_state.specs.Keeping.{IsWhole, state_of};
 ghost use Rattle.spec_machine.specs.Outlines.{outline_of};
 ghost use Rattle.spec_cast.specs.Said.{said_of};
 ghost use Rattle.spec_cast.specs.Sides.{sides_of};
 ghost use Rattle.sp_show.specs.Views.{HasView, LacksView, view_bytes};
+ghost use Rattle.sp_text.specs.Gap.{text_of};
 ghost use Rattle.sp_words.specs.Forms.{origin_of};
 ghost use Rattle.sp_opening.specs.Opening.{LeavesSource, LeavesShelf};
 ghost use Rattle.sp_show.specs.Showing.{EndsAs};
+ghost use Rattle.sp_show.specs.ShowCounted.{ShowCountsAs, ShowsState};
 ghost use Rattle.sp_opening.specs.Unopened.{ReadsUpTo, outside};
 ghost use Rattle.sp_words.specs.Written.{IsWritten};
 
@@ -15,12 +19,13 @@ use crate::sheets::{write_packet, write_pages, write_sheets};
 use sp_cast::sides;
 use sp_contents::{outline_text, said};
 use sp_kit::{Shelf, Sink, Source, Steps, write_whole};
-use sp_opening::open_state;
+use sp_opening::{Opened, open_state};
 use sp_state::Script;
 use sp_words::{Origin, Status, View};
 use std::alloc::Global;
 
-/// Writes a view of a script.
+/// Writes a view of a script. Each stanza of it is read once and each page of its body filled once where it is opened, and
+/// nothing else is counted.
 pub fn show_script<I: Source, O: Sink, F: Shelf, S: Steps>(
     alloc: Global,
     view: View,
@@ -35,8 +40,23 @@ pub fn show_script<I: Source, O: Sink, F: Shelf, S: Steps>(
     ensures source_kept { LeavesSource (origin_of origin.entry) input.old input.new }
     ensures shelf_kept { LeavesShelf (origin_of origin.entry) shelf.old shelf.new }
     ensures files_kept { (F.state shelf.new).files ≡ (F.state shelf.old).files }
+    ensures counts { ShowCountsAs view (origin_of origin.entry) (outside (I.state input.old) (O.state output.old) (F.state shelf.old)) (outside (I.state input.new) (O.state output.new) (F.state shelf.new)) (counts_of (S.reads steps.old) (S.fills steps.old)) (counts_of (S.reads steps.new) (S.fills steps.new)) result }
 {
     let opened = open_state(alloc, origin, input, shelf)?;
+    show_opened(alloc, view, opened, output, steps)
+}
+
+/// Writes a view of a script that was had whole.
+fn show_opened<O: Sink, S: Steps>(
+    alloc: Global,
+    view: View,
+    opened: Opened,
+    output: &mut O,
+    steps: &mut S,
+) -> Result<(), Status>
+    requires { IsWhole (state_of (text_of opened.lines) opened.records) }
+    ensures { ShowsState view (state_of (text_of opened.lines) opened.records) (O.state output.old) (O.state output.new) (counts_of (S.reads steps.old) (S.fills steps.old)) (counts_of (S.reads steps.new) (S.fills steps.new)) result }
+{
     let script = Script::open(alloc, opened.lines, opened.records, steps)?;
     if lacks_view(view, &script) {
         return Err(Status::NotLocked);

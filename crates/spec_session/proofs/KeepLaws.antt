@@ -1,9 +1,9 @@
 -- What a session keeps of what answers its lines.
-use Rattle.std.proofs.Common.{◌≡◌, ℕ, inl, inr, List, [], ◌∷◌, ◌++◌, sym, ap, ◌∙◌, subst}
+use Rattle.std.proofs.Common.{ℕ, inl, inr, List, sym, ap, ◌∙◌, subst}
 use Rattle.std.specs.declared.option.Option.{Option}
 use Rattle.spec_session.specs.declared.SessionEnd.{SessionEnd}
 use Rattle.spec_session.specs.declared.SessionEnd.TheVariants as endings
-use Rattle.spec_session.specs.Runs.{Answered, left_by}
+use Rattle.spec_session.specs.Runs.{left_by}
 use Rattle.spec_session.specs.Sessions.{Streams, Course, RanOut, EndsAs, SessionEnds}
 use Rattle.spec_session.proofs.RunLaws.{runs-keep, left_by-push}
 

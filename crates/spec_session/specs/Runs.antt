@@ -2,13 +2,22 @@
 use Rattle.std.specs.Prelude.{ℕ, List, [], ◌∷◌, map, flat_map}
 use Rattle.sp_kit.specs.Files.{ShelfState}
 
--- What answers lines, and the shelf that it has.
+-- How many stanzas were read, and how many pages were filled.
+pub record Counts : Type 0 where
+  pub reads : ℕ
+  pub fills : ℕ
+
+abbrev pub counts_of : ℕ → ℕ → Counts
+counts_of reads fills = record { reads = reads; fills = fills }
+
+-- What answers lines, the shelf that it has, and what was counted.
 pub record AtShelf (R : Type 0) : Type 0 where
   pub it : R
   pub shelf : ShelfState
+  pub counts : Counts
 
-abbrev pub at_shelf : {R : Type 0} → R → ShelfState → AtShelf R
-at_shelf it shelf = record { it = it; shelf = shelf }
+abbrev pub at_shelf : {R : Type 0} → R → ShelfState → Counts → AtShelf R
+at_shelf it shelf counts = record { it = it; shelf = shelf; counts = counts }
 
 -- A line answered: what answers it, as it is then, and the bytes of its reply.
 pub record Answered (R : Type 0) : Type 0 where

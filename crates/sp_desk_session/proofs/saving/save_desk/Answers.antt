@@ -1,4 +1,4 @@
-use Rattle.std.proofs.Common.{◌≡◌, ap, ap₂, ◌∙◌, sym, subst}
+use Rattle.std.proofs.Common.{◌≡◌, ap₂, sym, subst}
 use Rattle.std.specs.Prelude.{IfOk, OnErr}
 use Rattle.spec_text.specs.Lines.{TextState}
 use Rattle.spec_records.specs.Kept.{RecordsOf}

@@ -1,10 +1,16 @@
-use Rattle.std.proofs.Common.{sym, subst}
-use Rattle.sp_words.specs.declared.form.View.{View}
-use Rattle.sp_show.specs.Views.{view_bytes}
-use Rattle.sp_words.specs.Written.{IsWritten}
 use Rattle.sp_show.proofs.show.write_view.Goals as goal
 
+pub returns-in-Sheets : goal.returns-in-Sheets
+returns-in-Sheets g c = rw c.in-Sheets.is (assumption c)
+
+pub returns-in-Outline : goal.returns-in-Outline
+returns-in-Outline g c = rw c.in-Outline.is (assumption c)
+
 pub returns-in-Html : goal.returns-in-Html
-returns-in-Html g c =
-    subst (λ (view : View). IsWritten (g.O.Sink.state c.args.output.now) (g.O.Sink.state c.write_pages.new.output) (view_bytes view c.args.script.now) c.write_pages.result) (sym c.in-Html.is)
-    c.write_pages.ensures.written
+returns-in-Html g c = rw c.in-Html.is (assumption c)
+
+pub returns-in-Cast : goal.returns-in-Cast
+returns-in-Cast g c = rw c.in-Cast.is (assumption c)
+
+pub returns-in-Packet : goal.returns-in-Packet
+returns-in-Packet g c = rw c.in-Packet.is (assumption c)
