@@ -2,4 +2,3 @@ pub mod Counted
 pub mod DeskLines
 pub mod Promises
 pub mod DeskEnding
-pub mod SampleCounts

@@ -1,5 +1,6 @@
 -- What a sample counts for which there was no memory.
 use Rattle.std.proofs.Common.{◌≡◌, ℕ, List, [], ◌∷◌, inl, inr, refl, subst, arith}
+use Rattle.std.specs.Prelude.{Result, Ok, Err, OnOk, OnErr}
 use Rattle.spec_wire.specs.Commands.{CommandOf}
 use Rattle.spec_machine.specs.Machine.{Memory}
 use Rattle.spec_sample.specs.Sample.{stepped}
@@ -7,7 +8,16 @@ use Rattle.sp_reread.specs.Cache.{RisesWithin}
 use Rattle.sp_reflow.specs.Filling.{FilledAtMost}
 use Rattle.sp_desk.proofs.Counting.{no-fills, no-reads}
 use Rattle.sp_desk.specs.Outcomes.{FillsAtMost, FillsOf, ReadsAtMost, ReadsOf}
-use Rattle.sp_desk_session.specs.SampleCounts.{CountsAlong, CountsUpTo}
+use Rattle.sp_sample_session.specs.SampleCounts.{CountsAlong, CountsUpTo}
+
+-- What holds where there is an answer, and where it is an error.
+pub on-ok : {T E : Type 0} {P : Type 0} (result : Result T E) → P → OnOk result P
+on-ok (Ok value) holds = holds
+on-ok (Err fault) holds = tt
+
+pub on-err : {T E : Type 0} {P : Type 0} (result : Result T E) → P → OnErr result P
+on-err (Ok value) holds = tt
+on-err (Err fault) holds = holds
 
 pub none-risen : (most count : ℕ) → RisesWithin most count count
 none-risen most count = record { rise = 0; low = omega arith; counted = refl }

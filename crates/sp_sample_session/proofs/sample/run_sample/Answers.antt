@@ -5,9 +5,9 @@ use Rattle.spec_state.specs.State.{State}
 use Rattle.spec_machine.specs.Machine.{Memory, opened_memory}
 use Rattle.spec_sample.specs.Sample.{sample_commands, sample_opened, state_line, stepped}
 use Rattle.sp_desk.specs.Outcomes.{FillsAtMost, FillsOf, ReadsAtMost, ReadsOf}
-use Rattle.sp_desk_session.proofs.Replies.{on-err, on-ok}
-use Rattle.sp_desk_session.proofs.SampleLaws.{all-along, along, fills-unbegun, reads-unbegun, up-to}
-use Rattle.sp_desk_session.proofs.sample.run_sample.Goals as goal
+use Rattle.sp_sample_session.proofs.SampleLaws.{on-err, on-ok}
+use Rattle.sp_sample_session.proofs.SampleLaws.{all-along, along, fills-unbegun, reads-unbegun, up-to}
+use Rattle.sp_sample_session.proofs.sample.run_sample.Goals as goal
 
 pub returns-clause-line : goal.returns-clause-line
 returns-clause-line g c =

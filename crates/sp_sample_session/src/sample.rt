@@ -9,7 +9,7 @@ ghost use Rattle.sp_reread.specs.Cache.{RisesWithin, counted_on};
 ghost use Rattle.sp_reflow.specs.Filling.{FilledAtMost};
 ghost use Rattle.sp_reflow.specs.Starts.{many_more};
 ghost use Rattle.sp_desk.specs.Outcomes.{FillsAtMost, FillsOf, ReadsAtMost, ReadsOf};
-ghost use Rattle.sp_desk_session.specs.SampleCounts.{CountsAlong, CountsUpTo, SampleFills, SampleFillsAtMost, SampleReads, SampleReadsAtMost};
+ghost use Rattle.sp_sample_session.specs.SampleCounts.{CountsAlong, CountsUpTo, SampleFills, SampleFillsAtMost, SampleReads, SampleReadsAtMost};
 
 use sp_desk::{Desk, DeskFault};
 use sp_kit::Steps;
