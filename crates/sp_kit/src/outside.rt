@@ -36,7 +36,7 @@ pub trait Sink {
 }
 
 /// Writes the whole piece. `Failed` comes only where the sink's count of faults rose in this call, and then the sink
-/// took a prefix of the piece. Takes no memory.
+/// took a part of the piece from its front, and not all of it. Takes no memory.
 pub fn write_whole<O: Sink>(sink: &mut O, piece: &[u8]) -> Result<(), Failed>
     ensures { Writes (O.state sink.old) (O.state sink.new) piece.now result }
 {

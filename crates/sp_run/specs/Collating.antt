@@ -85,7 +85,7 @@ pub record Collated (old new : List ℕ) (shelf after : ShelfState) (sink writte
   pub comes : Comes old new shelf after (gives bytes)
   pub wrote : WroteAll sink written bytes
 
--- A prefix of it was written, and the sink failed.
+-- A part of it was written, and not all of it: the sink failed.
 pub record PartCollated (old new : List ℕ) (shelf after : ShelfState) (sink written : SinkState) : Type 0 where
   pub bytes : List ℕ
   pub comes : Comes old new shelf after (gives bytes)

@@ -31,12 +31,12 @@ pub record ToldSample (rooms : ℕ) (old new : SinkState) (from to : Counts) : T
   pub wrote : WroteAll old new (sample_output rooms)
   pub counts : SampleCounts rooms from to
 
--- It was made, and a prefix of its line was written.
+-- It was made, and a part of its line was written, and not all of it.
 pub record PartTold (rooms : ℕ) (old new : SinkState) (from to : Counts) : Type 0 where
   pub wrote : WrotePart old new (sample_output rooms)
   pub counts : SampleCounts rooms from to
 
--- How a run ends that tells of a sample: its line was written, or a prefix of it, or there was no memory and nothing was.
+-- How a run ends that tells of a sample: its line was written, or a part of it, or there was no memory and nothing was.
 abbrev pub SampleEnds : ℕ → Outside → Outside → Counts → Counts → Status → Type 0
 SampleEnds rooms old new from to statuses.Done = ToldSample rooms old.sink new.sink from to
 SampleEnds rooms old new from to statuses.Usage = ⊥

@@ -123,6 +123,7 @@ ends-line answers halts old new begun mid after_sink before between after lines 
         last = record { after = after; reply = reply };
         split = refl;
         count = took.count;
+        short = took.short;
         wrote = Appends-trans begun.taken mid.taken after_sink.taken (output_of it.steps) (take took.count reply) it.replied.wrote took.wrote;
         left = refl;
         kept = comes.kept;

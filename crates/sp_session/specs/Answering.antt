@@ -1,5 +1,5 @@
 -- What answering one line does.
-use Rattle.std.specs.Prelude.{◌≡◌, ℕ, List, take, Ok, Err}
+use Rattle.std.specs.Prelude.{◌≡◌, ℕ, ◌<◌, List, length, take, Ok, Err}
 use Rattle.std.specs.declared.result.Result.{Result}
 use Rattle.std.specs.Io.KnownBytes.{Appends}
 use Rattle.sp_kit.specs.Causes.{Rose}
@@ -20,9 +20,10 @@ pub record TookAll (old new : SinkState) (reply : List ℕ) : Type 0 where
   pub wrote : Appends old.taken new.taken reply
   pub kept : new.faults ≡ old.faults
 
--- The sink failed, and took a prefix of the reply.
+-- The sink failed, and took a part of the reply, and not all of it.
 pub record TookPart (old new : SinkState) (reply : List ℕ) : Type 0 where
   pub count : ℕ
+  pub short : count < length reply
   pub wrote : Appends old.taken new.taken (take count reply)
   pub rose : Rose old.faults new.faults
 

@@ -71,8 +71,7 @@ writes-counts view origin old new state from to (Ok done) had has written counts
     let shown : Shown view origin old new = record { state = state; had = had; has = has; wrote = written.wrote; kept = written.kept } in
     record { shown = shown; counts = counts }
 writes-counts view origin old new state from to (Err statuses.WriteFault) had has written counts =
-    let part : PartWritten view origin old new = record { state = state; had = had; has = has; wrote = written.wrote } in
-    let shown : PartShown view origin old new = record { part = part; rose = written.rose } in
+    let shown : PartShown view origin old new = record { state = state; had = had; has = has; wrote = written.wrote; rose = written.rose } in
     record { shown = shown; counts = counts }
 writes-counts view origin old new state from to (Err statuses.NoMemory) had has written counts =
     let part : PartWritten view origin old new = record { state = state; had = had; has = has; wrote = written.wrote } in

@@ -43,8 +43,7 @@ pub show-ends : (view : View) (origin : OriginOf) (old new : Outside) (state : S
     → IsWritten old.sink new.sink (view_bytes view state) result → EndsAs view origin old new result
 show-ends view origin old new state (Ok done) had has written = record { state = state; had = had; has = has; wrote = written.wrote; kept = written.kept }
 show-ends view origin old new state (Err statuses.WriteFault) had has written =
-    let part : PartWritten view origin old new = record { state = state; had = had; has = has; wrote = written.wrote } in
-    (record { part = part; rose = written.rose }, tt)
+    (record { state = state; had = had; has = has; wrote = written.wrote; rose = written.rose }, tt)
 show-ends view origin old new state (Err statuses.NoMemory) had has written =
     let part : PartWritten view origin old new = record { state = state; had = had; has = has; wrote = written.wrote } in
     (record { kept = had-whole origin old.source new.source old.shelf new.shelf had.script had.had; writes = written.kept; wrote = inr part }, tt)

@@ -5,7 +5,7 @@ use Rattle.std.specs.declared.result.Result.{Result}
 use Rattle.std.proofs.KnownBytes.{Appends-trans}
 use Rattle.sp_kit.specs.Causes.{Rose}
 use Rattle.sp_kit.specs.Outside.{SinkState}
-use Rattle.sp_kit.proofs.Writing.{AppendsPrefix-front, AppendsPrefix-then}
+use Rattle.sp_kit.proofs.Writing.{AppendsPrefix-front, AppendsPrefix-then, AppendsPart-front, AppendsPart-then}
 use Rattle.sp_words.specs.Written.{WroteAll, IsWritten}
 use Rattle.sp_words.specs.declared.status.Status.{Status}
 use Rattle.sp_words.specs.declared.status.Status.TheVariants as statuses
@@ -16,7 +16,7 @@ pub written-both : (old mid new : SinkState) (a b : List ℕ) (r : Result (Unit 
 written-both old mid new a b (Ok done) first second =
     record { wrote = Appends-trans old.taken mid.taken new.taken a b first.wrote second.wrote; kept = second.kept ∙ first.kept }
 written-both old mid new a b (Err statuses.WriteFault) first second =
-    record { wrote = AppendsPrefix-then old.taken mid.taken new.taken a b first.wrote second.wrote; rose = subst (λ n. Rose n new.faults) first.kept second.rose }
+    record { wrote = AppendsPart-then old.taken mid.taken new.taken a b first.wrote second.wrote; rose = subst (λ n. Rose n new.faults) first.kept second.rose }
 written-both old mid new a b (Err statuses.NoMemory) first second =
     record { wrote = AppendsPrefix-then old.taken mid.taken new.taken a b first.wrote second.wrote; kept = second.kept ∙ first.kept }
 written-both old mid new a b (Err statuses.Done) first second = second
@@ -34,7 +34,7 @@ written-both old mid new a b (Err statuses.NotLocked) first second = second
 -- The first part ended with a fault, and the second was not written.
 pub written-first : (old new : SinkState) (a b : List ℕ) (status : Status)
     → IsWritten old new a (Err status) → IsWritten old new (a ++ b) (Err status)
-written-first old new a b statuses.WriteFault first = record { wrote = AppendsPrefix-front old.taken new.taken a b first.wrote; rose = first.rose }
+written-first old new a b statuses.WriteFault first = record { wrote = AppendsPart-front old.taken new.taken a b first.wrote; rose = first.rose }
 written-first old new a b statuses.NoMemory first = record { wrote = AppendsPrefix-front old.taken new.taken a b first.wrote; kept = first.kept }
 written-first old new a b statuses.Done first = first
 written-first old new a b statuses.Usage first = first

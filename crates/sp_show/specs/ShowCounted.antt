@@ -22,7 +22,7 @@ pub record ShownCounts (view : View) (origin : OriginOf) (old new : Outside) (fr
 -- The same where the sink failed, where there was no memory behind the opening, and where the state hasn't the view.
 pub record PartShownCounts (view : View) (origin : OriginOf) (old new : Outside) (from to : Counts) : Type 0 where
   pub shown : PartShown view origin old new
-  pub counts : OpeningCounts shown.part.state from to
+  pub counts : OpeningCounts shown.state from to
 
 pub record PartWrittenCounts (view : View) (origin : OriginOf) (old new : Outside) (from to : Counts) : Type 0 where
   pub part : PartWritten view origin old new

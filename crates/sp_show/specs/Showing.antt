@@ -5,7 +5,7 @@ use Rattle.std.specs.Io.KnownBytes.{Appends, Keeps}
 use Rattle.spec_state.specs.State.{State}
 use Rattle.spec_state.specs.Printing.{Printing, no_utf8, long_line, printed, printing_of}
 use Rattle.sp_kit.specs.Causes.{Rose}
-use Rattle.sp_kit.specs.Outside.{AppendsPrefix}
+use Rattle.sp_kit.specs.Outside.{AppendsPrefix, AppendsPart}
 use Rattle.sp_text.specs.declared.fault.TextFault.TheVariants as faults
 use Rattle.sp_words.specs.declared.status.Status.{Status}
 use Rattle.sp_words.specs.declared.status.Status.TheVariants as statuses
@@ -31,9 +31,12 @@ pub record PartWritten (view : View) (origin : OriginOf) (old new : Outside) : T
   pub has : HasView view state
   pub wrote : AppendsPrefix old.sink.taken new.sink.taken (view_bytes view state)
 
--- The sink failed, and what was written is a prefix of this view of a script that was had whole.
+-- The sink failed, and what was written is a part of this view of a script that was had whole, and not all of it.
 pub record PartShown (view : View) (origin : OriginOf) (old new : Outside) : Type 0 where
-  pub part : PartWritten view origin old new
+  pub state : State
+  pub had : HadState origin old.source new.source old.shelf new.shelf state
+  pub has : HasView view state
+  pub wrote : AppendsPart old.sink.taken new.sink.taken (view_bytes view state)
   pub rose : Rose old.sink.faults new.sink.faults
 
 -- A script was had whole, with what stands beside it, and the state that they open as hasn't this view. Nothing was written.

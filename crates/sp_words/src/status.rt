@@ -23,7 +23,7 @@ pub enum Status {
     BadText(TextFault),
     /// The source failed. Nothing was written of a script; of a session, the replies to the lines that were read whole.
     ReadFault,
-    /// The sink failed, and took a prefix of the output.
+    /// The sink failed, and took a part of the output from its front, and not all of it.
     WriteFault,
     /// The shelf failed while the script, its records or a file of sheets was fetched. Nothing was written.
     ShelfFault,

@@ -48,6 +48,7 @@ ends_as-seen stops halts view halted old new before after course endings.WriteFa
   last = step_seen view it.last;
   split = ap (steps_seen view) it.split ∙ map-append (step_seen view) it.done (it.last ∷ []);
   count = it.count;
+  short = it.short;
   wrote = subst (λ bytes. Appends old.sink.taken new.sink.taken (bytes ++ take it.count it.last.reply)) (sym (output_of-seen view it.done)) it.wrote;
   left = ap view it.left;
   kept = it.kept;

@@ -55,13 +55,14 @@ pub record ReadFailed {R : Type 0} (old new : Streams) (before after : R) (cours
   pub replied : Replied old.sink new.sink before after course.steps
   pub rose : Rose old.source.faults new.source.faults
 
--- The sink failed; it took the replies to all lines that were answered, of the last one a prefix.
+-- The sink failed; it took the replies to all lines that were answered, of the last one a part, and not all of it.
 pub record WriteFailed {R : Type 0} (old new : Streams) (after : R) (course : Course R) : Type 0 where
   pub first : AreFirst course.lines course.read new.source.unread
   pub done : List (Answered R)
   pub last : Answered R
   pub split : course.steps ≡ done ++ last ∷ []
   pub count : ℕ
+  pub short : count < length last.reply
   pub wrote : Appends old.sink.taken new.sink.taken (output_of done ++ take count last.reply)
   pub left : after ≡ last.after
   pub kept : new.source.faults ≡ old.source.faults

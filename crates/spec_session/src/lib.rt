@@ -9,7 +9,8 @@ pub enum SessionEnd {
     Done,
     /// The source failed. The replies to all whole lines that were read were written.
     ReadFault,
-    /// The sink failed. It took the whole replies to the lines before the last one answered, and a prefix of that one's.
+    /// The sink failed. It took the whole replies to the lines before the last one answered, and a part of that one's, and
+    /// not all of it.
     WriteFault,
     /// There is no memory. The whole replies to the first lines were written.
     NoMemory,
