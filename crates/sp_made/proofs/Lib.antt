@@ -1,8 +1,12 @@
 mod Sorting
 mod MarkedLaws
+mod SheetMoves
 mod HeadingMade
 mod PageRows
 pub mod SheetPlaces
 pub mod MadeLaws
 pub mod StopsMade
 mod LinesOfHeadings
+mod OpenedHeadings
+mod SameHeadings
+pub mod LaidHeadings

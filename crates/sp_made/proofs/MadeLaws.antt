@@ -1,6 +1,6 @@
 -- What is made of a state is what the rules say of it.
 use Rattle.std.proofs.Common.{◌≡◌, ℕ, ◌<◌, ◌≤◌, List, [], ◌++◌, length, map, Option, Some, None, Result, Ok, Err, refl, sym, ap, ◌∙◌, subst, arith}
-use Rattle.std.specs.Prelude.{All, IfOk, IfSome, option_map}
+use Rattle.std.specs.Prelude.{All, IfOk, IfSome, OnOk, option_map}
 use Rattle.std.proofs.lemmas.List.{length-map}
 use Rattle.std.proofs.lemmas.List.Elements.{All-nil}
 use Rattle.spec_text.specs.Lines.{LineState, TextState, IsText, line_texts, read_lines}
@@ -32,6 +32,11 @@ use Rattle.sp_made.proofs.MarkedLaws.{marked_sheets-numbered}
 pub shows-same : {V E X : Type 0} (shows : V → X) (result : Result V E) (one other : X) → one ≡ other → IfOk result (λ it. shows it ≡ one) → IfOk result (λ it. shows it ≡ other)
 shows-same shows (Ok it) one other same is = is ∙ same
 shows-same shows (Err error) one other same is = tt
+
+-- What was done makes something, and so what is equal to that.
+pub done-same : {V E X : Type 0} (result : Result V E) (it one other : X) → one ≡ other → OnOk result (it ≡ one) → OnOk result (it ≡ other)
+done-same (Ok value) it one other same is = is ∙ same
+done-same (Err error) it one other same is = tt
 
 -- The blocks of a text lie in it, in order.
 pub blocks-lie : (text : TextState) → IsText text → FromPlace (line_texts text.lines) 0 (blocks_of (line_texts text.lines))

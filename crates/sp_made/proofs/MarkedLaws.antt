@@ -1,11 +1,20 @@
 -- Sheets by the marks of rows are those of the rows.
-use Rattle.std.proofs.Common.{◌≡◌, ℕ, zero, suc, ◌+◌, ◌-◌, ◌<◌, max, false, List, [], ◌∷◌, ◌++◌, length, map, take, drop, get_or, refl, sym, ap, ap₂, ◌∙◌, add-zero, append_assoc}
+use Rattle.std.proofs.Common.{◌≡◌, ℕ, zero, suc, ◌+◌, ◌-◌, max, false, List, [], ◌∷◌, length, map, take, drop, get_or, refl, sym, ap, ap₂, ◌∙◌, subst, arith, All}
 use Rattle.std.specs.Prelude.{fold, slice_range}
-use Rattle.std.proofs.lemmas.List.{length-map, drop_more, get_or-drop}
+use Rattle.std.proofs.lemmas.List.{length-map}
+use Rattle.std.proofs.lemmas.List.Elements.{All-map}
+use Rattle.spec_pages.specs.Rows.{ElementOf}
 use Rattle.spec_layout.specs.Shown.{Shown}
+use Rattle.spec_layout.proofs.ShownLaws.{shown_rows-marks}
 use Rattle.spec_labels.specs.Labels.{plain_label}
 use Rattle.spec_labels.specs.PageRecords.{SheetOf}
-use Rattle.spec_state.specs.StateSheets.{greatest_mark, numbered_sheets}
+use Rattle.spec_state.specs.State.{State}
+use Rattle.spec_state.specs.Headings.{heading_labels}
+use Rattle.spec_state.specs.StateSheets.{greatest_mark, layout_in, numbered_sheets, rows_in}
+use Rattle.spec_state.specs.Keeping.{IsWhole}
+use Rattle.spec_state.proofs.RowMarks.{rows-marks}
+use Rattle.spec_state.proofs.StateLaws.{whole-kept}
+use Rattle.sp_layout.specs.Bodies.{marks_in}
 use Rattle.sp_made.specs.Numbered.{mark_of, marked_sheet, marked_sheets}
 
 fold-marks : (mark : ℕ) (rows : List Shown) → fold max mark (map mark_of rows) ≡ fold (λ mark (it : Shown). max mark it.mark) mark rows
@@ -43,17 +52,9 @@ sheets-marked rows count number (page ∷ later) is size =
 pub marked_sheets-numbered : (rows : List Shown) (marks pages : List ℕ) → map mark_of rows ≡ marks → marked_sheets marks 1 pages ≡ numbered_sheets rows 1 pages
 marked_sheets-numbered rows marks pages is = ap (λ those. marked_sheets those 1 pages) (sym is) ∙ sheets-marked rows (length rows) 1 pages refl (length-map rows mark_of)
 
--- One sheet more is made.
-pub marked_sheets-more : (marks : List ℕ) (made : List SheetOf) (number place : ℕ) (pages all : List ℕ) → place < length pages
-    → made ++ marked_sheets marks number (drop place pages) ≡ marked_sheets marks 1 all
-    → (made ++ marked_sheet marks number (get_or pages place 0) (get_or pages (place + 1) (length marks)) ∷ []) ++ marked_sheets marks (number + 1) (drop (place + 1) pages) ≡ marked_sheets marks 1 all
-marked_sheets-more marks made number place pages all inside is =
-    let here = drop_more pages place 0 inside in
-    let later = drop (place + 1) pages in
-    let next : get_or later 0 (length marks) ≡ get_or pages (place + 1) (length marks) = get_or-drop (place + 1) pages 0 (length marks) ∙ ap (λ n. get_or pages n (length marks)) (add-zero (place + 1)) in
-    let one = marked_sheet marks number (get_or pages place 0) (get_or pages (place + 1) (length marks)) in
-    let rest = marked_sheets marks (number + 1) later in
-    append_assoc made (one ∷ []) rest
-    ∙ ap (λ end. made ++ marked_sheet marks number (get_or pages place 0) end ∷ rest) (sym next)
-    ∙ ap (λ (those : List ℕ). made ++ marked_sheets marks number those) (sym here)
-    ∙ is
+-- In a state of round 0 no row is marked.
+pub rows-unmarked : (state : State) (body : List ElementOf) → IsWhole state → body ≡ (layout_in state).body → state.round ≡ 0 → All (λ (mark : ℕ). mark ≡ 0) (marks_in body)
+rows-unmarked state body whole is none =
+    let low : All (λ (it : Shown). it.mark ≡ 0) (rows_in state) = λ k d inside. (let at = rows-marks state (whole-kept state whole) k d inside in omega (arith, at, none)) in
+    let same : map mark_of (rows_in state) ≡ marks_in body = shown_rows-marks state.lines (heading_labels state.lines state.scenes) (layout_in state).body ∙ ap marks_in (sym is) in
+    subst (All (λ (mark : ℕ). mark ≡ 0)) same (All-map (λ (mark : ℕ). mark ≡ 0) mark_of (rows_in state) low)

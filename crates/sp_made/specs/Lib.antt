@@ -3,3 +3,4 @@ pub mod Numbers
 pub mod Made
 pub mod Places
 pub mod HeadingLines
+pub mod HeadingIds

@@ -7,15 +7,11 @@ use Rattle.spec_layout.specs.Shown.{Shown}
 abbrev pub mark_of : Shown → ℕ
 mark_of it = it.mark
 
+abbrev pub numbered_sheet : ℕ → ℕ → ℕ → ℕ → SheetOf
+numbered_sheet number start end round = record { first = plain_label number; last = plain_label number; start = start; end = end; round = round; omitted = false }
+
 abbrev pub marked_sheet : List ℕ → ℕ → ℕ → ℕ → SheetOf
-marked_sheet marks number start end = record {
-  first = plain_label number;
-  last = plain_label number;
-  start = start;
-  end = end;
-  round = fold max 0 (slice_range marks start end);
-  omitted = false;
-}
+marked_sheet marks number start end = numbered_sheet number start end (fold max 0 (slice_range marks start end))
 
 abbrev pub marked_sheets : List ℕ → ℕ → List ℕ → List SheetOf
 marked_sheets marks number [] = []

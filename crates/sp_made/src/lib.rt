@@ -1,14 +1,17 @@
 //! What is made of a state: its elements in rows, the labels of its headings, its pages and its sheets.
 #![tactic(auto)]
 
+mod heading_rows;
 mod headings;
 mod made;
 mod numbered;
 mod stops;
 mod views;
 
+pub use heading_rows::keeps_headings;
 pub use headings::headings_among;
 pub use made::{
-    Made, Numbered, laid_stops, lay, made_starts, make, make_pages, number, record_starts, rows_on,
+    Made, Numbered, laid_stops, lay, made_starts, make, make_pages, number, record_starts,
+    renumber, rows_on,
 };
 pub use views::{body_shapes, made_sheet, made_title, sheet_count, title_count};

@@ -1,5 +1,5 @@
 //! What is made of a state and its stanzas: its elements in rows, the labels of its headings, and its sheets.
-ghost use Rattle.std.specs.Prelude.{◌≡◌, [], length, option_map, IfOk, IfSome, OnOk};
+ghost use Rattle.std.specs.Prelude.{◌≡◌, [], length, option_map, All, IfOk, IfSome, IsTrue, OnErr, OnOk};
 ghost use Rattle.spec_text.specs.Lines.{line_texts};
 ghost use Rattle.spec_script.specs.Stanzas.{stanzas_of};
 ghost use Rattle.spec_pages.specs.Pages.{page_starts, rows_on};
@@ -9,7 +9,7 @@ ghost use Rattle.spec_state.specs.StateSheets.{body_sheets, layout_in, locked_st
 ghost use Rattle.spec_state.specs.Keeping.{IsWhole, state_of};
 ghost use Rattle.sp_text.specs.Gap.{text_of};
 ghost use Rattle.sp_exchange.specs.Restoring.{text_stanzas};
-ghost use Rattle.sp_layout.specs.Bodies.{shapes_in};
+ghost use Rattle.sp_layout.specs.Bodies.{marks_in, shapes_in};
 ghost use Rattle.spec_locked_pages.specs.Segments.{pages_of};
 ghost use Rattle.sp_reflow.specs.Starts.{many_more};
 ghost use Rattle.sp_reflow.specs.Filling.{FilledAtMost};
@@ -17,12 +17,12 @@ ghost use Rattle.sp_relay.specs.Kept.{laid_of};
 ghost use Rattle.sp_made.specs.Made.{AreStopsOf, AskedOfPages, IsLaidOf, IsMadeOf, IsNumberedOf, key_starts, marked_or_locked};
 
 use crate::headings::heading_lines;
-use crate::numbered::marked_sheets;
+use crate::numbered::renew_sheets;
 use crate::stops::merged_stops;
 use sp_kit::{Counter, Steps};
 use sp_labels::Label;
 use sp_layout::{Body, lay_out, placed_blocks};
-use sp_locks::{PageRecord, RowKey, Sheet, sheets, starts};
+use sp_locks::{PageRecord, RowKey, Sheet, starts};
 use sp_records::Records;
 use sp_reflow::Pages;
 use sp_relay::KeptLayout;
@@ -140,39 +140,57 @@ pub fn made_starts(
     record_starts(alloc, lines, layout.body.keys(), &records.pages)
 }
 
-/// The sheets of a body's pages: those of its page records where pages are locked, else numbered ones.
-fn sheets_of_pages(
+/// Makes sheets those of a body's pages: those of its page records where pages are locked, else numbered ones. On an error there was
+/// no memory, and they are as they were.
+fn renew_sheets_of_pages(
     alloc: Global,
     body: &Body,
     records: &Option<Vec<PageRecord>>,
+    round: u8,
     starts: &[usize],
     pages: &[usize],
-) -> Result<Vec<Sheet>, AllocError>
-    requires { AskedOfPages (λ those. those.items) body.now.elements records.now starts.now pages.now }
-    ensures { IfOk result (λ made. made.items ≡ marked_or_locked body.now.elements (option_map (λ those. those.items) records.now) starts.now pages.now) }
+    sheets: &mut Vec<Sheet>,
+) -> Result<(), AllocError>
+    requires asked { AskedOfPages (λ those. those.items) body.now.elements records.now starts.now pages.now }
+    requires unmarked { round ≡ 0 → All (λ mark. mark ≡ 0) (marks_in body.now.elements) }
+    ensures made { OnOk result (sheets.new.items ≡ marked_or_locked body.now.elements (option_map (λ those. those.items) records.now) starts.now pages.now) }
+    ensures same { OnErr result (sheets.new.items ≡ sheets.old.items) }
 {
     match records {
-        None => marked_sheets(alloc, body.marks(), pages),
-        Some(records) => sheets(alloc, records, starts, pages, body.rows()),
+        None => renew_sheets(alloc, body.marks(), round > 0, pages, sheets),
+        Some(records) => {
+            *sheets = sp_locks::sheets(alloc, records, starts, pages, body.rows())?;
+            Ok(())
+        }
     }
 }
 
-/// The sheets of a body laid out, on these pages.
-fn made_sheets(
+/// Makes sheets those of a body laid out, on these pages. On an error there was no memory, and they are as they were.
+fn renew_body_sheets(
     alloc: Global,
     lines: &Lines,
     records: &Records,
     layout: &KeptLayout,
     pages: &[usize],
-) -> Result<Vec<Sheet>, AllocError>
+    sheets: &mut Vec<Sheet>,
+) -> Result<(), AllocError>
     requires whole { IsWhole (state_of (text_of lines.now) records.now) }
     requires laid { IsLaidOf (state_of (text_of lines.now) records.now) (laid_of layout.now) }
     requires pages { pages.now ≡ pages_of (state_of (text_of lines.now) records.now) }
-    ensures { IfOk result (λ made. made.items ≡ body_sheets (state_of (text_of lines.now) records.now)) }
+    ensures made { OnOk result (sheets.new.items ≡ body_sheets (state_of (text_of lines.now) records.now)) }
+    ensures same { OnErr result (sheets.new.items ≡ sheets.old.items) }
 {
     let body = &layout.body;
     let firsts = record_starts(alloc, lines, body.keys(), &records.pages)?;
-    sheets_of_pages(alloc, body, &records.pages, &firsts, pages)
+    renew_sheets_of_pages(
+        alloc,
+        body,
+        &records.pages,
+        records.round,
+        &firsts,
+        pages,
+        sheets,
+    )
 }
 
 /// The text of a state laid out, by its stanzas. `AllocError` comes for want of memory alone.
@@ -250,12 +268,47 @@ pub fn number(
 {
     let labels = made_labels(alloc, lines, stanzas, records)?;
     let title_pages = title_pages(alloc, &layout.titles, records.paper)?;
-    let sheets = made_sheets(alloc, lines, records, layout, pages.starts())?;
+    let mut sheets = Vec::new(alloc);
+    renew_body_sheets(alloc, lines, records, layout, pages.starts(), &mut sheets)?;
     Ok(Numbered {
         labels,
         title_pages,
         sheets,
     })
+}
+
+/// Makes the labels and the sheets those of a state after an edit whose text is laid out, by the first rows of its pages. It
+/// fills no page of the body. Labels that are those of the state already may be kept: then no stanza is looked at. On an error
+/// there was no memory, and nothing is changed.
+pub fn renumber(
+    alloc: Global,
+    lines: &Lines,
+    stanzas: &Stanzas,
+    records: &Records,
+    layout: &KeptLayout,
+    pages: &Pages,
+    keeps_labels: bool,
+    numbered: &mut Numbered,
+) -> Result<(), AllocError>
+    requires whole { IsWhole (state_of (text_of lines.now) records.now) }
+    requires stanzas { stanzas.now.stanzas ≡ text_stanzas (text_of lines.now) }
+    requires laid { IsLaidOf (state_of (text_of lines.now) records.now) (laid_of layout.now) }
+    requires pages { pages.now.starts ≡ pages_of (state_of (text_of lines.now) records.now) }
+    requires labels { IsTrue keeps_labels → numbered.old.labels ≡ heading_labels lines.now.lines records.now.scenes }
+    ensures numbered { OnOk result (IsNumberedOf (state_of (text_of lines.now) records.now) numbered.new) }
+    ensures same { OnErr result (numbered.new ≡ numbered.old) }
+{
+    let title_pages = title_pages(alloc, &layout.titles, records.paper)?;
+    let starts = pages.starts();
+    if keeps_labels {
+        renew_body_sheets(alloc, lines, records, layout, starts, &mut numbered.sheets)?;
+    } else {
+        let labels = made_labels(alloc, lines, stanzas, records)?;
+        renew_body_sheets(alloc, lines, records, layout, starts, &mut numbered.sheets)?;
+        numbered.labels = labels;
+    }
+    numbered.title_pages = title_pages;
+    Ok(())
 }
 
 /// What is made of a state and its stanzas, and the first rows of its pages. Each page of the body is filled once.

@@ -1,12 +1,13 @@
 //! The sheets of a text whose pages aren't locked.
-ghost use Rattle.std.specs.Prelude.{◌≡◌, ◌+◌, ◌<◌, ◌≤◌, List, All, AllPairs, fold, length, map, max, slice_index, slice_index_or, IfOk};
+ghost use Rattle.std.specs.Prelude.{◌≡◌, ◌+◌, ◌<◌, ◌≤◌, false, List, All, AllPairs, fold, length, map, max, slice_index, slice_index_or, slice_range, take, OnErr, OnOk, vec_capacity, vec_len};
 ghost use Rattle.spec_layout.specs.Shown.{Shown};
 ghost use Rattle.spec_labels.specs.Labels.{plain_label};
 ghost use Rattle.spec_state.specs.StateSheets.{numbered_sheets};
-ghost use Rattle.sp_made.specs.Numbered.{mark_of, marked_sheet, marked_sheets};
+ghost use Rattle.sp_made.specs.Numbered.{mark_of, marked_sheet, marked_sheets, numbered_sheet};
 
 use sp_labels::Label;
 use sp_locks::Sheet;
+use sp_splice::make_room;
 use std::alloc::{AllocError, Global};
 
 /// The greatest of marks, or 0.
@@ -30,20 +31,52 @@ fn plain_label(alloc: Global, number: u32) -> Label
     }
 }
 
-/// The sheet of the page with this number.
-fn numbered_sheet(alloc: Global, marks: &[u8], number: u32, start: usize, end: usize) -> Sheet
+/// Makes a label that of the page with this number.
+fn renew_label(label: &mut Label, number: u32)
+    ensures { label.new ≡ plain_label number }
+{
+    label.number = number;
+    label.path.clear();
+}
+
+/// The round of a page: the greatest mark of its rows, which isn't looked for where no row is marked.
+fn round_of(marks: &[u8], is_marked: bool, start: usize, end: usize) -> u8
     requires order { start ≤ end }
     requires within { end ≤ length marks.now }
-    ensures { result ≡ marked_sheet marks.now number start end }
+    requires unmarked { is_marked ≡ false → All (λ mark. mark ≡ 0) marks.now }
+    ensures { result ≡ fold max 0 (slice_range marks.now start end) }
+{
+    if is_marked {
+        greatest(&marks[start..end])
+    } else {
+        0
+    }
+}
+
+/// The sheet of the page with this number.
+fn numbered_sheet(alloc: Global, number: u32, start: usize, end: usize, round: u8) -> Sheet
+    ensures { result ≡ numbered_sheet number start end round }
 {
     Sheet {
         first: plain_label(alloc, number),
         last: plain_label(alloc, number),
         start,
         end,
-        round: greatest(&marks[start..end]),
+        round,
         omitted: false,
     }
+}
+
+/// Makes a sheet that of the page with this number.
+fn renew_sheet(sheet: &mut Sheet, number: u32, start: usize, end: usize, round: u8)
+    ensures { sheet.new ≡ numbered_sheet number start end round }
+{
+    renew_label(&mut sheet.first, number);
+    renew_label(&mut sheet.last, number);
+    sheet.start = start;
+    sheet.end = end;
+    sheet.round = round;
+    sheet.omitted = false;
 }
 
 /// The row behind the page at a place.
@@ -62,24 +95,69 @@ pub(crate) fn page_behind(pages: &[usize], place: usize, rows: usize) -> usize
     }
 }
 
-/// The sheets of rows with these marks on these pages, numbered from 1; each has the greatest mark of its rows as round.
-/// `AllocError` comes for want of memory alone.
-pub(crate) fn marked_sheets(
+/// Makes sheets those of the first pages.
+fn renew_first(marks: &[u8], is_marked: bool, pages: &[usize], sheets: &mut Vec<Sheet>)
+    requires fewer { vec_len sheets.old ≤ length pages.now }
+    requires few { length pages.now ≤ 16777216 }
+    requires rising { AllPairs (λ one other. one < other) pages.now }
+    requires within { All (λ page. page < length marks.now) pages.now }
+    requires unmarked { is_marked ≡ false → All (λ mark. mark ≡ 0) marks.now }
+    ensures sheets { sheets.new.items ≡ take (vec_len sheets.old) (marked_sheets marks.now 1 pages.now) }
+    ensures len { vec_len sheets.new ≡ vec_len sheets.old }
+    ensures room { vec_capacity sheets.new ≡ vec_capacity sheets.old }
+{
+    for place in 0..sheets.len() {
+        let start = pages[place];
+        let end = page_behind(pages, place, marks.len());
+        let round = round_of(marks, is_marked, start, end);
+        renew_sheet(&mut sheets[place], place as u32 + 1, start, end, round);
+    }
+}
+
+/// Adds the sheets of the pages that have none yet.
+fn add_sheets(
     alloc: Global,
     marks: &[u8],
+    is_marked: bool,
     pages: &[usize],
-) -> Result<Vec<Sheet>, AllocError>
+    sheets: &mut Vec<Sheet>,
+)
+    requires fewer { vec_len sheets.old ≤ length pages.now }
+    requires few { length pages.now ≤ 16777216 }
+    requires room { length pages.now ≤ vec_capacity sheets.old }
+    requires rising { AllPairs (λ one other. one < other) pages.now }
+    requires within { All (λ page. page < length marks.now) pages.now }
+    requires unmarked { is_marked ≡ false → All (λ mark. mark ≡ 0) marks.now }
+    requires sheets { sheets.old.items ≡ take (vec_len sheets.old) (marked_sheets marks.now 1 pages.now) }
+    ensures { sheets.new.items ≡ marked_sheets marks.now 1 pages.now }
+{
+    for place in sheets.len()..pages.len() {
+        let start = pages[place];
+        let end = page_behind(pages, place, marks.len());
+        let round = round_of(marks, is_marked, start, end);
+        sheets.push_reserved(numbered_sheet(alloc, place as u32 + 1, start, end, round));
+    }
+}
+
+/// Makes sheets those of rows with these marks on these pages, numbered from 1; each has the greatest mark of its rows as round.
+/// Where no row is marked no mark is looked at. `AllocError` comes for want of memory alone, and leaves the sheets as they are.
+pub(crate) fn renew_sheets(
+    alloc: Global,
+    marks: &[u8],
+    is_marked: bool,
+    pages: &[usize],
+    sheets: &mut Vec<Sheet>,
+) -> Result<(), AllocError>
     requires rising { AllPairs (λ one other. one < other) pages.now }
     requires within { All (λ page. page < length marks.now) pages.now }
     requires few { length pages.now ≤ 16777216 }
-    ensures { IfOk result (λ sheets. sheets.items ≡ marked_sheets marks.now 1 pages.now) }
+    requires unmarked { is_marked ≡ false → All (λ mark. mark ≡ 0) marks.now }
+    ensures made { OnOk result (sheets.new.items ≡ marked_sheets marks.now 1 pages.now) }
+    ensures same { OnErr result (sheets.new.items ≡ sheets.old.items) }
 {
-    let mut sheets = Vec::with_capacity(alloc, pages.len())?;
-    let mut number = 0;
-    for place in 0..pages.len() {
-        let end = page_behind(pages, place, marks.len());
-        number += 1;
-        sheets.push(numbered_sheet(alloc, marks, number, pages[place], end))?;
-    }
-    Ok(sheets)
+    make_room(sheets, pages.len())?;
+    sheets.truncate(pages.len());
+    renew_first(marks, is_marked, pages, sheets);
+    add_sheets(alloc, marks, is_marked, pages, sheets);
+    Ok(())
 }

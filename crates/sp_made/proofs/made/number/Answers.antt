@@ -25,5 +25,5 @@ returns c =
           ∙ ap (λ (paper : Paper). page_starts (rows_on paper) (shapes_in c.layout.inside.titles.elements) []) (ap (λ (records : RecordsOf). records.paper) c.records.view_is)
           ∙ ap (λ (elements : List ElementOf). page_starts (rows_on state.paper) (shapes_in elements) []) titles
           ∙ ap (λ (shapes : List Shape). page_starts (rows_on state.paper) shapes []) (sym (shown_rows-shapes state.lines None (layout_in state).titles));
-      sheets = c.in_ok-sheets.ensures;
+      sheets = c.in_ok-renew_body_sheets.ensures.made;
     }

@@ -10,8 +10,9 @@ use Rattle.sp_text.specs.Gap.{text_of}
 use Rattle.sp_layout.specs.LaidOut.{LayoutOf}
 use Rattle.sp_relay.specs.Kept.{laid_of}
 use Rattle.sp_made.specs.Made.{key_starts, marked_or_locked}
-use Rattle.sp_made.proofs.MadeLaws.{asked-of, shows-same, anchored, pages-are, sheets-made}
-use Rattle.sp_made.proofs.made.made_sheets.Goals as goal
+use Rattle.sp_made.proofs.MadeLaws.{asked-of, done-same, anchored, pages-are, sheets-made}
+use Rattle.sp_made.proofs.MarkedLaws.{rows-unmarked}
+use Rattle.sp_made.proofs.made.renew_body_sheets.Goals as goal
 
 pub record_starts-requires : goal.record_starts-requires
 record_starts-requires c =
@@ -20,8 +21,8 @@ record_starts-requires c =
     let keys : c.keys.result.now ≡ keys_in state = c.keys.ensures.keys ∙ ap (λ (l : LayoutOf). l.body.keys) laid ∙ sym (state-row_keys state) in
     anchored (λ those. those.items) state c.keys.result.now c.records.inside.pages c.requires.whole keys (sym (ap (λ (r : RecordsOf). r.pages) c.records.view_is))
 
-pub sheets_of_pages-requires : goal.sheets_of_pages-requires
-sheets_of_pages-requires c =
+pub renew_sheets_of_pages-requires-clause-asked : goal.renew_sheets_of_pages-requires-clause-asked
+renew_sheets_of_pages-requires-clause-asked c =
     let state : State = state_of (text_of c.args.lines.now) c.args.records.now in
     let body = c.layout.inside.body.elements in
     let laid = ap laid_of c.layout.view_is ∙ c.requires.laid in
@@ -34,8 +35,14 @@ sheets_of_pages-requires c =
     asked-of (λ those. those.items) state c.records.inside.pages body c.layout.inside.breaks.items c.deref.result.now c.args.pages.now c.requires.whole kept elements breaks firsts
     (c.requires.pages ∙ pages-are state body records c.layout.inside.breaks.items c.deref.result.now elements kept breaks firsts)
 
-pub returns : goal.returns
-returns c =
+pub renew_sheets_of_pages-requires-clause-unmarked : goal.renew_sheets_of_pages-requires-clause-unmarked
+renew_sheets_of_pages-requires-clause-unmarked c none =
+    let state : State = state_of (text_of c.args.lines.now) c.args.records.now in
+    let laid = ap laid_of c.layout.view_is ∙ c.requires.laid in
+    rows-unmarked state c.layout.inside.body.elements c.requires.whole (ap (λ (l : LayoutOf). l.body.elements) laid) (sym (ap (λ (r : RecordsOf). r.round) c.records.view_is) ∙ none)
+
+pub returns-clause-made : goal.returns-clause-made
+returns-clause-made c =
     let state : State = state_of (text_of c.args.lines.now) c.args.records.now in
     let body = c.layout.inside.body.elements in
     let laid = ap laid_of c.layout.view_is ∙ c.requires.laid in
@@ -48,4 +55,4 @@ returns c =
     let same : marked_or_locked body records c.deref.result.now c.args.pages.now ≡ body_sheets state =
     sheets-made state body records c.layout.inside.breaks.items c.deref.result.now c.args.pages.now elements kept breaks firsts
     (c.requires.pages ∙ pages-are state body records c.layout.inside.breaks.items c.deref.result.now elements kept breaks firsts) in
-    shows-same (λ made. made.items) c.sheets_of_pages.result (marked_or_locked body records c.deref.result.now c.args.pages.now) (body_sheets state) same c.sheets_of_pages.ensures
+    done-same c.renew_sheets_of_pages.result c.renew_sheets_of_pages.new.sheets.items (marked_or_locked body records c.deref.result.now c.args.pages.now) (body_sheets state) same c.renew_sheets_of_pages.ensures.made

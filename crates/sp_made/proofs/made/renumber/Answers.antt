@@ -1,0 +1,44 @@
+use Rattle.std.proofs.Common.{◌≡◌, List, [], None, ap, sym, ◌∙◌}
+use Rattle.std.specs.Prelude.{option_map}
+use Rattle.spec_pages.specs.declared.Paper.{Paper}
+use Rattle.spec_pages.specs.declared.Shape.{Shape}
+use Rattle.spec_pages.specs.Pages.{page_starts, rows_on}
+use Rattle.spec_pages.specs.Rows.{ElementOf}
+use Rattle.spec_layout.proofs.ShownLaws.{shown_rows-shapes}
+use Rattle.spec_records.specs.Kept.{RecordsOf}
+use Rattle.spec_state.specs.State.{State}
+use Rattle.spec_state.specs.Headings.{heading_labels}
+use Rattle.spec_state.specs.Keeping.{state_of}
+use Rattle.spec_state.specs.StateSheets.{body_sheets, layout_in}
+use Rattle.sp_text.specs.Gap.{text_of}
+use Rattle.sp_layout.specs.Bodies.{shapes_in}
+use Rattle.sp_layout.specs.LaidOut.{LayoutOf}
+use Rattle.sp_relay.specs.Kept.{laid_of}
+use Rattle.sp_made.specs.declared.made.Numbered.TheInside.{Inside}
+use Rattle.sp_made.specs.Made.{NumberedOf}
+use Rattle.sp_made.proofs.made.renumber.Goals as goal
+use Rattle.sp_made.proofs.made.renumber.Goals.{then-keeps_labels+in_ok-renew_body_sheets, else-keeps_labels+in_ok-labels+in_ok-renew_body_sheets-2+in-Some-1, else-keeps_labels+in_ok-labels+in_ok-renew_body_sheets-2+in-None-1}
+
+pub returns-clause-numbered : goal.returns-clause-numbered
+returns-clause-numbered c =
+    let state : State = state_of (text_of c.args.lines.now) c.args.records.now in
+    let laid = ap laid_of c.layout.view_is ∙ c.requires.laid in
+    let titles : c.layout.inside.titles.elements ≡ (layout_in state).titles = ap (λ (l : LayoutOf). l.titles.elements) laid in
+    let labels : option_map (λ those. those.items) c.if-keeps_labels.numbered-inside.labels ≡ heading_labels state.lines state.scenes = elim c.if-keeps_labels.branch [
+      | then-keeps_labels+in_ok-renew_body_sheets w ↦ ap (λ (n : Inside). option_map (λ those. those.items) n.labels) w.numbered-inside-is ∙ ap (λ (n : NumberedOf). n.labels) c.numbered.view_is ∙ c.requires.labels w.if-keeps_labels.true
+      | else-keeps_labels+in_ok-labels+in_ok-renew_body_sheets-2+in-Some-1 w ↦ ap (λ (n : Inside). option_map (λ those. those.items) n.labels) w.numbered-inside-is ∙ w.in_ok-labels.ensures
+      | else-keeps_labels+in_ok-labels+in_ok-renew_body_sheets-2+in-None-1 w ↦ ap (λ (n : Inside). option_map (λ those. those.items) n.labels) w.numbered-inside-is ∙ w.in_ok-labels.ensures
+    ] in
+    let sheets : c.if-keeps_labels.numbered-inside.sheets.items ≡ body_sheets state = elim c.if-keeps_labels.branch [
+      | then-keeps_labels+in_ok-renew_body_sheets w ↦ ap (λ (n : Inside). n.sheets.items) w.numbered-inside-is ∙ w.in_ok-renew_body_sheets.ensures.made
+      | else-keeps_labels+in_ok-labels+in_ok-renew_body_sheets-2+in-Some-1 w ↦ ap (λ (n : Inside). n.sheets.items) w.numbered-inside-is ∙ w.in_ok-renew_body_sheets-2.ensures.made
+      | else-keeps_labels+in_ok-labels+in_ok-renew_body_sheets-2+in-None-1 w ↦ ap (λ (n : Inside). n.sheets.items) w.numbered-inside-is ∙ w.in_ok-renew_body_sheets-2.ensures.made
+    ] in
+    record {
+      labels = labels;
+      title_starts = c.in_ok-title_pages.ensures
+          ∙ ap (λ (paper : Paper). page_starts (rows_on paper) (shapes_in c.layout.inside.titles.elements) []) (ap (λ (records : RecordsOf). records.paper) c.records.view_is)
+          ∙ ap (λ (elements : List ElementOf). page_starts (rows_on state.paper) (shapes_in elements) []) titles
+          ∙ ap (λ (shapes : List Shape). page_starts (rows_on state.paper) shapes []) (sym (shown_rows-shapes state.lines None (layout_in state).titles));
+      sheets = sheets;
+    }

@@ -1,0 +1,87 @@
+//! The headings among rows that are laid out.
+ghost use Rattle.std.specs.Prelude.{◌≡◌, ℕ, ◌≤◌, ◌↔◌, IsTrue, length, take};
+ghost use Rattle.sp_layout.specs.Bodies.{keyed_elements, row_count};
+ghost use Rattle.sp_layout.specs.Exchanges.{with_run};
+ghost use Rattle.sp_relay.specs.Kept.{CanSwap, laid_of, with_part};
+ghost use Rattle.sp_made.specs.HeadingIds.{IsHeadingFrom, body_headings, heading_ids, is_heading_start, laid_headings};
+
+use sp_layout::Body;
+use sp_relay::{KeptLayout, LayoutPart};
+use spec_labels::RowKey;
+use spec_pages::{RowKind, Shape};
+
+/// Whether the row is the first of a heading.
+fn is_heading_start(shape: &Shape) -> bool
+    ensures { result ≡ is_heading_start shape.now }
+{
+    matches!(shape.kind, RowKind::Heading) && shape.index == 0
+}
+
+/// The first row of a heading from a place on, or the number of rows.
+fn next_heading(shapes: &[Shape], from: usize) -> usize
+    requires { from ≤ length shapes.now }
+    ensures { IsHeadingFrom shapes.now from result }
+{
+    for place in from..shapes.len() {
+        if is_heading_start(&shapes[place]) {
+            return place;
+        }
+    }
+    shapes.len()
+}
+
+/// Whether the headings of rows stand on the lines of those of others, in order.
+fn same_headings(shapes: &[Shape], keys: &[RowKey], others: &[Shape], other_keys: &[RowKey]) -> bool
+    requires keys { length keys.now ≡ length shapes.now }
+    requires other_keys { length other_keys.now ≡ length others.now }
+    ensures { IsTrue result ↔ heading_ids shapes.now keys.now ≡ heading_ids others.now other_keys.now }
+{
+    let mut next = next_heading(others, 0);
+    for (place, shape) in shapes.iter().enumerate() {
+        if is_heading_start(shape) {
+            if next == others.len() || other_keys[next].line != keys[place].line {
+                return false;
+            }
+            next = next_heading(others, next + 1);
+        }
+    }
+    next == others.len()
+}
+
+/// The first of the rows of the elements from one place to before another, and the row behind them.
+fn rows_of_run(body: &Body, from: usize, to: usize) -> (usize, usize)
+    requires order { from ≤ to }
+    requires within { to ≤ length body.now.elements }
+    ensures start { result.0 ≡ row_count (take from body.now.elements) }
+    ensures end { result.1 ≡ row_count (take to body.now.elements) }
+    ensures order { result.0 ≤ result.1 }
+    ensures within { result.1 ≤ row_count body.now.elements }
+{
+    (body.rows_before(from), body.rows_before(to))
+}
+
+/// Whether the headings of a body stay on their lines, in order, when others stand in the place of those of its elements from
+/// one place to before another.
+fn keeps_body_headings(body: &Body, from: usize, to: usize, others: &Body) -> bool
+    requires order { from ≤ to }
+    requires within { to ≤ length body.now.elements }
+    ensures { (less more : ℕ) → IsTrue result ↔ body_headings (with_run (keyed_elements body.now) from to (keyed_elements others.now) less more) ≡ body_headings (keyed_elements body.now) }
+{
+    let (start, end) = rows_of_run(body, from, to);
+    same_headings(
+        &body.shapes()[start..end],
+        &body.keys()[start..end],
+        others.shapes(),
+        others.keys(),
+    )
+}
+
+/// Whether the headings of a layout stay on their lines, in order, when a part is put in the place of what stands there.
+pub fn keeps_headings(layout: &KeptLayout, part: &LayoutPart) -> bool
+    requires { CanSwap (laid_of layout.now) part.now.places (laid_of part.now.kept) }
+    ensures { IsTrue result ↔ laid_headings (with_part (laid_of layout.now) part.now.places (laid_of part.now.kept)) ≡ laid_headings (laid_of layout.now) }
+{
+    let places = part.places;
+    let others = &part.kept;
+    keeps_body_headings(&layout.body, places.from, places.to, &others.body)
+}
