@@ -1,0 +1,82 @@
+use Rattle.std.proofs.Common.{◌≡◌, ◌+◌, ◌-◌, ◌++◌, length, set, get_or, slice_get, reverse, ap, sym, ◌∙◌, arith}
+use Rattle.std.proofs.lemmas.List.{length-append, length-reverse, length-set, set-append_left}
+use Rattle.sp_text.proofs.Pairs.{set-behind}
+use Rattle.sp_reread.specs.Cache.{StanzasState}
+use Rattle.sp_reread.specs.Piles.{line_counts}
+use Rattle.sp_reread.proofs.PileLaws.{same-lines, counts-set, count-behind, get-append, get-behind}
+use Rattle.sp_reread.proofs.stanzas.Stanzas.swap.Goals as goal
+
+pub invariant_of-self : goal.invariant_of-self
+invariant_of-self c =
+    let front = c.self.inside.front.stanzas in
+    let many : length c.swap.new.self.stanzas ≡ length front = ap length c.swap.ensures.stanzas ∙ length-set front c.args.i c.args.stanza.now in (
+      omega (arith, c.self.invariant.0, many, c.swap.ensures.room),
+      omega (arith, c.self.invariant.1, many),
+      omega (arith, c.self.invariant.2, same-lines c.swap.new.self.stanzas front c.swap.ensures.counts),
+    )
+
+pub swap-requires-else-i-before-clause-lines : goal.swap-requires-else-i-before-clause-lines
+swap-requires-else-i-before-clause-lines c =
+    let front = c.self.inside.front.stanzas in
+    let back = c.self.inside.back.stanzas in
+    let view = ap (λ (x : StanzasState). x.stanzas) c.self.view_is in
+    let total : length front + length back ≡ length c.args.self.now.stanzas = omega (arith, ap length view, length-append front (reverse back), length-reverse back) in
+    count-behind front back c.args.i (c.len.result - 1 - (c.args.i - c.len-before.result)) c.args.stanza.now (omega (arith, c.if-i-before.false, c.len-before.ensures.len)) (omega (arith, c.requires.place, total)) (omega (arith, c.len.ensures.len, c.len-before.ensures.len))
+    ∙ ap (λ xs. get_or (line_counts xs) c.args.i 0) view ∙ c.requires.lines
+
+pub invariant_of-self-else-i-before : goal.invariant_of-self-else-i-before
+invariant_of-self-else-i-before c =
+    let back = c.self.inside.back.stanzas in
+    let new = c.swap-else-i-before.new.self.stanzas in
+    let many : length new ≡ length back = ap length c.swap-else-i-before.ensures.stanzas ∙ length-set back (c.len.result - 1 - (c.args.i - c.len-before.result)) c.args.stanza.now in (
+      omega (arith, c.self.invariant.0, many),
+      omega (arith, c.self.invariant.1, many, c.swap-else-i-before.ensures.room),
+      omega (arith, c.self.invariant.2, same-lines new back c.swap-else-i-before.ensures.counts),
+    )
+
+pub returns-then-i-before-clause-stanzas : goal.returns-then-i-before-clause-stanzas
+returns-then-i-before-clause-stanzas c =
+    let front = c.self.inside.front.stanzas in
+    let back = reverse c.self.inside.back.stanzas in
+    let view = ap (λ (x : StanzasState). x.stanzas) c.self.view_is in
+    ap (λ xs. xs ++ back) c.swap.ensures.stanzas ∙ sym (set-append_left front back c.args.i c.args.stanza.now (omega (arith, c.if-i-before.true, c.len-before.ensures.len)))
+    ∙ ap (λ xs. set xs c.args.i c.args.stanza.now) view
+
+pub returns-then-i-before-clause-stanza : goal.returns-then-i-before-clause-stanza
+returns-then-i-before-clause-stanza c =
+    let front = c.self.inside.front.stanzas in
+    let back = reverse c.self.inside.back.stanzas in
+    let view = ap (λ (x : StanzasState). x.stanzas) c.self.view_is in
+    ap (λ xs. slice_get xs c.args.i) (sym view) ∙ get-append front back c.args.i (omega (arith, c.if-i-before.true, c.len-before.ensures.len)) ∙ c.swap.ensures.stanza
+
+pub returns-else-i-before-clause-stanzas : goal.returns-else-i-before-clause-stanzas
+returns-else-i-before-clause-stanzas c =
+    let front = c.self.inside.front.stanzas in
+    let back = c.self.inside.back.stanzas in
+    let view = ap (λ (x : StanzasState). x.stanzas) c.self.view_is in
+    let k = c.len.result - 1 - (c.args.i - c.len-before.result) in
+    let total : length front + length back ≡ length c.args.self.now.stanzas = omega (arith, ap length view, length-append front (reverse back), length-reverse back) in
+    ap (λ xs. front ++ reverse xs) c.swap-else-i-before.ensures.stanzas
+    ∙ set-behind front back c.args.i k c.args.stanza.now (omega (arith, c.if-i-before.false, c.len-before.ensures.len)) (omega (arith, c.requires.place, total)) (omega (arith, c.len.ensures.len, c.len-before.ensures.len, c.if-i-before.false))
+    ∙ ap (λ xs. set xs c.args.i c.args.stanza.now) view
+
+pub returns-else-i-before-clause-stanza : goal.returns-else-i-before-clause-stanza
+returns-else-i-before-clause-stanza c =
+    let front = c.self.inside.front.stanzas in
+    let back = c.self.inside.back.stanzas in
+    let view = ap (λ (x : StanzasState). x.stanzas) c.self.view_is in
+    let total : length front + length back ≡ length c.args.self.now.stanzas = omega (arith, ap length view, length-append front (reverse back), length-reverse back) in
+    ap (λ xs. slice_get xs c.args.i) (sym view)
+    ∙ get-behind front back c.args.i (c.len.result - 1 - (c.args.i - c.len-before.result)) c.swap-else-i-before.new.stanza (omega (arith, c.if-i-before.false, c.len-before.ensures.len)) (omega (arith, c.requires.place, total)) (omega (arith, c.len.ensures.len, c.len-before.ensures.len)) c.swap-else-i-before.ensures.stanza
+
+pub returns-else-i-before-clause-counts : goal.returns-else-i-before-clause-counts
+returns-else-i-before-clause-counts c =
+    let front = c.self.inside.front.stanzas in
+    let back = c.self.inside.back.stanzas in
+    let view = ap (λ (x : StanzasState). x.stanzas) c.self.view_is in
+    let k = c.len.result - 1 - (c.args.i - c.len-before.result) in
+    let total : length front + length back ≡ length c.args.self.now.stanzas = omega (arith, ap length view, length-append front (reverse back), length-reverse back) in
+    ap line_counts
+    (ap (λ xs. front ++ reverse xs) c.swap-else-i-before.ensures.stanzas
+    ∙ set-behind front back c.args.i k c.args.stanza.now (omega (arith, c.if-i-before.false, c.len-before.ensures.len)) (omega (arith, c.requires.place, total)) (omega (arith, c.len.ensures.len, c.len-before.ensures.len, c.if-i-before.false))
+    ∙ ap (λ xs. set xs c.args.i c.args.stanza.now) view) ∙ counts-set c.args.self.now.stanzas c.args.i c.args.stanza.now c.requires.lines
