@@ -8,3 +8,4 @@ pub mod FillLaws
 mod RefilledLaws
 mod RelaidLaws
 mod OpeningPages
+mod LabelLaws

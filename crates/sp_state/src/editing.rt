@@ -22,7 +22,7 @@ use crate::entry::{Entry, Unturned};
 use crate::text_entry::{EditedText, TextEntry, UnturnedText, edit_entry, redo_entry, undo_entry};
 use crate::turning::{Turned, UnturnedPages, refilled, swap_in_room, turn_made};
 use sp_kit::Steps;
-use sp_made::{Made, Numbered, lay, make, number};
+use sp_made::{Made, Numbered, keeps_headings, lay, make, number};
 use sp_records::Records;
 use sp_reflow::Pages;
 use sp_relay::KeptLayout;
@@ -149,7 +149,7 @@ fn redo_in_room(
 }
 
 /// Makes an edit. The part of the layout that it changes is laid out anew, the pages of its page window are filled again, and
-/// labels and sheets are made anew.
+/// sheets are made anew; so are labels where a heading comes or goes. A fault changes nothing.
 pub(crate) fn edit_made<S: Steps>(
     alloc: Global,
     lines: &mut Lines,
@@ -157,20 +157,22 @@ pub(crate) fn edit_made<S: Steps>(
     records: &mut Records,
     layout: &mut KeptLayout,
     pages: &mut Pages,
+    numbered: &mut Numbered,
     edit: Edit,
     steps: &mut S,
-) -> Result<(Entry, Numbered), EditFault>
+) -> Result<Entry, EditFault>
     requires whole { IsWhole (state_of (text_of lines.old) records.old) }
     requires stanzas { stanzas.old.stanzas ≡ text_stanzas (text_of lines.old) }
     requires laid { IsLaidOf (state_of (text_of lines.old) records.old) (laid_of layout.old) }
     requires pages { pages.old.starts ≡ pages_of (state_of (text_of lines.old) records.old) }
+    requires numbered { IsNumberedOf (state_of (text_of lines.old) records.old) numbered.old }
     ensures refuses { Refuses (refusal_of (text_of lines.old) (edit_of edit)) result }
     ensures state { OnOk result (state_of (text_of lines.new) records.new ≡ edited_state (state_of (text_of lines.old) records.old) (replacement_of lines.old.lines (edit_of edit))) }
     ensures whole { OnOk result (IsWhole (state_of (text_of lines.new) records.new)) }
-    ensures back { IfOk result (λ it. LeadsBack (state_of (text_of lines.old) records.old) (state_of (text_of lines.new) records.new) it.0) }
-    ensures range { IfOk result (λ it. done_range it.0 ≡ range_of (replacement_of lines.old.lines (edit_of edit))) }
+    ensures back { IfOk result (LeadsBack (state_of (text_of lines.old) records.old) (state_of (text_of lines.new) records.new)) }
+    ensures range { IfOk result (λ it. done_range it ≡ range_of (replacement_of lines.old.lines (edit_of edit))) }
     ensures laid { IsLaidOf (state_of (text_of lines.new) records.new) (laid_of layout.new) }
-    ensures numbered { IfOk result (λ it. IsNumberedOf (state_of (text_of lines.new) records.new) it.1) }
+    ensures numbered { IsNumberedOf (state_of (text_of lines.new) records.new) numbered.new }
     ensures pages { pages.new.starts ≡ pages_of (state_of (text_of lines.new) records.new) }
     ensures stanzas { stanzas.new.stanzas ≡ text_stanzas (text_of lines.new) }
     ensures same { OnErr result (state_of (text_of lines.new) records.new ≡ state_of (text_of lines.old) records.old) }
@@ -186,17 +188,26 @@ pub(crate) fn edit_made<S: Steps>(
         layout: part,
         rows,
     } = edit_entry(alloc, lines, stanzas, records, layout, edit, steps)?;
+    let keeps_labels = keeps_headings(layout, &part);
     match refilled(
-        alloc, lines, stanzas, records, layout, pages, rows.first, rows.old, rows.new, steps,
+        alloc,
+        lines,
+        stanzas,
+        records,
+        layout,
+        pages,
+        numbered,
+        keeps_labels,
+        rows.first,
+        rows.old,
+        rows.new,
+        steps,
     ) {
-        Ok((swapped, numbered)) => Ok((
-            Entry {
-                text,
-                layout: part,
-                pages: swapped,
-            },
-            numbered,
-        )),
+        Ok(swapped) => Ok(Entry {
+            text,
+            layout: part,
+            pages: swapped,
+        }),
         Err(_) => {
             let _other = swap_in_room(layout, part);
             let _text = undo_in_room(lines, stanzas, records, text);
@@ -205,7 +216,8 @@ pub(crate) fn edit_made<S: Steps>(
     }
 }
 
-/// Undoes an edit. Nothing is laid out and no page filled; labels and sheets are made anew.
+/// Undoes an edit. Nothing is laid out and no page filled; sheets are made anew, and so are labels where a heading
+/// comes or goes.
 pub(crate) fn undo_made(
     alloc: Global,
     lines: &mut Lines,
@@ -213,18 +225,20 @@ pub(crate) fn undo_made(
     records: &mut Records,
     layout: &mut KeptLayout,
     pages: &mut Pages,
+    numbered: &mut Numbered,
     entry: Entry,
-) -> Result<(Entry, Numbered), Unturned>
+) -> Result<Entry, Unturned>
     requires can { CanUndo (state_of (text_of lines.old) records.old) entry }
     requires stanzas { stanzas.old.stanzas ≡ text_stanzas (text_of lines.old) }
     requires laid { IsLaidOf (state_of (text_of lines.old) records.old) (laid_of layout.old) }
     requires pages { pages.old.starts ≡ pages_of (state_of (text_of lines.old) records.old) }
+    requires numbered { IsNumberedOf (state_of (text_of lines.old) records.old) numbered.old }
     requires whole { IsWhole (undone_state (state_of (text_of lines.old) records.old) entry) }
     ensures state { OnOk result (state_of (text_of lines.new) records.new ≡ undone_state (state_of (text_of lines.old) records.old) entry) }
-    ensures forth { IfOk result (λ it. LeadsForth (state_of (text_of lines.old) records.old) (state_of (text_of lines.new) records.new) it.0) }
-    ensures range { IfOk result (λ it. undone_range it.0 ≡ done_range entry) }
+    ensures forth { IfOk result (LeadsForth (state_of (text_of lines.old) records.old) (state_of (text_of lines.new) records.new)) }
+    ensures range { IfOk result (λ it. undone_range it ≡ done_range entry) }
     ensures laid { IsLaidOf (state_of (text_of lines.new) records.new) (laid_of layout.new) }
-    ensures numbered { IfOk result (λ it. IsNumberedOf (state_of (text_of lines.new) records.new) it.1) }
+    ensures numbered { IsNumberedOf (state_of (text_of lines.new) records.new) numbered.new }
     ensures pages { pages.new.starts ≡ pages_of (state_of (text_of lines.new) records.new) }
     ensures stanzas { stanzas.new.stanzas ≡ text_stanzas (text_of lines.new) }
     ensures same { OnErr result (state_of (text_of lines.new) records.new ≡ state_of (text_of lines.old) records.old) }
@@ -238,21 +252,19 @@ pub(crate) fn undo_made(
         pages: back,
     } = entry;
     match undo_entry(lines, stanzas, records, text) {
-        Ok(other) => match turn_made(alloc, lines, stanzas, records, layout, pages, part, back) {
+        Ok(other) => match turn_made(
+            alloc, lines, stanzas, records, layout, pages, part, back, numbered,
+        ) {
             Ok(
                 Turned {
                     layout: part,
                     pages: swapped,
-                    numbered,
                 },
-            ) => Ok((
-                Entry {
-                    text: other,
-                    layout: part,
-                    pages: swapped,
-                },
-                numbered,
-            )),
+            ) => Ok(Entry {
+                text: other,
+                layout: part,
+                pages: swapped,
+            }),
             Err(
                 UnturnedPages {
                     layout: part,
@@ -279,7 +291,8 @@ pub(crate) fn undo_made(
     }
 }
 
-/// Does an edit again. Nothing is laid out and no page filled; labels and sheets are made anew.
+/// Does an edit again. Nothing is laid out and no page filled; sheets are made anew, and so are labels where a heading
+/// comes or goes.
 pub(crate) fn redo_made(
     alloc: Global,
     lines: &mut Lines,
@@ -287,18 +300,20 @@ pub(crate) fn redo_made(
     records: &mut Records,
     layout: &mut KeptLayout,
     pages: &mut Pages,
+    numbered: &mut Numbered,
     entry: Entry,
-) -> Result<(Entry, Numbered), Unturned>
+) -> Result<Entry, Unturned>
     requires can { CanRedo (state_of (text_of lines.old) records.old) entry }
     requires stanzas { stanzas.old.stanzas ≡ text_stanzas (text_of lines.old) }
     requires laid { IsLaidOf (state_of (text_of lines.old) records.old) (laid_of layout.old) }
     requires pages { pages.old.starts ≡ pages_of (state_of (text_of lines.old) records.old) }
+    requires numbered { IsNumberedOf (state_of (text_of lines.old) records.old) numbered.old }
     requires whole { IsWhole (redone_state (state_of (text_of lines.old) records.old) entry) }
     ensures state { OnOk result (state_of (text_of lines.new) records.new ≡ redone_state (state_of (text_of lines.old) records.old) entry) }
-    ensures back { IfOk result (λ it. LeadsBack (state_of (text_of lines.old) records.old) (state_of (text_of lines.new) records.new) it.0) }
-    ensures range { IfOk result (λ it. done_range it.0 ≡ undone_range entry) }
+    ensures back { IfOk result (LeadsBack (state_of (text_of lines.old) records.old) (state_of (text_of lines.new) records.new)) }
+    ensures range { IfOk result (λ it. done_range it ≡ undone_range entry) }
     ensures laid { IsLaidOf (state_of (text_of lines.new) records.new) (laid_of layout.new) }
-    ensures numbered { IfOk result (λ it. IsNumberedOf (state_of (text_of lines.new) records.new) it.1) }
+    ensures numbered { IsNumberedOf (state_of (text_of lines.new) records.new) numbered.new }
     ensures pages { pages.new.starts ≡ pages_of (state_of (text_of lines.new) records.new) }
     ensures stanzas { stanzas.new.stanzas ≡ text_stanzas (text_of lines.new) }
     ensures same { OnErr result (state_of (text_of lines.new) records.new ≡ state_of (text_of lines.old) records.old) }
@@ -312,21 +327,19 @@ pub(crate) fn redo_made(
         pages: back,
     } = entry;
     match redo_entry(lines, stanzas, records, text) {
-        Ok(other) => match turn_made(alloc, lines, stanzas, records, layout, pages, part, back) {
+        Ok(other) => match turn_made(
+            alloc, lines, stanzas, records, layout, pages, part, back, numbered,
+        ) {
             Ok(
                 Turned {
                     layout: part,
                     pages: swapped,
-                    numbered,
                 },
-            ) => Ok((
-                Entry {
-                    text: other,
-                    layout: part,
-                    pages: swapped,
-                },
-                numbered,
-            )),
+            ) => Ok(Entry {
+                text: other,
+                layout: part,
+                pages: swapped,
+            }),
             Err(
                 UnturnedPages {
                     layout: part,

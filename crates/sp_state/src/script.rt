@@ -175,8 +175,8 @@ impl Script {
     }
 
     /// Makes an edit, and answers the entry that undoes it. Each stanza of its window is read once, the part of the layout that
-    /// it changes is laid out anew, and each page of its page window is filled once (docs/RULES.md, "Windows"); labels and sheets
-    /// are made anew. Where pages are locked their records are carried, and those whose rows differ get the round
+    /// it changes is laid out anew, and each page of its page window is filled once (docs/RULES.md, "Windows"); sheets are made
+    /// anew, and so are labels where a heading comes or goes. Where pages are locked their records are carried, and those whose rows differ get the round
     /// (docs/RULES.md, "Edits and records"). On a fault nothing is changed; NoMemory may come in place of any answer, and the
     /// others come as docs/RULES.md says in "Edits".
     pub fn edit<S: Steps>(
@@ -198,22 +198,22 @@ impl Script {
         ensures fills_at_most { EditFillsAtMost self.old (replacement_of self.old.lines (edit_of edit)) (S.fills steps.old) (S.fills steps.new) }
         ensures unfilled { IsRefused (refusal_of (state_text self.old) (edit_of edit)) → S.fills steps.new ≡ S.fills steps.old }
     {
-        let (entry, numbered) = edit_made(
+        let entry = edit_made(
             alloc,
             &mut self.lines,
             &mut self.stanzas,
             &mut self.records,
             &mut self.made.layout,
             &mut self.pages,
+            &mut self.made.numbered,
             edit,
             steps,
         )?;
-        self.made.numbered = numbered;
         Ok(entry)
     }
 
     /// Undoes an edit by its entry, and answers the entry that does it again. No stanza is read, nothing laid out and no page
-    /// filled; labels and sheets are made anew. On an error there was no memory, nothing is changed, and an entry of the same
+    /// filled; sheets are made anew, and so are labels where a heading comes or goes. On an error there was no memory, nothing is changed, and an entry of the same
     /// edit is handed back, which can be undone (docs/RULES.md, "The desk").
     pub fn undo(&mut self, alloc: Global, entry: Entry) -> Result<Entry, Unturned>
         requires can { CanUndo self.old entry }
@@ -226,21 +226,21 @@ impl Script {
         ensures handed_back { IfErr result (λ error. IsSameEntry error.back entry) }
         ensures again { IfErr result (λ error. CanUndo self.old error.back) }
     {
-        let (other, numbered) = undo_made(
+        let other = undo_made(
             alloc,
             &mut self.lines,
             &mut self.stanzas,
             &mut self.records,
             &mut self.made.layout,
             &mut self.pages,
+            &mut self.made.numbered,
             entry,
         )?;
-        self.made.numbered = numbered;
         Ok(other)
     }
 
     /// Does an edit again by the entry that undoing it left, and answers the entry that undoes it. No stanza is read, nothing
-    /// laid out and no page filled; labels and sheets are made anew. On an error there was no memory, nothing is changed, and an
+    /// laid out and no page filled; sheets are made anew, and so are labels where a heading comes or goes. On an error there was no memory, nothing is changed, and an
     /// entry of the same edit is handed back, which can be done again (docs/RULES.md, "The desk").
     pub fn redo(&mut self, alloc: Global, entry: Entry) -> Result<Entry, Unturned>
         requires can { CanRedo self.old entry }
@@ -253,16 +253,16 @@ impl Script {
         ensures handed_back { IfErr result (λ error. IsSameEntry error.back entry) }
         ensures again { IfErr result (λ error. CanRedo self.old error.back) }
     {
-        let (other, numbered) = redo_made(
+        let other = redo_made(
             alloc,
             &mut self.lines,
             &mut self.stanzas,
             &mut self.records,
             &mut self.made.layout,
             &mut self.pages,
+            &mut self.made.numbered,
             entry,
         )?;
-        self.made.numbered = numbered;
         Ok(other)
     }
 

@@ -1,7 +1,8 @@
 //! The layout and the first rows of pages after an edit, and after it is undone or done again.
-ghost use Rattle.std.specs.Prelude.{◌≡◌, ℕ, ◌+◌, ◌-◌, ◌≤◌, List, length, map, IfErr, IfOk, OnErr, OnOk};
+ghost use Rattle.std.specs.Prelude.{◌≡◌, ℕ, ◌+◌, ◌-◌, ◌≤◌, List, length, map, IfErr, IfOk, IsTrue, OnErr, OnOk};
 ghost use Rattle.spec_pages.specs.Pages.{rows_on};
 ghost use Rattle.spec_layout.specs.Shown.{shape_of};
+ghost use Rattle.spec_state.specs.Headings.{heading_labels};
 ghost use Rattle.spec_state.specs.Keeping.{IsWhole, state_of};
 ghost use Rattle.spec_state.specs.StateSheets.{rows_in};
 ghost use Rattle.spec_locked_pages.specs.Segments.{pages_of};
@@ -12,10 +13,11 @@ ghost use Rattle.sp_reflow.specs.Starts.{many_more};
 ghost use Rattle.sp_reflow.specs.Filling.{FilledAtMost};
 ghost use Rattle.sp_reflow.specs.Updates.{AreStale, CanPutBack, taken_back, taken_of, with_taken};
 ghost use Rattle.sp_relay.specs.Kept.{CanSwap, HasPartRoom, laid_of, with_part};
+ghost use Rattle.sp_made.specs.HeadingIds.{laid_labels};
 ghost use Rattle.sp_made.specs.Made.{AreStopsOf, IsLaidOf, IsNumberedOf};
 
 use sp_kit::Steps;
-use sp_made::{Numbered, laid_stops, number, rows_on};
+use sp_made::{Numbered, keeps_headings, laid_stops, renumber, rows_on};
 use sp_records::Records;
 use sp_reflow::{Pages, SwappedPages, UnswappedPages};
 use sp_relay::{KeptLayout, LayoutPart, UnswappedLayout};
@@ -88,8 +90,9 @@ fn update_pages<S: Steps>(
     )
 }
 
-/// The labels and the sheets of a state after an edit, whose text is laid out: the pages of the page window are filled again,
-/// where `old` rows from `first` on were exchanged for `new` ones.
+/// Makes page starts, labels and sheets those of a state after an edit, whose text is laid out: the pages of the page window are
+/// filled again, where `old` rows from `first` on were exchanged for `new` ones. Labels that are those of the state already may
+/// be kept. On an error there was no memory, and nothing is changed.
 pub(crate) fn refilled<S: Steps>(
     alloc: Global,
     lines: &Lines,
@@ -97,27 +100,40 @@ pub(crate) fn refilled<S: Steps>(
     records: &Records,
     layout: &KeptLayout,
     pages: &mut Pages,
+    numbered: &mut Numbered,
+    keeps_labels: bool,
     first: usize,
     old: usize,
     new: usize,
     steps: &mut S,
-) -> Result<(SwappedPages, Numbered), AllocError>
+) -> Result<SwappedPages, AllocError>
     requires whole { IsWhole (state_of (text_of lines.now) records.now) }
     requires stanzas { stanzas.now.stanzas ≡ text_stanzas (text_of lines.now) }
     requires laid { IsLaidOf (state_of (text_of lines.now) records.now) (laid_of layout.now) }
     requires stale { (stops : List ℕ) → AreStopsOf (state_of (text_of lines.now) records.now) stops → AreStale (rows_on (records.now).paper) (record { first = first; old = old; new = new }) pages.old.starts (map shape_of (rows_in (state_of (text_of lines.now) records.now))) stops }
+    requires labels { IsTrue keeps_labels → numbered.old.labels ≡ heading_labels lines.now.lines records.now.scenes }
     ensures pages { OnOk result (pages.new.starts ≡ pages_of (state_of (text_of lines.now) records.now)) }
-    ensures back { IfOk result (λ it. with_taken pages.new.starts it.0 ≡ pages.old.starts) }
-    ensures can { IfOk result (λ it. CanPutBack pages.new.starts it.0) }
-    ensures numbered { IfOk result (λ it. IsNumberedOf (state_of (text_of lines.now) records.now) it.1) }
+    ensures back { IfOk result (λ it. with_taken pages.new.starts it ≡ pages.old.starts) }
+    ensures can { IfOk result (λ it. CanPutBack pages.new.starts it) }
+    ensures numbered { OnOk result (IsNumberedOf (state_of (text_of lines.now) records.now) numbered.new) }
+    ensures same_numbered { OnErr result (numbered.new ≡ numbered.old) }
     ensures fills { OnOk result (S.fills steps.new ≡ many_more (S.fills steps.old) (length (page_window (rows_on (records.now).paper) (record { first = first; old = old; new = new }) pages.old.starts (pages_of (state_of (text_of lines.now) records.now))))) }
     ensures at_most { FilledAtMost (S.fills steps.old) (S.fills steps.new) (length (page_window (rows_on (records.now).paper) (record { first = first; old = old; new = new }) pages.old.starts (pages_of (state_of (text_of lines.now) records.now)))) }
     ensures reads { S.reads steps.new ≡ S.reads steps.old }
     ensures same { OnErr result (pages.new.starts ≡ pages.old.starts) }
 {
     let swapped = update_pages(alloc, lines, records, layout, pages, first, old, new, steps)?;
-    match number(alloc, lines, stanzas, records, layout, pages) {
-        Ok(numbered) => Ok((swapped, numbered)),
+    match renumber(
+        alloc,
+        lines,
+        stanzas,
+        records,
+        layout,
+        pages,
+        keeps_labels,
+        numbered,
+    ) {
+        Ok(()) => Ok(swapped),
         Err(error) => {
             let _other = put_back_in_room(pages, swapped);
             Err(error)
@@ -125,8 +141,9 @@ pub(crate) fn refilled<S: Steps>(
     }
 }
 
-/// The labels and the sheets of a state after an edit was undone or done again, whose text is laid out, by the page starts that
-/// it displaced. It fills no page. On an error there was no memory, and the page starts are as they were.
+/// Makes page starts, labels and sheets those of a state after an edit was undone or done again, whose text is laid out, by the
+/// page starts that it displaced. It fills no page. Labels that are those of the state already may be kept. On an error there was
+/// no memory, and page starts, labels and sheets are as they were.
 fn turned_pages(
     alloc: Global,
     lines: &Lines,
@@ -135,22 +152,35 @@ fn turned_pages(
     layout: &KeptLayout,
     pages: &mut Pages,
     back: SwappedPages,
-) -> Result<(SwappedPages, Numbered), UnswappedPages>
+    numbered: &mut Numbered,
+    keeps_labels: bool,
+) -> Result<SwappedPages, UnswappedPages>
     requires whole { IsWhole (state_of (text_of lines.now) records.now) }
     requires stanzas { stanzas.now.stanzas ≡ text_stanzas (text_of lines.now) }
     requires laid { IsLaidOf (state_of (text_of lines.now) records.now) (laid_of layout.now) }
     requires can { CanPutBack pages.old.starts back }
     requires leads { with_taken pages.old.starts back ≡ pages_of (state_of (text_of lines.now) records.now) }
+    requires labels { IsTrue keeps_labels → numbered.old.labels ≡ heading_labels lines.now.lines records.now.scenes }
     ensures pages { OnOk result (pages.new.starts ≡ pages_of (state_of (text_of lines.now) records.now)) }
-    ensures back { IfOk result (λ it. with_taken pages.new.starts it.0 ≡ pages.old.starts) }
-    ensures can { IfOk result (λ it. CanPutBack pages.new.starts it.0) }
-    ensures numbered { IfOk result (λ it. IsNumberedOf (state_of (text_of lines.now) records.now) it.1) }
+    ensures back { IfOk result (λ it. with_taken pages.new.starts it ≡ pages.old.starts) }
+    ensures can { IfOk result (λ it. CanPutBack pages.new.starts it) }
+    ensures numbered { OnOk result (IsNumberedOf (state_of (text_of lines.now) records.now) numbered.new) }
+    ensures same_numbered { OnErr result (numbered.new ≡ numbered.old) }
     ensures same { OnErr result (pages.new.starts ≡ pages.old.starts) }
     ensures handed_back { IfErr result (λ error. taken_of error.back ≡ taken_of back) }
 {
     let other = pages.put_back(back)?;
-    match number(alloc, lines, stanzas, records, layout, pages) {
-        Ok(numbered) => Ok((other, numbered)),
+    match renumber(
+        alloc,
+        lines,
+        stanzas,
+        records,
+        layout,
+        pages,
+        keeps_labels,
+        numbered,
+    ) {
+        Ok(()) => Ok(other),
         Err(_) => {
             let back = put_back_in_room(pages, other);
             Err(UnswappedPages { back })
@@ -158,12 +188,11 @@ fn turned_pages(
     }
 }
 
-/// A part of a layout and page starts that were put back: what stood in their place, and the labels and the sheets by them.
+/// A part of a layout and page starts that were put back: what stood in their place.
 #[derive(Drop)]
 pub(crate) struct Turned {
     pub layout: LayoutPart,
     pub pages: SwappedPages,
-    pub numbered: Numbered,
 }
 
 /// There was no memory; what was to be put back is handed back.
@@ -173,9 +202,9 @@ pub(crate) struct UnturnedPages {
     pub pages: SwappedPages,
 }
 
-/// The layout, the page starts, the labels and the sheets of a state after an edit was undone or done again, by what the edit
-/// displaced of them. It lays out nothing and fills no page. On an error there was no memory, layout and page starts are as they
-/// were, and what is handed back leads where what was to be put back led.
+/// Makes layout, page starts, labels and sheets those of a state after an edit was undone or done again, by what the edit displaced
+/// of layout and page starts. It lays out nothing and fills no page, and keeps the labels where no heading comes or goes. On an
+/// error there was no memory, all four are as they were, and what is handed back leads where what was to be put back led.
 pub(crate) fn turn_made(
     alloc: Global,
     lines: &Lines,
@@ -185,6 +214,7 @@ pub(crate) fn turn_made(
     pages: &mut Pages,
     part: LayoutPart,
     back: SwappedPages,
+    numbered: &mut Numbered,
 ) -> Result<Turned, UnturnedPages>
     requires whole { IsWhole (state_of (text_of lines.now) records.now) }
     requires stanzas { stanzas.now.stanzas ≡ text_stanzas (text_of lines.now) }
@@ -192,13 +222,15 @@ pub(crate) fn turn_made(
     requires laid { IsLaidOf (state_of (text_of lines.now) records.now) (with_part (laid_of layout.old) part.places (laid_of part.kept)) }
     requires can { CanPutBack pages.old.starts back }
     requires leads { with_taken pages.old.starts back ≡ pages_of (state_of (text_of lines.now) records.now) }
+    requires labels { numbered.old.labels ≡ laid_labels (laid_of layout.old) (records.now).scenes }
     ensures laid { OnOk result (IsLaidOf (state_of (text_of lines.now) records.now) (laid_of layout.new)) }
     ensures part { IfOk result (λ it. with_part (laid_of layout.new) it.layout.places (laid_of it.layout.kept) ≡ laid_of layout.old) }
     ensures swaps { IfOk result (λ it. CanSwap (laid_of layout.new) it.layout.places (laid_of it.layout.kept)) }
     ensures pages { OnOk result (pages.new.starts ≡ pages_of (state_of (text_of lines.now) records.now)) }
     ensures back { IfOk result (λ it. with_taken pages.new.starts it.pages ≡ pages.old.starts) }
     ensures can { IfOk result (λ it. CanPutBack pages.new.starts it.pages) }
-    ensures numbered { IfOk result (λ it. IsNumberedOf (state_of (text_of lines.now) records.now) it.numbered) }
+    ensures numbered { OnOk result (IsNumberedOf (state_of (text_of lines.now) records.now) numbered.new) }
+    ensures same_numbered { OnErr result (numbered.new ≡ numbered.old) }
     ensures same { OnErr result (pages.new.starts ≡ pages.old.starts) }
     ensures same_layout { OnErr result (laid_of layout.new ≡ laid_of layout.old) }
     ensures handed_back { IfErr result (λ error. taken_of error.pages ≡ taken_of back) }
@@ -206,20 +238,32 @@ pub(crate) fn turn_made(
     ensures leads_again { IfErr result (λ error. with_part (laid_of layout.old) error.layout.places (laid_of error.layout.kept) ≡ with_part (laid_of layout.old) part.places (laid_of part.kept)) }
 {
     match layout.swap(part) {
-        Ok(other) => match turned_pages(alloc, lines, stanzas, records, layout, pages, back) {
-            Ok((swapped, numbered)) => Ok(Turned {
-                layout: other,
-                pages: swapped,
+        Ok(other) => {
+            let keeps_labels = keeps_headings(layout, &other);
+            match turned_pages(
+                alloc,
+                lines,
+                stanzas,
+                records,
+                layout,
+                pages,
+                back,
                 numbered,
-            }),
-            Err(UnswappedPages { back }) => {
-                let part = swap_in_room(layout, other);
-                Err(UnturnedPages {
-                    layout: part,
-                    pages: back,
-                })
+                keeps_labels,
+            ) {
+                Ok(swapped) => Ok(Turned {
+                    layout: other,
+                    pages: swapped,
+                }),
+                Err(UnswappedPages { back }) => {
+                    let part = swap_in_room(layout, other);
+                    Err(UnturnedPages {
+                        layout: part,
+                        pages: back,
+                    })
+                }
             }
-        },
+        }
         Err(UnswappedLayout { back: part }) => Err(UnturnedPages {
             layout: part,
             pages: back,

@@ -1,4 +1,4 @@
-use Rattle.std.proofs.Common.{ℕ, List, ap, sym, subst, ◌∙◌}
+use Rattle.std.proofs.Common.{◌≡◌, ℕ, List, ap, sym, subst, ◌∙◌}
 use Rattle.spec_text.specs.Edits.{Replacement, replacement_of}
 use Rattle.spec_text.specs.Ranges.{range_of}
 use Rattle.spec_state.specs.State.{State}
@@ -11,9 +11,10 @@ use Rattle.sp_text.specs.Gap.{text_of}
 use Rattle.sp_layout.specs.LaidOut.{LayoutOf}
 use Rattle.sp_relay.specs.Kept.{CanSwap, laid_of, with_part}
 use Rattle.sp_reflow.specs.Updates.{CanPutBack, with_taken}
-use Rattle.sp_made.specs.Made.{laid_in}
+use Rattle.sp_made.specs.Made.{IsNumberedOf, laid_in}
 use Rattle.sp_state.specs.Fills.{EditFills, EditFillsAtMost, IsExchangeOf}
 use Rattle.sp_state.proofs.FillLaws.{fills-edited, fills-within, none-filled}
+use Rattle.sp_state.proofs.LabelLaws.{labels-after}
 use Rattle.sp_state.proofs.RefilledLaws.{can-edit, stale-edited}
 use Rattle.sp_state.proofs.editing.edit_made.Goals as goal
 
@@ -83,3 +84,22 @@ returns-in-Ok-clause-back g c =
       };
       back = led.back;
     }
+
+pub refilled-requires-clause-labels : goal.refilled-requires-clause-labels
+refilled-requires-clause-labels g c keeps =
+    let old : State = state_of (text_of c.args.lines.now) c.args.records.now in
+    let new : State = state_of (text_of c.edit_entry.new.lines) c.edit_entry.new.records in
+    let layout = laid_of c.edit_entry.new.layout in
+    let part = c.in_ok-text.field-0.layout in
+    labels-after old new layout (with_part layout part.places (laid_of part.kept)) c.args.numbered.now.labels c.requires.whole.text c.in_ok-text.ensures.whole c.in_ok-text.ensures.laid
+    (c.in_ok-text.ensures.layout_back ∙ c.requires.laid) (ap (λ (s : State). s.scenes) c.in_ok-text.ensures.state) c.requires.numbered.labels (c.keeps_headings-keeps_labels.ensures.0 keeps)
+
+pub returns-in_err-text-clause-numbered : goal.returns-in_err-text-clause-numbered
+returns-in_err-text-clause-numbered g c = subst (λ (s : State). IsNumberedOf s c.args.numbered.now) (sym c.in_err-text.ensures.same) c.requires.numbered
+
+pub returns-in-Err-clause-numbered : goal.returns-in-Err-clause-numbered
+returns-in-Err-clause-numbered g c =
+    let old : State = state_of (text_of c.args.lines.now) c.args.records.now in
+    let now : State = state_of (text_of c.undo_in_room-text.new.lines) c.undo_in_room-text.new.records in
+    let same : now ≡ old = cc (c.undo_in_room-text.ensures.state, c.in_ok-text.ensures.back.back) in
+    subst (IsNumberedOf now) (sym c.in-Err.ensures.same_numbered) (subst (λ (s : State). IsNumberedOf s c.args.numbered.now) (sym same) c.requires.numbered)
