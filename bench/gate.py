@@ -1,4 +1,5 @@
-"""Runs the gate and says how many processor seconds each crate took: for its proof, its tests and the edits that must fail.
+"""Runs the gate and says how many processor seconds each crate took: for its proof, its tests and the edits that must fail, and before
+these for one more check of the crate as it stands, which the gate begins them with.
 
 `python3 bench/gate.py WORDS..` runs `rt ci WORDS..`, hands its lines on to standard error, and prints a table at the end. What an
 earlier run passed isn't proved again, so the table is whole only after `rt ci --anew` or on a machine without one.
@@ -12,11 +13,24 @@ import threading
 import time
 
 TICKS = os.sysconf("SC_CLK_TCK")
-PHASES = ["proof", "tests", "edits"]
+PHASES = ["proof", "tests", "before edits", "edits"]
 
 
-def processes():
-    """The processes of the prover: number, words, and the processor seconds that each and its ended children took."""
+def parent(number):
+    return pathlib.Path(f"/proc/{number}/stat").read_text().rsplit(")", 1)[1].split()[1]
+
+
+def comes_from(number, first):
+    """Whether a process was begun by another, or by one that it began."""
+    while number not in ("0", "1"):
+        if number == first:
+            return True
+        number = parent(number)
+    return False
+
+
+def processes(first):
+    """The processes of the prover that another began: number, words, and the processor seconds that each and its ended children took."""
     for folder in pathlib.Path("/proc").iterdir():
         if not folder.name.isdigit():
             continue
@@ -24,15 +38,16 @@ def processes():
             words = (folder / "cmdline").read_bytes().decode(errors="replace").split("\0")
             fields = (folder / "stat").read_text().rsplit(")", 1)[1].split()
             place = os.readlink(folder / "cwd")
+            if "--crate-name" not in words or not comes_from(folder.name, first):
+                continue
         except (OSError, IndexError):
             continue
-        if "--crate-name" in words:
-            yield folder.name, words, place, sum(int(field) for field in fields[11:13]) / TICKS
+        yield folder.name, words, place, sum(int(field) for field in fields[11:13]) / TICKS
 
 
 def phase_of(words, place):
-    if "must-fail" in place or any("must-fail" in word or "/edits/" in word for word in words):
-        return "edits"
+    if "/rt-edit-" in place:
+        return "before edits" if any(word.endswith("/seed") for word in words) else "edits"
     return "tests" if "--test" in words else "proof"
 
 
@@ -42,17 +57,15 @@ class Meter:
     def __init__(self):
         self.seen = {}
         self.ended = threading.Event()
-        self.editing = set()
 
-    def look(self):
-        for number, words, place, seconds in processes():
+    def look(self, gate):
+        for number, words, place, seconds in processes(gate):
             crate = words[words.index("--crate-name") + 1]
-            phase = "edits" if crate in self.editing else phase_of(words, place)
-            self.seen[number, crate, phase] = seconds
+            self.seen[number, crate, phase_of(words, place)] = seconds
 
-    def watch(self):
+    def watch(self, gate):
         while not self.ended.wait(0.5):
-            self.look()
+            self.look(gate)
 
     def table(self):
         sums = {}
@@ -63,16 +76,20 @@ class Meter:
 
 def run_gate(words, meter):
     run = subprocess.Popen(["rt", "ci", *words], stdout=subprocess.PIPE, stderr=subprocess.STDOUT, text=True)
-    for line in run.stdout:
-        sys.stderr.write(line)
-        if line.startswith("rt: ") and ": trying its must-fail edits" in line:
-            meter.editing.add(line.split()[1].rstrip(":"))
-    return run.wait()
+    watcher = threading.Thread(target=meter.watch, args=[str(run.pid)])
+    watcher.start()
+    try:
+        for line in run.stdout:
+            sys.stderr.write(line)
+        return run.wait()
+    finally:
+        meter.ended.set()
+        watcher.join()
 
 
 def print_table(sums, minutes):
-    print("| crate | proof s | tests s | edits s | all s |")
-    print("|---|---|---|---|---|")
+    print("| crate | proof s | tests s | before edits s | edits s | all s |")
+    print("|---|---|---|---|---|---|")
     for crate, row in sorted(sums.items(), key=lambda item: -sum(item[1].values())):
         print("| " + " | ".join([crate, *(f"{row[phase]:.0f}" for phase in PHASES), f"{sum(row.values()):.0f}"]) + " |")
     whole = [sum(row[phase] for row in sums.values()) / 60 for phase in PHASES]
@@ -82,14 +99,8 @@ def print_table(sums, minutes):
 
 def main():
     meter = Meter()
-    watcher = threading.Thread(target=meter.watch)
     begun = time.monotonic()
-    watcher.start()
-    try:
-        status = run_gate(sys.argv[1:], meter)
-    finally:
-        meter.ended.set()
-        watcher.join()
+    status = run_gate(sys.argv[1:], meter)
     print_table(meter.table(), (time.monotonic() - begun) / 60)
     return status
 
