@@ -1,5 +1,6 @@
 use Rattle.std.proofs.Common.{◌≡◌, ap, ◌∙◌, subst}
 use Rattle.spec_text.specs.Edits.{replacement_of}
+use Rattle.spec_text.specs.Ranges.{range_of}
 use Rattle.spec_state.specs.State.{State}
 use Rattle.spec_state.specs.Changes.{edited_state}
 use Rattle.spec_state.specs.Keeping.{state_of}
@@ -27,3 +28,6 @@ returns-clause-fills g c =
 pub returns-clause-fills_at_most : goal.returns-clause-fills_at_most
 returns-clause-fills_at_most g c =
     subst (λ (state : State). EditFillsAtMost state (replacement_of state.lines (edit_of c.args.edit)) (g.S.Steps.fills c.args.steps.now) (g.S.Steps.fills c.edit_made.new.steps)) (before-is c.self-inside.view_is c.self.view_is) c.edit_made.ensures.fills_at_most
+
+pub returns-clause-range : goal.returns-clause-range
+returns-clause-range g c = c.in_ok-entry.ensures.range ∙ ap (λ (state : State). range_of (replacement_of state.lines (edit_of c.args.edit))) (before-is c.self-inside.view_is c.self.view_is)
