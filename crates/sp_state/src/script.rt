@@ -176,9 +176,9 @@ impl Script {
 
     /// Makes an edit, and answers the entry that undoes it. Each stanza of its window is read once, the part of the layout that
     /// it changes is laid out anew, and each page of its page window is filled once (docs/RULES.md, "Windows"); sheets are made
-    /// anew, and so are labels where a heading comes or goes. Where pages are locked their records are carried, and those whose rows differ get the round
-    /// (docs/RULES.md, "Edits and records"). On a fault nothing is changed; NoMemory may come in place of any answer, and the
-    /// others come as docs/RULES.md says in "Edits".
+    /// anew, and so are labels where a heading comes or goes. Where pages are locked their records are carried, and those whose
+    /// rows differ get the round (docs/RULES.md, "Edits and records"). On a fault nothing is changed; NoMemory may come in
+    /// place of any answer, and the others come as docs/RULES.md says in "Edits".
     pub fn edit<S: Steps>(
         &mut self,
         alloc: Global,
@@ -213,8 +213,8 @@ impl Script {
     }
 
     /// Undoes an edit by its entry, and answers the entry that does it again. No stanza is read, nothing laid out and no page
-    /// filled; sheets are made anew, and so are labels where a heading comes or goes. On an error there was no memory, nothing is changed, and an entry of the same
-    /// edit is handed back, which can be undone (docs/RULES.md, "The desk").
+    /// filled; sheets are made anew, and so are labels where a heading comes or goes. On an error there was no memory, nothing
+    /// is changed, and an entry of the same edit is handed back, which can be undone (docs/RULES.md, "The desk").
     pub fn undo(&mut self, alloc: Global, entry: Entry) -> Result<Entry, Unturned>
         requires can { CanUndo self.old entry }
         requires whole { IsWhole (undone_state self.old entry) }
@@ -240,8 +240,9 @@ impl Script {
     }
 
     /// Does an edit again by the entry that undoing it left, and answers the entry that undoes it. No stanza is read, nothing
-    /// laid out and no page filled; sheets are made anew, and so are labels where a heading comes or goes. On an error there was no memory, nothing is changed, and an
-    /// entry of the same edit is handed back, which can be done again (docs/RULES.md, "The desk").
+    /// laid out and no page filled; sheets are made anew, and so are labels where a heading comes or goes. On an error there
+    /// was no memory, nothing is changed, and an entry of the same edit is handed back, which can be done again (docs/RULES.md,
+    /// "The desk").
     pub fn redo(&mut self, alloc: Global, entry: Entry) -> Result<Entry, Unturned>
         requires can { CanRedo self.old entry }
         requires whole { IsWhole (redone_state self.old entry) }
