@@ -217,7 +217,7 @@ pub(crate) fn edit_made<S: Steps>(
 }
 
 /// Undoes an edit. Nothing is laid out and no page filled; sheets are made anew, and so are labels where a heading
-/// comes or goes.
+/// comes or goes. On an error there was no memory, nothing is changed, and an entry that can be undone is handed back.
 pub(crate) fn undo_made(
     alloc: Global,
     lines: &mut Lines,
@@ -292,7 +292,7 @@ pub(crate) fn undo_made(
 }
 
 /// Does an edit again. Nothing is laid out and no page filled; sheets are made anew, and so are labels where a heading
-/// comes or goes.
+/// comes or goes. On an error there was no memory, nothing is changed, and an entry that can be done again is handed back.
 pub(crate) fn redo_made(
     alloc: Global,
     lines: &mut Lines,
