@@ -132,9 +132,9 @@ def anywhere(lines, count):
     return [{"do": "splice", "line": rng.randrange(lines // 11) * 11 + 2, "from": 0, "to": 0, "text": "Now. "} for _ in range(count)]
 
 
-def broken(lines, count):
-    """The same with a line feed, so that lines come, and go again by undos."""
-    return [{**edit, "text": "Now.\n"} for edit in anywhere(lines, count)]
+def longer(lines, count):
+    """Actions of short scenes, at random places, get a line more each, which an undo takes away again."""
+    return [{"do": "replace", "first": edit["line"] + 1, "count": 0, "lines": ["Now."]} for edit in anywhere(lines, count)]
 
 
 UNDO = [{"do": "undo"}]
@@ -287,7 +287,7 @@ def time_edits(folder, options):
     for kind, text, before, edits in (
         ("lines far apart", actions, [], apart(EDITED)),
         ("random places", scenes, [], anywhere(200_000, EDITED)),
-        ("random, lines come", SCENE * (190_000 // 11), [], broken(190_000, EDITED)),
+        ("random, lines come", SCENE * (190_000 // 11), [], longer(190_000, EDITED)),
         ("lines apart, locked", actions, LOCKS, apart(EDITS)),
         ("random places, locked", scenes, LOCKS, anywhere(200_000, EDITS)),
     ):
