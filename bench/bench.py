@@ -23,7 +23,10 @@ MIB = 1 << 20
 PRINT = '"$PROGRAM" print < "$FILE" > /dev/null'
 HTML = '"$PROGRAM" html "$FILE" > /dev/null'
 DESK = '"$PROGRAM" desk "$FILE" < "$FILE.commands" > /dev/null'
-# How many splices a session has, and how many undos.
+# How many splices follow one another in a session before as many undos, and how often they do.
+SPLICES = 20
+TURNS = 200
+# How many edits are timed where pages are locked, and how many of a room are late.
 EDITS = 200
 # How many edits and undos of 200,000 lines are timed beside `print`, where pages aren't locked.
 EDITED = 2_000
@@ -109,11 +112,11 @@ LINES = {
 SCENE = "INT. ROOM - DAY\n\nThe lamp is lit.\n\nANNA\n(to BERT)\nI have counted the lamps.\n\nBERT\nCount them again.\n\n"
 
 
-def session(lines, splices, undos):
-    """Splices into an action in the middle of so many lines, and undos."""
+def session(lines, turns):
+    """Some splices into an action in the middle of so many lines and as many undos, so many times."""
     line = lines // 2 // 11 * 11 + 2
-    commands = [{"do": "splice", "line": line, "from": 0, "to": 0, "text": "Now. "}] * splices + [{"do": "undo"}] * undos
-    return "".join(json.dumps(command) + "\n" for command in commands)
+    edits = [{"do": "splice", "line": line, "from": 0, "to": 0, "text": "Now. "}] * SPLICES
+    return "".join(json.dumps(command) + "\n" for command in turned(edits) * turns)
 
 
 def turned(edits):
@@ -267,17 +270,17 @@ def time_lines(folder, kinds, options):
 
 
 def time_sessions(folder, options):
-    """Times the opening, a splice and an undo by the number of lines, and prints a row for each."""
-    print(f"{'kind':10} {'lines':>7} {'open s':>9} {'splice s':>9} {'undo s':>9}")
+    """Times the opening, and a splice or an undo, by the number of lines, and prints a row for each."""
+    print(f"{'kind':10} {'lines':>7} {'open s':>9} {'splice or undo s':>16}")
     for lines in (2_000, 20_000, 200_000):
         path = folder / f"session{lines}"
         path.write_text(SCENE * (lines // 11))
         times = []
-        for splices, undos in ((0, 0), (EDITS, 0), (EDITS, EDITS)):
-            (folder / f"{path.name}.commands").write_text(session(lines, splices, undos))
-            times.append(least(DESK, path, 1 if lines == 200_000 else options.runs))
-        opened, spliced, undone = times
-        print(f"{'session':10} {lines:7} {opened:9.4f} {(spliced - opened) / EDITS:9.5f} {(undone - spliced) / EDITS:9.5f}", flush=True)
+        for turns in (0, TURNS):
+            (folder / f"{path.name}.commands").write_text(session(lines, turns))
+            times.append(least(DESK, path, options.runs))
+        opened, edited = times
+        print(f"{'session':10} {lines:7} {opened:9.4f} {(edited - opened) / (2 * SPLICES * TURNS):16.7f}", flush=True)
 
 
 def time_edits(folder, options):
