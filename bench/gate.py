@@ -1,10 +1,11 @@
 """Runs the gate and says how many processor seconds each crate took: for its proof, its tests and the edits that must fail, and before
 these for one more check of the crate as it stands, which the gate begins them with.
 
-`python3 bench/gate.py WORDS..` runs `rt ci WORDS..`, hands its lines on to standard error, and prints a table at the end. What an
-earlier run passed isn't proved again, so the table is whole only after `rt ci --anew` or on a machine without one.
+`python3 bench/gate.py WORDS..` runs `rt ci WORDS..`, hands its lines on to standard error, and prints a table at the end, and the longest
+chain of crates one above the other. What an earlier run passed isn't proved again, so the table is whole only after `rt ci --anew` or on a machine without one.
 """
 
+import functools
 import os
 import pathlib
 import subprocess
@@ -97,11 +98,33 @@ def print_table(sums, minutes):
     print(f"\n{minutes:.1f} minutes by the clock")
 
 
+def crates_below():
+    """The crates that each stands on."""
+    top = pathlib.Path(__file__).resolve().parent.parent
+    lines = [line.split("#")[0] for line in (top / "crates.txt").read_text().splitlines()]
+    parts = [line.partition(":") for line in lines if line.strip()]
+    return {name.strip(): below.split() for name, _, below in parts}
+
+
+def print_chain(sums):
+    """The crates one above the other whose proofs took longest together."""
+    below = crates_below()
+
+    @functools.cache
+    def way(name):
+        seconds, names = max((way(it) for it in below[name] if it in below), default=(0.0, ()))
+        return seconds + sums.get(name, {}).get("proof", 0.0), (*names, name)
+
+    seconds, names = max(map(way, below))
+    print(f"\nlongest chain of proofs, {seconds / 60:.1f} minutes of one processor: {' '.join(names)}")
+
+
 def main():
     meter = Meter()
     begun = time.monotonic()
     status = run_gate(sys.argv[1:], meter)
     print_table(meter.table(), (time.monotonic() - begun) / 60)
+    print_chain(meter.table())
     return status
 
 
