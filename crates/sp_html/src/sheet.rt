@@ -29,7 +29,7 @@ fn write_sheet<O: Sink>(page: &PageView<'_>, sink: &mut O) -> Result<(), Failed>
 /// Writes a sheet as HTML: its header in bold, an empty row, and its rows, each part between the marks of its style
 /// (docs/RULES.md, "HTML pages"). It writes in small pieces, and walks over the rows once. Read back, that is the sheet's
 /// bytes without the form feed, each part of a row in its own style. `Failed` comes only where the sink's count of faults
-/// rose in this call, and then the sink took a prefix of the sheet's HTML. Takes no memory.
+/// rose in this call, and then the sink took a proper prefix of the sheet's HTML. Takes no memory.
 pub fn write_html<O: Sink>(page: &PageView<'_>, sink: &mut O) -> Result<(), Failed>
     ensures wrote { Writes (O.state sink.old) (O.state sink.new) (sheet_html page.now) result }
     ensures text { plain_text (sheet_html page.now) ++ 12 ∷ [] ≡ sheet_bytes page.now }

@@ -10,7 +10,7 @@ use sp_kit::{Failed, Sink, write_whole};
 pub(crate) const STEP_LETTERS: &[u8; 24] = b"ABCDEFGHJKLMNPQRSTUVWXYZ";
 
 /// Writes a label (docs/RULES.md, "Labels"). `Failed` comes only where the sink's count of faults rose in this call, and
-/// then the sink took a prefix. Takes no memory.
+/// then the sink took a proper prefix. Takes no memory.
 pub fn write<O: Sink>(label: &Label, sink: &mut O) -> Result<(), Failed>
     ensures { Writes (O.state sink.old) (O.state sink.new) (label_text label.now) result }
 {

@@ -151,7 +151,7 @@ impl From<CollateFault> for Status {
 }
 
 /// Writes the line of a status, and nothing for `Done`. `Failed` comes only where the sink's count of faults rose in this
-/// call, and then the sink took a prefix of the line. Takes no memory (docs/RULES.md, "Fault lines").
+/// call, and then the sink took a proper prefix of the line. Takes no memory (docs/RULES.md, "Fault lines").
 pub fn fault_line<O: Sink>(status: &Status, sink: &mut O) -> Result<(), Failed>
     ensures { Writes (O.state sink.old) (O.state sink.new) (line_of status.now) result }
 {

@@ -68,14 +68,8 @@ has_changed edit line = changes_partner edit line || changes_speaker edit line
 abbrev pub place_before : RangeOf → ℕ → ℕ
 place_before range place = place_after (record { first = range.first; old = range.new; new = range.old }) place
 
--- A block of the old text is relaid, and one of the new text: it stands in the window, or its partner is another.
-abbrev pub is_relaid_old : EditBlocks → PlacedBlock → Bool
-is_relaid_old edit placed = in_window edit.from edit.old_to placed || changes_partner edit (line_of_block placed)
-
-abbrev pub is_relaid_new : EditBlocks → PlacedBlock → Bool
-is_relaid_new edit placed = in_window edit.from edit.new_to placed || changes_partner edit (place_before edit.range (line_of_block placed))
-
--- It is touched: it is relaid, or it is continued in one of the texts alone.
+-- A block of the old text is touched, and one of the new text: it stands in the window, its partner is another, or it is continued in
+-- one of the texts alone.
 abbrev pub is_touched_old : EditBlocks → PlacedBlock → Bool
 is_touched_old edit placed = in_window edit.from edit.old_to placed || has_changed edit (line_of_block placed)
 
