@@ -1,6 +1,8 @@
 mod Sorting
 mod MarkedLaws
 mod SheetMoves
+pub mod UnmarkedLaws
+mod StaleSheets
 mod HeadingMade
 mod PageRows
 pub mod SheetPlaces

@@ -10,7 +10,7 @@ use Rattle.sp_layout.specs.Bodies.{row_count, marks_in}
 use Rattle.sp_layout.specs.LaidOut.{LayoutOf, keyed}
 use Rattle.sp_made.specs.Numbered.{marked_sheets}
 use Rattle.spec_state.specs.Headings.{heading_labels}
-use Rattle.spec_state.specs.StateSheets.{layout_in, rows_in, title_starts, body_sheets}
+use Rattle.spec_state.specs.StateSheets.{layout_in, rows_in, keys_in, title_starts, body_sheets}
 use Rattle.spec_reflow.specs.Windows.{AreStops}
 use Rattle.spec_refill.specs.Exchanges.{stops_in}
 
@@ -46,6 +46,10 @@ pub record IsMadeOf (state : State) (it : MadeOf) : Type 0 where
 abbrev pub key_starts : List LineState → List RowKey → Option (List PageRecordOf) → List ℕ
 key_starts lines keys None = []
 key_starts lines keys (Some records) = record_starts lines keys records
+
+-- The first rows of the page records of a state; none where pages aren't locked.
+abbrev pub first_rows : State → List ℕ
+first_rows state = key_starts state.lines (keys_in state) state.pages
 
 -- What the sheets of page records ask for.
 pub record LockedSheets (rows : ℕ) (records : List PageRecordOf) (starts pages : List ℕ) : Type 0 where

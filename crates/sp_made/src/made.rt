@@ -1,5 +1,6 @@
 //! What is made of a state and its stanzas: its elements in rows, the labels of its headings, and its sheets.
-ghost use Rattle.std.specs.Prelude.{◌≡◌, [], length, option_map, All, IfOk, IfSome, IsTrue, OnErr, OnOk};
+ghost use Rattle.std.specs.Prelude.{◌≡◌, [], length, option_map, All, None, IfOk, IfSome, IsTrue, OnErr, OnOk};
+ghost use Rattle.std.specs.Bool.{OnFalse};
 ghost use Rattle.spec_text.specs.Lines.{line_texts};
 ghost use Rattle.spec_script.specs.Stanzas.{stanzas_of};
 ghost use Rattle.spec_pages.specs.Pages.{page_starts, rows_on};
@@ -7,24 +8,27 @@ ghost use Rattle.spec_labels.specs.PageRecords.{AreAnchored};
 ghost use Rattle.spec_state.specs.Headings.{heading_labels};
 ghost use Rattle.spec_state.specs.StateSheets.{body_sheets, layout_in, locked_starts, rows_in};
 ghost use Rattle.spec_state.specs.Keeping.{IsWhole, state_of};
+ghost use Rattle.spec_state.specs.State.{State};
 ghost use Rattle.sp_text.specs.Gap.{text_of};
 ghost use Rattle.sp_exchange.specs.Restoring.{text_stanzas};
 ghost use Rattle.sp_layout.specs.Bodies.{marks_in, shapes_in};
 ghost use Rattle.spec_locked_pages.specs.Segments.{pages_of};
 ghost use Rattle.sp_reflow.specs.Starts.{many_more};
 ghost use Rattle.sp_reflow.specs.Filling.{FilledAtMost};
+ghost use Rattle.sp_reflow.specs.Updates.{with_taken, CanPutBack};
 ghost use Rattle.sp_relay.specs.Kept.{laid_of};
-ghost use Rattle.sp_made.specs.Made.{AreStopsOf, AskedOfPages, IsLaidOf, IsMadeOf, IsNumberedOf, key_starts, marked_or_locked};
+ghost use Rattle.sp_made.specs.Made.{AreStopsOf, AskedOfPages, IsLaidOf, IsMadeOf, IsNumberedOf, first_rows, key_starts, marked_or_locked};
+ghost use Rattle.sp_made.specs.Numbered.{marked_sheets, AreSameOutside, AreUnmarked};
 
 use crate::headings::heading_lines;
-use crate::numbered::renew_sheets;
+use crate::numbered::{renew_sheets, stale_places};
 use crate::stops::merged_stops;
 use sp_kit::{Counter, Steps};
 use sp_labels::Label;
 use sp_layout::{Body, lay_out, placed_blocks};
 use sp_locks::{PageRecord, RowKey, Sheet, starts};
 use sp_records::Records;
-use sp_reflow::Pages;
+use sp_reflow::{Pages, SwappedPages};
 use sp_relay::KeptLayout;
 use sp_reread::Stanzas;
 use sp_scenes::numbers_of_lines;
@@ -32,6 +36,7 @@ use sp_text::Lines;
 use spec_pages::Paper;
 use std::alloc::{AllocError, Global};
 use std::marker::Model;
+use std::ops::Range;
 
 /// The labels of the headings of a state where scenes are locked, the first rows of its title sheets, and its other sheets.
 #[derive(Drop)]
@@ -109,20 +114,37 @@ fn title_pages(alloc: Global, titles: &Body, paper: Paper) -> Result<Pages, Allo
     Pages::new(alloc, titles.shapes(), none, rows_on(paper), &mut fills)
 }
 
-/// The first rows of page records; none where pages aren't locked.
-pub fn record_starts(
+/// The first rows of page records; none where pages aren't locked. They are looked for first as far apart as in `near`.
+fn record_starts(
     alloc: Global,
     lines: &Lines,
     keys: &[RowKey],
     records: &Option<Vec<PageRecord>>,
+    near: &[usize],
 ) -> Result<Vec<usize>, AllocError>
     requires { IfSome records.now (λ those. AreAnchored lines.now.lines keys.now those.items) }
     ensures { IfOk result (λ firsts. firsts.items ≡ key_starts lines.now.lines keys.now (option_map (λ those. those.items) records.now)) }
 {
     match records {
         None => Ok(Vec::new(alloc)),
-        Some(records) => starts(alloc, records, lines, keys),
+        Some(records) => starts(alloc, records, lines, keys, near),
     }
+}
+
+/// The first rows of the page records of a state whose text is laid out; none where pages aren't locked. They are looked for
+/// first as far apart as in `near`, those of a state before it or any other rows. `AllocError` comes for want of memory alone.
+pub fn laid_firsts(
+    alloc: Global,
+    lines: &Lines,
+    records: &Records,
+    layout: &KeptLayout,
+    near: &[usize],
+) -> Result<Vec<usize>, AllocError>
+    requires whole { IsWhole (state_of (text_of lines.now) records.now) }
+    requires laid { IsLaidOf (state_of (text_of lines.now) records.now) (laid_of layout.now) }
+    ensures { IfOk result (λ firsts. firsts.items ≡ first_rows (state_of (text_of lines.now) records.now)) }
+{
+    record_starts(alloc, lines, layout.body.keys(), &records.pages, near)
 }
 
 /// The first rows of the page records of a state that this was made of; none where pages aren't locked.
@@ -136,12 +158,12 @@ pub fn made_starts(
     requires made { IsMadeOf (state_of (text_of lines.now) records.now) made.now }
     ensures { IfOk result (λ starts. starts.items ≡ locked_starts lines.now.lines (rows_in (state_of (text_of lines.now) records.now)) (records.now).pages) }
 {
-    let layout = &made.layout;
-    record_starts(alloc, lines, layout.body.keys(), &records.pages)
+    let none: &[usize] = &[];
+    laid_firsts(alloc, lines, records, &made.layout, none)
 }
 
-/// Makes sheets those of a body's pages: those of its page records where pages are locked, else numbered ones. On an error there was
-/// no memory, and they are as they were.
+/// Makes sheets those of a body's pages: those of its page records where pages are locked, else numbered ones, of which those
+/// outside the stale places stay. On an error there was no memory, and they are as they were.
 fn renew_sheets_of_pages(
     alloc: Global,
     body: &Body,
@@ -149,15 +171,17 @@ fn renew_sheets_of_pages(
     round: u8,
     starts: &[usize],
     pages: &[usize],
+    stale: Range<usize>,
     sheets: &mut Vec<Sheet>,
 ) -> Result<(), AllocError>
+    requires stale { AreSameOutside sheets.old.items (marked_sheets (marks_in body.now.elements) 1 pages.now) stale.start stale.end }
     requires asked { AskedOfPages (λ those. those.items) body.now.elements records.now starts.now pages.now }
     requires unmarked { round ≡ 0 → All (λ mark. mark ≡ 0) (marks_in body.now.elements) }
     ensures made { OnOk result (sheets.new.items ≡ marked_or_locked body.now.elements (option_map (λ those. those.items) records.now) starts.now pages.now) }
     ensures same { OnErr result (sheets.new.items ≡ sheets.old.items) }
 {
     match records {
-        None => renew_sheets(alloc, body.marks(), round > 0, pages, sheets),
+        None => renew_sheets(alloc, body.marks(), round > 0, pages, stale, sheets),
         Some(records) => {
             *sheets = sp_locks::sheets(alloc, records, starts, pages, body.rows())?;
             Ok(())
@@ -165,30 +189,34 @@ fn renew_sheets_of_pages(
     }
 }
 
-/// Makes sheets those of a body laid out, on these pages. On an error there was no memory, and they are as they were.
+/// Makes sheets those of a body laid out, on these pages, by the first rows of page records. Where pages aren't locked, those
+/// outside the stale places stay. On an error there was no memory, and they are as they were.
 fn renew_body_sheets(
     alloc: Global,
     lines: &Lines,
     records: &Records,
     layout: &KeptLayout,
+    firsts: &[usize],
     pages: &[usize],
+    stale: Range<usize>,
     sheets: &mut Vec<Sheet>,
 ) -> Result<(), AllocError>
+    requires stale { AreSameOutside sheets.old.items (marked_sheets (marks_in (laid_of layout.now).body.elements) 1 pages.now) stale.start stale.end }
     requires whole { IsWhole (state_of (text_of lines.now) records.now) }
     requires laid { IsLaidOf (state_of (text_of lines.now) records.now) (laid_of layout.now) }
+    requires firsts { firsts.now ≡ first_rows (state_of (text_of lines.now) records.now) }
     requires pages { pages.now ≡ pages_of (state_of (text_of lines.now) records.now) }
     ensures made { OnOk result (sheets.new.items ≡ body_sheets (state_of (text_of lines.now) records.now)) }
     ensures same { OnErr result (sheets.new.items ≡ sheets.old.items) }
 {
-    let body = &layout.body;
-    let firsts = record_starts(alloc, lines, body.keys(), &records.pages)?;
     renew_sheets_of_pages(
         alloc,
-        body,
+        &layout.body,
         &records.pages,
         records.round,
-        &firsts,
+        firsts,
         pages,
+        stale,
         sheets,
     )
 }
@@ -209,38 +237,37 @@ pub fn lay(
     Ok(KeptLayout::new(layout))
 }
 
-/// The stops of a state whose text is laid out (docs/RULES.md, "Pages"). `AllocError` comes for want of memory alone.
+/// The stops of a state whose text is laid out, by the first rows of its page records (docs/RULES.md, "Pages"). `AllocError` comes
+/// for want of memory alone.
 pub fn laid_stops(
     alloc: Global,
-    lines: &Lines,
-    records: &Records,
     layout: &KeptLayout,
+    firsts: &[usize],
 ) -> Result<Vec<usize>, AllocError>
-    requires whole { IsWhole (state_of (text_of lines.now) records.now) }
-    requires laid { IsLaidOf (state_of (text_of lines.now) records.now) (laid_of layout.now) }
-    ensures { IfOk result (λ stops. AreStopsOf (state_of (text_of lines.now) records.now) stops.items) }
+    ensures { (state : State) → IsWhole state → IsLaidOf state (laid_of layout.now) → firsts.now ≡ first_rows state → IfOk result (λ stops. AreStopsOf state stops.items) }
 {
-    let firsts = record_starts(alloc, lines, layout.body.keys(), &records.pages)?;
-    merged_stops(alloc, &layout.breaks, &firsts)
+    merged_stops(alloc, &layout.breaks, firsts)
 }
 
-/// The first rows of the pages of a state whose text is laid out. Each page of the body is filled once. `AllocError` comes
-/// for want of memory alone.
+/// The first rows of the pages of a state whose text is laid out, by those of its page records. Each page of the body is filled
+/// once. `AllocError` comes for want of memory alone.
 pub fn make_pages<S: Steps>(
     alloc: Global,
     lines: &Lines,
     records: &Records,
     layout: &KeptLayout,
+    firsts: &[usize],
     steps: &mut S,
 ) -> Result<Pages, AllocError>
     requires whole { IsWhole (state_of (text_of lines.now) records.now) }
     requires laid { IsLaidOf (state_of (text_of lines.now) records.now) (laid_of layout.now) }
+    requires firsts { firsts.now ≡ first_rows (state_of (text_of lines.now) records.now) }
     ensures pages { IfOk result (λ pages. pages.starts ≡ pages_of (state_of (text_of lines.now) records.now)) }
     ensures fills { OnOk result (S.fills steps.new ≡ many_more (S.fills steps.old) (length (pages_of (state_of (text_of lines.now) records.now)))) }
     ensures at_most { FilledAtMost (S.fills steps.old) (S.fills steps.new) (length (pages_of (state_of (text_of lines.now) records.now))) }
     ensures reads { S.reads steps.new ≡ S.reads steps.old }
 {
-    let stops = laid_stops(alloc, lines, records, layout)?;
+    let stops = laid_stops(alloc, layout, firsts)?;
     Pages::new(
         alloc,
         layout.body.shapes(),
@@ -250,26 +277,37 @@ pub fn make_pages<S: Steps>(
     )
 }
 
-/// The labels and the sheets of a state whose text is laid out, by the first rows of its pages. It fills no page of the
-/// body. `AllocError` comes for want of memory alone.
+/// The labels and the sheets of a state whose text is laid out, by the first rows of its page records and of its pages. It fills
+/// no page of the body. `AllocError` comes for want of memory alone.
 pub fn number(
     alloc: Global,
     lines: &Lines,
     stanzas: &Stanzas,
     records: &Records,
     layout: &KeptLayout,
+    firsts: &[usize],
     pages: &Pages,
 ) -> Result<Numbered, AllocError>
     requires whole { IsWhole (state_of (text_of lines.now) records.now) }
     requires stanzas { stanzas.now.stanzas ≡ text_stanzas (text_of lines.now) }
     requires laid { IsLaidOf (state_of (text_of lines.now) records.now) (laid_of layout.now) }
+    requires firsts { firsts.now ≡ first_rows (state_of (text_of lines.now) records.now) }
     requires pages { pages.now.starts ≡ pages_of (state_of (text_of lines.now) records.now) }
     ensures { IfOk result (IsNumberedOf (state_of (text_of lines.now) records.now)) }
 {
     let labels = made_labels(alloc, lines, stanzas, records)?;
     let title_pages = title_pages(alloc, &layout.titles, records.paper)?;
     let mut sheets = Vec::new(alloc);
-    renew_body_sheets(alloc, lines, records, layout, pages.starts(), &mut sheets)?;
+    renew_body_sheets(
+        alloc,
+        lines,
+        records,
+        layout,
+        firsts,
+        pages.starts(),
+        0..0,
+        &mut sheets,
+    )?;
     Ok(Numbered {
         labels,
         title_pages,
@@ -277,34 +315,51 @@ pub fn number(
     })
 }
 
-/// Makes the labels and the sheets those of a state after an edit whose text is laid out, by the first rows of its pages. It
-/// fills no page of the body. Labels that are those of the state already may be kept: then no stanza is looked at. On an error
-/// there was no memory, and nothing is changed.
+/// Whether pages are locked or rows may be marked: then no sheet stays as it is.
+fn renews_all(records: &Records) -> bool
+    ensures locked { OnFalse result ((records.now).pages ≡ None) }
+    ensures round { OnFalse result ((records.now).round ≡ 0) }
+{
+    records.pages.is_some() || records.round > 0
+}
+
+/// Makes the labels and the sheets those of a state after an edit whose text is laid out, by the first rows of its page records
+/// and of its pages, and by what would make the page starts those before. It fills no page of the body. Labels that are those
+/// of the state already may be kept: then no stanza is looked at. Sheets before and behind the exchanged pages stay as they are
+/// where pages aren't locked and the round is 0. On an error there was no memory, and nothing is changed.
 pub fn renumber(
     alloc: Global,
     lines: &Lines,
     stanzas: &Stanzas,
     records: &Records,
     layout: &KeptLayout,
+    firsts: &[usize],
     pages: &Pages,
+    swapped: &SwappedPages,
     keeps_labels: bool,
     numbered: &mut Numbered,
 ) -> Result<(), AllocError>
     requires whole { IsWhole (state_of (text_of lines.now) records.now) }
     requires stanzas { stanzas.now.stanzas ≡ text_stanzas (text_of lines.now) }
     requires laid { IsLaidOf (state_of (text_of lines.now) records.now) (laid_of layout.now) }
+    requires firsts { firsts.now ≡ first_rows (state_of (text_of lines.now) records.now) }
     requires pages { pages.now.starts ≡ pages_of (state_of (text_of lines.now) records.now) }
+    requires can { CanPutBack pages.now.starts swapped.now }
+    requires sheets { (records.now).pages ≡ None → (records.now).round ≡ 0 → AreUnmarked numbered.old.sheets (with_taken pages.now.starts swapped.now) }
     requires labels { IsTrue keeps_labels → numbered.old.labels ≡ heading_labels lines.now.lines records.now.scenes }
     ensures numbered { OnOk result (IsNumberedOf (state_of (text_of lines.now) records.now) numbered.new) }
     ensures same { OnErr result (numbered.new ≡ numbered.old) }
 {
     let title_pages = title_pages(alloc, &layout.titles, records.paper)?;
     let starts = pages.starts();
+    let marks = layout.body.marks();
+    let stale = stale_places(&numbered.sheets, marks, renews_all(records), swapped);
+    let sheets = &mut numbered.sheets;
     if keeps_labels {
-        renew_body_sheets(alloc, lines, records, layout, starts, &mut numbered.sheets)?;
+        renew_body_sheets(alloc, lines, records, layout, firsts, starts, stale, sheets)?;
     } else {
         let labels = made_labels(alloc, lines, stanzas, records)?;
-        renew_body_sheets(alloc, lines, records, layout, starts, &mut numbered.sheets)?;
+        renew_body_sheets(alloc, lines, records, layout, firsts, starts, stale, sheets)?;
         numbered.labels = labels;
     }
     numbered.title_pages = title_pages;
@@ -329,7 +384,9 @@ pub fn make<S: Steps>(
     ensures reads { S.reads steps.new ≡ S.reads steps.old }
 {
     let layout = lay(alloc, lines, stanzas, records)?;
-    let pages = make_pages(alloc, lines, records, &layout, steps)?;
-    let numbered = number(alloc, lines, stanzas, records, &layout, &pages)?;
+    let none: &[usize] = &[];
+    let firsts = laid_firsts(alloc, lines, records, &layout, none)?;
+    let pages = make_pages(alloc, lines, records, &layout, &firsts, steps)?;
+    let numbered = number(alloc, lines, stanzas, records, &layout, &firsts, &pages)?;
     Ok((Made { layout, numbered }, pages))
 }

@@ -1,14 +1,19 @@
 //! The sheets of a text whose pages aren't locked.
-ghost use Rattle.std.specs.Prelude.{◌≡◌, ◌+◌, ◌<◌, ◌≤◌, false, List, All, AllPairs, fold, length, map, max, slice_index, slice_index_or, slice_range, take, OnErr, OnOk, vec_capacity, vec_len};
+ghost use Rattle.std.specs.Prelude.{◌≡◌, ℕ, ◌+◌, ◌-◌, ◌<◌, ◌≤◌, true, false, List, All, AllPairs, fold, length, map, max, slice_index, slice_index_or, slice_range, take, OnErr, OnOk, vec_capacity, vec_len};
+ghost use Rattle.std.specs.Bool.{OnTrue};
 ghost use Rattle.spec_layout.specs.Shown.{Shown};
 ghost use Rattle.spec_labels.specs.Labels.{plain_label};
+ghost use Rattle.spec_labels.specs.PageRecords.{SheetOf};
 ghost use Rattle.spec_state.specs.StateSheets.{numbered_sheets};
-ghost use Rattle.sp_made.specs.Numbered.{mark_of, marked_sheet, marked_sheets, numbered_sheet};
+ghost use Rattle.sp_reflow.specs.Updates.{with_taken, CanPutBack};
+ghost use Rattle.sp_made.specs.Numbered.{mark_of, marked_sheet, marked_sheets, numbered_sheet, AreSameOutside, AreUnmarked};
 
 use sp_labels::Label;
 use sp_locks::Sheet;
+use sp_reflow::SwappedPages;
 use sp_splice::make_room;
 use std::alloc::{AllocError, Global};
+use std::ops::Range;
 
 /// The greatest of marks, or 0.
 pub(crate) fn greatest(marks: &[u8]) -> u8
@@ -95,8 +100,48 @@ pub(crate) fn page_behind(pages: &[usize], place: usize, rows: usize) -> usize
     }
 }
 
-/// Makes sheets those of the first pages.
-fn renew_first(marks: &[u8], is_marked: bool, pages: &[usize], sheets: &mut Vec<Sheet>)
+/// Whether the last sheet ends at this row; false where there is none.
+fn ends_at(sheets: &[Sheet], row: usize) -> bool
+    ensures { OnTrue result ((other : SheetOf) → (slice_index_or sheets.now (length sheets.now - 1) other).end ≡ row) }
+{
+    match sheets.last() {
+        Some(last) => last.end == row,
+        None => false,
+    }
+}
+
+/// The places of the sheets to be set anew where page starts were exchanged and no row is marked; all, where that isn't known.
+/// A sheet ends where the next page begins, so that the one before the exchanged pages is among them. Those behind them stay
+/// where the last one still ends behind the last row.
+pub(crate) fn stale_places(
+    sheets: &[Sheet],
+    marks: &[u8],
+    renews_all: bool,
+    swapped: &SwappedPages,
+) -> Range<usize>
+    requires unmarked { renews_all ≡ false → All (λ mark. mark ≡ 0) marks.now }
+    ensures { (pages : List ℕ) → CanPutBack pages swapped.now → (renews_all ≡ false → AreUnmarked sheets.now (with_taken pages swapped.now)) → AreSameOutside sheets.now (marked_sheets marks.now 1 pages) result.start result.end }
+{
+    if renews_all {
+        return 0..sheets.len();
+    }
+    let standing = swapped.standing();
+    let from = standing.before.saturating_sub(1);
+    match standing.behind {
+        Some(behind) if ends_at(sheets, marks.len()) => from..behind,
+        _ => from..sheets.len(),
+    }
+}
+
+/// Makes sheets those of the first pages. Outside the stale places they are such already.
+fn renew_first(
+    marks: &[u8],
+    is_marked: bool,
+    pages: &[usize],
+    stale: Range<usize>,
+    sheets: &mut Vec<Sheet>,
+)
+    requires stale { AreSameOutside sheets.old.items (marked_sheets marks.now 1 pages.now) stale.start stale.end }
     requires fewer { vec_len sheets.old ≤ length pages.now }
     requires few { length pages.now ≤ 16777216 }
     requires rising { AllPairs (λ one other. one < other) pages.now }
@@ -106,7 +151,7 @@ fn renew_first(marks: &[u8], is_marked: bool, pages: &[usize], sheets: &mut Vec<
     ensures len { vec_len sheets.new ≡ vec_len sheets.old }
     ensures room { vec_capacity sheets.new ≡ vec_capacity sheets.old }
 {
-    for place in 0..sheets.len() {
+    for place in stale.start..stale.end.min(sheets.len()) {
         let start = pages[place];
         let end = page_behind(pages, place, marks.len());
         let round = round_of(marks, is_marked, start, end);
@@ -140,14 +185,17 @@ fn add_sheets(
 }
 
 /// Makes sheets those of rows with these marks on these pages, numbered from 1; each has the greatest mark of its rows as round.
-/// Where no row is marked no mark is looked at. `AllocError` comes for want of memory alone, and leaves the sheets as they are.
+/// Outside the stale places they are such already, and none of these is looked at. Where no row is marked no mark is looked at.
+/// `AllocError` comes for want of memory alone, and leaves the sheets as they are.
 pub(crate) fn renew_sheets(
     alloc: Global,
     marks: &[u8],
     is_marked: bool,
     pages: &[usize],
+    stale: Range<usize>,
     sheets: &mut Vec<Sheet>,
 ) -> Result<(), AllocError>
+    requires stale { AreSameOutside sheets.old.items (marked_sheets marks.now 1 pages.now) stale.start stale.end }
     requires rising { AllPairs (λ one other. one < other) pages.now }
     requires within { All (λ page. page < length marks.now) pages.now }
     requires few { length pages.now ≤ 16777216 }
@@ -157,7 +205,7 @@ pub(crate) fn renew_sheets(
 {
     make_room(sheets, pages.len())?;
     sheets.truncate(pages.len());
-    renew_first(marks, is_marked, pages, sheets);
+    renew_first(marks, is_marked, pages, stale, sheets);
     add_sheets(alloc, marks, is_marked, pages, sheets);
     Ok(())
 }

@@ -41,10 +41,10 @@ use Rattle.sp_layout.specs.Bodies.{KeyedElements, row_count}
 use Rattle.sp_compare.specs.BareRows.{AreLaid, Both}
 use Rattle.sp_exchange.specs.Restoring.{CanRestoreText}
 use Rattle.sp_state.specs.TextEntries.{TextEntryState, FitRecords, LeadsTextBack, displaced, undone_records, with_text}
-use Rattle.sp_made.specs.Made.{key_starts}
+use Rattle.sp_made.specs.Made.{first_rows, key_starts}
 use Rattle.sp_state.specs.Raised.{AreCarried, AreSegments, CanCarry, FitPages, put_back_in, raises, raises_in, records_carried, records_raised, state_before, with_pages}
 use Rattle.sp_made.proofs.MadeLaws.{count-rows}
-use Rattle.sp_state.proofs.RaisedLaws.{raises-distinct, raises-raised, raises-within}
+use Rattle.sp_state.proofs.RaisedLaws.{raised-starts, raises-distinct, raises-raised, raises-within}
 
 -- ---- a carried state is whole
 
@@ -204,6 +204,23 @@ raised-is text back records starts moved begin is =
         ap (λ (rs : List PageRecordOf). with_pages records (Some rs))
         (raises-raised records.round (rows_by_record old those) (rows_by_record after (carried_records text.lines place those)) (carried_records text.lines place those))
 
+-- They leave the first rows of the records where they are.
+pub raised-firsts : (text : TextState) (back : Displacement) (records : RecordsOf) → first_rows (state_of text (records_raised text back records)) ≡ first_rows (state_of text (records_carried text back records))
+raised-firsts text back records = by records.pages
+  where
+    old : State
+    old = state_before text back records
+
+    place : ℕ
+    place = back.first + back.stands
+
+    after : State
+    after = state_of text (records_carried text back records)
+
+    by : (pages : Option (List PageRecordOf)) → key_starts text.lines (keys_in after) (pages_raised old after pages (option_map (carried_records text.lines place) pages)) ≡ key_starts text.lines (keys_in after) (option_map (carried_records text.lines place) pages)
+    by None = refl
+    by (Some those) = raised-starts text.lines (keys_in after) records.round (rows_by_record old those) (rows_by_record after (carried_records text.lines place those)) (carried_records text.lines place those)
+
 -- They fit the records.
 pub raised-fit : (olds : List (List Shown)) (state : State) (records : RecordsOf) (moved : List Moved) → moved ≡ raises_in olds state records.pages → FitPages records moved
 raised-fit olds state records moved is = by records.pages is
@@ -290,12 +307,11 @@ raised-here text back old there after elements starts moved is same begin rounds
 pub some-pages : {V : Type 0} (items : V → List PageRecordOf) (there : Option V) (pages : V) (own : Option (List PageRecordOf)) → option_map items there ≡ own → there ≡ Some pages → own ≡ Some (items pages)
 some-pages items there pages own same is = sym same ∙ ap (option_map items) is
 
-pub raises-made : {V E : Type 0} (items : V → List Moved) (result : Result V E) (state : State) (old : List LineState) (both : Both) (olds news : List ElementOf) (before after : List ℕ) (round : ℕ) (records : List PageRecordOf)
+pub raises-made : (moved : List Moved) (state : State) (old : List LineState) (both : Both) (olds news : List ElementOf) (before after : List ℕ) (round : ℕ) (records : List PageRecordOf)
     → both ≡ record { old = old; olds = olds; new = state.lines; news = news } → news ≡ (layout_in state).body → after ≡ record_starts state.lines (keys_in state) records → round ≡ state.round → state.pages ≡ Some records
-    → IfOk result (λ moved. (one other : Option (List LabelOf)) → items moved ≡ raises round 0 (segment_rows (shown_rows both.old one both.olds) before) (segment_rows (shown_rows both.new other both.news) after) records)
-    → IfOk result (λ moved. (labels : Option (List LabelOf)) → items moved ≡ raises_in (segment_rows (shown_rows old labels olds) before) state state.pages)
-raises-made items (Err error) state old both olds news before after round records both_is body begin rounds are is = tt
-raises-made items (Ok it) state old both olds news before after round records both_is body begin rounds are is = λ labels.
+    → ((one other : Option (List LabelOf)) → moved ≡ raises round 0 (segment_rows (shown_rows both.old one both.olds) before) (segment_rows (shown_rows both.new other both.news) after) records)
+    → (labels : Option (List LabelOf)) → moved ≡ raises_in (segment_rows (shown_rows old labels olds) before) state state.pages
+raises-made moved state old both olds news before after round records both_is body begin rounds are is labels =
     let own = heading_labels state.lines state.scenes in
     is labels own
     ∙ ap (λ (b : Both). raises round 0 (segment_rows (shown_rows b.old labels b.olds) before) (segment_rows (shown_rows b.new own b.news) after) records) both_is

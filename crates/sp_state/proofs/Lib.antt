@@ -9,3 +9,4 @@ mod RefilledLaws
 mod RelaidLaws
 mod OpeningPages
 mod LabelLaws
+mod SheetLaws

@@ -6,21 +6,20 @@ use Rattle.spec_text.specs.Ranges.{range_of}
 use Rattle.spec_text.proofs.EditLaws.{length-lines_put}
 use Rattle.spec_text.proofs.TakenEdits.{taken-inside}
 use Rattle.spec_script.specs.BlockValues.{StanzaOf}
-use Rattle.spec_labels.specs.declared.RowKey.{RowKey}
 use Rattle.spec_layout.specs.Layout.{layout_of}
 use Rattle.spec_records.specs.Kept.{RecordsOf}
 use Rattle.spec_reread.specs.Windows.{IsWindow, stanzas_between}
 use Rattle.spec_relayout.proofs.WindowExists.{window-exists}
 use Rattle.spec_state.specs.Changes.{edited_state}
 use Rattle.spec_state.specs.Keeping.{IsWhole, state_of}
-use Rattle.spec_state.specs.StateSheets.{keys_in, layout_in}
+use Rattle.spec_state.specs.StateSheets.{layout_in}
 use Rattle.sp_reread.specs.Cache.{GivesBack, SwappedState}
 use Rattle.sp_exchange.specs.Restoring.{AreDisplaced, text_stanzas}
 use Rattle.sp_layout.specs.LaidOut.{LayoutOf, keyed}
 use Rattle.sp_relay.specs.Edited.{WasLaidOf}
 use Rattle.sp_relay.proofs.WindowLaws.{was-laid-put}
 use Rattle.sp_refill.specs.Edits.{IsOfEdit}
-use Rattle.sp_made.specs.Made.{IsLaidOf, key_starts}
+use Rattle.sp_made.specs.Made.{IsLaidOf}
 use Rattle.sp_state.specs.Raised.{state_before}
 
 -- The layout of the text before an edit, by what the edit displaced of the stanzas.
@@ -55,9 +54,3 @@ pub body-now : (text : TextState) (back : Displacement) (records : RecordsOf) (i
     → IsLaidOf (state_of text records) layout → layout.body.elements ≡ (layout_in (edited_state (state_before text back records) it)).body
 body-now text back records it stanzas swapped layout edit laid =
     ap (λ (l : LayoutOf). l.body.elements) laid ∙ ap (λ (ls : List LineState). (layout_of records.speakers ls).body) edit.lines_are
-
--- The first rows that page records had before it.
-pub starts-before : (old new : TextState) (back : Displacement) (records : RecordsOf) (keys : List RowKey) (starts : List ℕ) → restored new back ≡ old → keys ≡ keys_in (state_of old records)
-    → starts ≡ key_starts old.lines keys records.pages → starts ≡ key_starts (restored new back).lines (keys_in (state_before new back records)) records.pages
-starts-before old new back records keys starts leads same is =
-    is ∙ ap (λ (ks : List RowKey). key_starts old.lines ks records.pages) same ∙ ap (λ (t : TextState). key_starts t.lines (keys_in (state_of t records)) records.pages) (sym leads)

@@ -7,20 +7,20 @@ ghost use Rattle.spec_labels.specs.Labels.{LabelOf};
 ghost use Rattle.spec_layout.specs.Shown.{shown_rows};
 ghost use Rattle.spec_state.specs.Changes.{segment_rows};
 ghost use Rattle.spec_state.specs.Keeping.{IsWhole, state_of};
-ghost use Rattle.spec_state.specs.StateSheets.{keys_in};
 ghost use Rattle.sp_text.specs.DisplacedLines.{displaced_of};
 ghost use Rattle.sp_text.specs.Gap.{text_of};
 ghost use Rattle.sp_compare.specs.BareRows.{AreLaid};
 ghost use Rattle.sp_layout.specs.Bodies.{row_count};
 ghost use Rattle.sp_relay.specs.Kept.{CanSwap, laid_of, with_part};
 ghost use Rattle.sp_relay.specs.Outside.{StaysOutside};
-ghost use Rattle.sp_made.specs.Made.{IsLaidOf, key_starts};
+ghost use Rattle.sp_made.specs.Made.{IsLaidOf, first_rows};
 ghost use Rattle.sp_state.specs.Raised.{AreCarried, AreSegments, FitPages, put_back_in, raises_in, records_carried, records_raised, state_before};
 ghost use Rattle.sp_state.specs.Relaid.{body_before};
 
 use crate::raising::raises;
 use sp_compare::{BothTexts, OldLines};
-use sp_locks::{carry, put_back, starts};
+use sp_locks::{carry, put_back};
+use sp_made::laid_firsts;
 use sp_records::Records;
 use sp_relay::{KeptLayout, LayoutPart};
 use sp_text::{Displaced, Lines};
@@ -88,8 +88,15 @@ fn both_texts<'a>(
     )
 }
 
-/// The rounds that the page records get whose rows differ; none where pages aren't locked. `gone` is the part of the layout
-/// that the edit took out, and `before` the first rows that the records had.
+/// The rounds that page records get, and the first rows of the records.
+#[derive(Drop)]
+struct Raised {
+    raised: Vec<Moved>,
+    firsts: Vec<usize>,
+}
+
+/// The rounds that the page records get whose rows differ, and the first rows of the records; none where pages aren't locked.
+/// `gone` is the part of the layout that the edit took out, and `before` the first rows that the records had.
 fn raises_among(
     alloc: Global,
     lines: &Lines,
@@ -98,7 +105,7 @@ fn raises_among(
     before: &[usize],
     layout: &KeptLayout,
     gone: &LayoutPart,
-) -> Result<Vec<Moved>, AllocError>
+) -> Result<Raised, AllocError>
     requires whole { IsWhole (state_of (text_of lines.now) records.now) }
     requires place { displaced.now.first + displaced.now.stands ≤ length lines.now.lines }
     requires text { IsText (restored (text_of lines.now) (displaced_of displaced.now)) }
@@ -108,21 +115,27 @@ fn raises_among(
     requires olds { AreLaid (restored (text_of lines.now) (displaced_of displaced.now)).lines (body_before (laid_of layout.now) gone.now) }
     requires outside { StaysOutside (restored (text_of lines.now) (displaced_of displaced.now)).lines lines.now.lines (laid_of layout.now).body.elements gone.now.places }
     requires before { IfSome records.now.pages (λ those. AreSegments (row_count (body_before (laid_of layout.now) gone.now).elements) (length those) before.now) }
-    ensures { IfOk result (λ moved. (labels : Option (List LabelOf)) → moved.items ≡ raises_in (segment_rows (shown_rows (restored (text_of lines.now) (displaced_of displaced.now)).lines labels (body_before (laid_of layout.now) gone.now).elements) before.now) (state_of (text_of lines.now) records.now) records.now.pages) }
+    ensures raised { IfOk result (λ it. (labels : Option (List LabelOf)) → it.raised.items ≡ raises_in (segment_rows (shown_rows (restored (text_of lines.now) (displaced_of displaced.now)).lines labels (body_before (laid_of layout.now) gone.now).elements) before.now) (state_of (text_of lines.now) records.now) records.now.pages) }
+    ensures firsts { IfOk result (λ it. it.firsts.items ≡ first_rows (state_of (text_of lines.now) records.now)) }
 {
+    let firsts = laid_firsts(alloc, lines, records, layout, before)?;
     let Some(pages) = &records.pages else {
-        return Ok(Vec::new(alloc));
+        return Ok(Raised {
+            raised: Vec::new(alloc),
+            firsts,
+        });
     };
-    let after = starts(alloc, pages, lines, layout.body.keys())?;
     let texts = both_texts(lines, displaced, layout, gone);
-    raises(alloc, &texts, before, &after, pages, records.round)
+    let raised = raises(alloc, &texts, before, &firsts, pages, records.round)?;
+    Ok(Raised { raised, firsts })
 }
 
-/// The anchors that page records had that were carried, and the rounds that those had that were raised.
+/// The anchors that page records had that were carried, the rounds that those had that were raised, and the first rows of all.
 #[derive(Drop)]
 pub(crate) struct Carried {
     pub moved: Vec<Moved>,
     pub raised: Vec<Moved>,
+    pub firsts: Vec<usize>,
 }
 
 /// Carries page records after an edit, and gives those the round whose rows differ. `gone` is the part of the layout that the
@@ -144,18 +157,23 @@ pub(crate) fn carry_and_raise(
     requires swaps { CanSwap (laid_of layout.now) gone.now.places (laid_of gone.now.kept) }
     requires was { IsLaidOf (state_before (text_of lines.now) (displaced_of displaced.now) records.old) (with_part (laid_of layout.now) gone.now.places (laid_of gone.now.kept)) }
     requires outside { StaysOutside (restored (text_of lines.now) (displaced_of displaced.now)).lines lines.now.lines (laid_of layout.now).body.elements gone.now.places }
-    requires before { before.now ≡ key_starts (restored (text_of lines.now) (displaced_of displaced.now)).lines (keys_in (state_before (text_of lines.now) (displaced_of displaced.now) records.old)) records.old.pages }
+    requires before { before.now ≡ first_rows (state_before (text_of lines.now) (displaced_of displaced.now) records.old) }
     ensures records { OnOk result (records.new ≡ records_raised (text_of lines.now) (displaced_of displaced.now) records.old) }
     ensures raised { IfOk result (λ it. FitPages records.new it.raised.items) }
     ensures moved { IfOk result (λ it. FitPages (put_back_in it.raised.items records.new) it.moved.items) }
     ensures back { IfOk result (λ it. put_back_in it.moved.items (put_back_in it.raised.items records.new) ≡ records.old) }
+    ensures firsts { IfOk result (λ it. it.firsts.items ≡ first_rows (state_of (text_of lines.now) records.new)) }
     ensures same { OnErr result (records.new ≡ records.old) }
 {
     let mut moved = carry_pages(alloc, records, lines, displaced)?;
     match raises_among(alloc, lines, displaced, records, before, layout, gone) {
-        Ok(mut raised) => {
+        Ok(Raised { mut raised, firsts }) => {
             put_back_pages(records, &mut raised);
-            Ok(Carried { moved, raised })
+            Ok(Carried {
+                moved,
+                raised,
+                firsts,
+            })
         }
         Err(error) => {
             put_back_pages(records, &mut moved);

@@ -1,5 +1,5 @@
 //! What is made of a state after a change of its parts; where there is no memory for it the change is taken back.
-ghost use Rattle.std.specs.Prelude.{◌≡◌, length, IfErr, IfOk, OnOk, OnErr};
+ghost use Rattle.std.specs.Prelude.{◌≡◌, length, IfErr, IfOk, IfSome, OnOk, OnErr};
 ghost use Rattle.spec_text.specs.Edits.{refusal_of, replacement_of};
 ghost use Rattle.spec_text.specs.Ranges.{range_of};
 ghost use Rattle.spec_state.specs.Changes.{edited_state};
@@ -11,7 +11,7 @@ ghost use Rattle.sp_exchange.specs.Reads.{IsRefused};
 ghost use Rattle.sp_exchange.specs.Restoring.{text_stanzas};
 ghost use Rattle.sp_reflow.specs.Filling.{FilledAtMost};
 ghost use Rattle.sp_relay.specs.Kept.{laid_of};
-ghost use Rattle.sp_made.specs.Made.{IsLaidOf, IsMadeOf, IsNumberedOf};
+ghost use Rattle.sp_made.specs.Made.{IsLaidOf, IsMadeOf, IsNumberedOf, first_rows};
 ghost use Rattle.sp_state.specs.TextEntries.{CanRedoText, CanUndoText, HasTextRoom, IsTextRedone, IsTextUndone, redone_text, undone_text};
 ghost use Rattle.sp_state.specs.Entries.{CanRedo, CanUndo, IsSameEntry, LeadsBack, LeadsForth, done_range, redone_state, undone_range, undone_state};
 ghost use Rattle.sp_reflow.specs.Starts.{many_more};
@@ -22,7 +22,7 @@ use crate::entry::{Entry, Unturned};
 use crate::text_entry::{EditedText, TextEntry, UnturnedText, edit_entry, redo_entry, undo_entry};
 use crate::turning::{Turned, UnturnedPages, refilled, swap_in_room, turn_made};
 use sp_kit::Steps;
-use sp_made::{Made, Numbered, keeps_headings, lay, make, number};
+use sp_made::{Made, Numbered, keeps_headings, laid_firsts, lay, make, number};
 use sp_records::Records;
 use sp_reflow::Pages;
 use sp_relay::KeptLayout;
@@ -46,7 +46,9 @@ fn remade(
     ensures { IfOk result (IsMadeOf (state_of (text_of lines.now) records.now)) }
 {
     let layout = lay(alloc, lines, stanzas, records)?;
-    let numbered = number(alloc, lines, stanzas, records, &layout, pages)?;
+    let none: &[usize] = &[];
+    let firsts = laid_firsts(alloc, lines, records, &layout, none)?;
+    let numbered = number(alloc, lines, stanzas, records, &layout, &firsts, pages)?;
     Ok(Made { layout, numbered })
 }
 
@@ -149,7 +151,8 @@ fn redo_in_room(
 }
 
 /// Makes an edit. The part of the layout that it changes is laid out anew, the pages of its page window are filled again, and
-/// sheets are made anew; so are labels where a heading comes or goes. A fault changes nothing.
+/// sheets are made anew; so are labels where a heading comes or goes. The first rows of page records are looked for once, where
+/// those before the edit are known. A fault changes nothing but that they may be forgotten.
 pub(crate) fn edit_made<S: Steps>(
     alloc: Global,
     lines: &mut Lines,
@@ -158,6 +161,7 @@ pub(crate) fn edit_made<S: Steps>(
     layout: &mut KeptLayout,
     pages: &mut Pages,
     numbered: &mut Numbered,
+    firsts: &mut Option<Vec<usize>>,
     edit: Edit,
     steps: &mut S,
 ) -> Result<Entry, EditFault>
@@ -166,6 +170,7 @@ pub(crate) fn edit_made<S: Steps>(
     requires laid { IsLaidOf (state_of (text_of lines.old) records.old) (laid_of layout.old) }
     requires pages { pages.old.starts ≡ pages_of (state_of (text_of lines.old) records.old) }
     requires numbered { IsNumberedOf (state_of (text_of lines.old) records.old) numbered.old }
+    requires firsts { IfSome firsts.old (λ those. those.items ≡ first_rows (state_of (text_of lines.old) records.old)) }
     ensures refuses { Refuses (refusal_of (text_of lines.old) (edit_of edit)) result }
     ensures state { OnOk result (state_of (text_of lines.new) records.new ≡ edited_state (state_of (text_of lines.old) records.old) (replacement_of lines.old.lines (edit_of edit))) }
     ensures whole { OnOk result (IsWhole (state_of (text_of lines.new) records.new)) }
@@ -173,6 +178,7 @@ pub(crate) fn edit_made<S: Steps>(
     ensures range { IfOk result (λ it. done_range it ≡ range_of (replacement_of lines.old.lines (edit_of edit))) }
     ensures laid { IsLaidOf (state_of (text_of lines.new) records.new) (laid_of layout.new) }
     ensures numbered { IsNumberedOf (state_of (text_of lines.new) records.new) numbered.new }
+    ensures firsts { IfSome firsts.new (λ those. those.items ≡ first_rows (state_of (text_of lines.new) records.new)) }
     ensures pages { pages.new.starts ≡ pages_of (state_of (text_of lines.new) records.new) }
     ensures stanzas { stanzas.new.stanzas ≡ text_stanzas (text_of lines.new) }
     ensures same { OnErr result (state_of (text_of lines.new) records.new ≡ state_of (text_of lines.old) records.old) }
@@ -183,11 +189,17 @@ pub(crate) fn edit_made<S: Steps>(
     ensures fills_at_most { EditFillsAtMost (state_of (text_of lines.old) records.old) (replacement_of lines.old.lines (edit_of edit)) (S.fills steps.old) (S.fills steps.new) }
     ensures unfilled { IsRefused (refusal_of (text_of lines.old) (edit_of edit)) → S.fills steps.new ≡ S.fills steps.old }
 {
+    let none: &[usize] = &[];
+    let before = match firsts.take() {
+        Some(before) => before,
+        None => laid_firsts(alloc, lines, records, layout, none)?,
+    };
     let EditedText {
         text,
         layout: part,
         rows,
-    } = edit_entry(alloc, lines, stanzas, records, layout, edit, steps)?;
+        firsts: after,
+    } = edit_entry(alloc, lines, stanzas, records, layout, &before, edit, steps)?;
     let keeps_labels = keeps_headings(layout, &part);
     match refilled(
         alloc,
@@ -195,6 +207,7 @@ pub(crate) fn edit_made<S: Steps>(
         stanzas,
         records,
         layout,
+        &after,
         pages,
         numbered,
         keeps_labels,
@@ -203,11 +216,14 @@ pub(crate) fn edit_made<S: Steps>(
         rows.new,
         steps,
     ) {
-        Ok(swapped) => Ok(Entry {
-            text,
-            layout: part,
-            pages: swapped,
-        }),
+        Ok(swapped) => {
+            *firsts = Some(after);
+            Ok(Entry {
+                text,
+                layout: part,
+                pages: swapped,
+            })
+        }
         Err(_) => {
             let _other = swap_in_room(layout, part);
             let _text = undo_in_room(lines, stanzas, records, text);
@@ -217,7 +233,8 @@ pub(crate) fn edit_made<S: Steps>(
 }
 
 /// Undoes an edit. Nothing is laid out and no page filled; sheets are made anew, and so are labels where a heading
-/// comes or goes. On an error there was no memory, nothing is changed, and an entry that can be undone is handed back.
+/// comes or goes. The first rows of page records are looked for once. On an error there was no memory, nothing is changed, and an
+/// entry that can be undone is handed back.
 pub(crate) fn undo_made(
     alloc: Global,
     lines: &mut Lines,
@@ -226,6 +243,7 @@ pub(crate) fn undo_made(
     layout: &mut KeptLayout,
     pages: &mut Pages,
     numbered: &mut Numbered,
+    firsts: &mut Option<Vec<usize>>,
     entry: Entry,
 ) -> Result<Entry, Unturned>
     requires can { CanUndo (state_of (text_of lines.old) records.old) entry }
@@ -233,12 +251,14 @@ pub(crate) fn undo_made(
     requires laid { IsLaidOf (state_of (text_of lines.old) records.old) (laid_of layout.old) }
     requires pages { pages.old.starts ≡ pages_of (state_of (text_of lines.old) records.old) }
     requires numbered { IsNumberedOf (state_of (text_of lines.old) records.old) numbered.old }
+    requires was_whole { IsWhole (state_of (text_of lines.old) records.old) }
     requires whole { IsWhole (undone_state (state_of (text_of lines.old) records.old) entry) }
     ensures state { OnOk result (state_of (text_of lines.new) records.new ≡ undone_state (state_of (text_of lines.old) records.old) entry) }
     ensures forth { IfOk result (LeadsForth (state_of (text_of lines.old) records.old) (state_of (text_of lines.new) records.new)) }
     ensures range { IfOk result (λ it. undone_range it ≡ done_range entry) }
     ensures laid { IsLaidOf (state_of (text_of lines.new) records.new) (laid_of layout.new) }
     ensures numbered { IsNumberedOf (state_of (text_of lines.new) records.new) numbered.new }
+    ensures firsts { IfSome firsts.new (λ those. those.items ≡ first_rows (state_of (text_of lines.new) records.new)) }
     ensures pages { pages.new.starts ≡ pages_of (state_of (text_of lines.new) records.new) }
     ensures stanzas { stanzas.new.stanzas ≡ text_stanzas (text_of lines.new) }
     ensures same { OnErr result (state_of (text_of lines.new) records.new ≡ state_of (text_of lines.old) records.old) }
@@ -253,24 +273,29 @@ pub(crate) fn undo_made(
     } = entry;
     match undo_entry(lines, stanzas, records, text) {
         Ok(other) => match turn_made(
-            alloc, lines, stanzas, records, layout, pages, part, back, numbered,
+            alloc, lines, stanzas, records, layout, firsts, pages, part, back, numbered,
         ) {
             Ok(
                 Turned {
                     layout: part,
                     pages: swapped,
+                    firsts: after,
                 },
-            ) => Ok(Entry {
-                text: other,
-                layout: part,
-                pages: swapped,
-            }),
+            ) => {
+                *firsts = Some(after);
+                Ok(Entry {
+                    text: other,
+                    layout: part,
+                    pages: swapped,
+                })
+            }
             Err(
                 UnturnedPages {
                     layout: part,
                     pages: back,
                 },
             ) => {
+                *firsts = None;
                 let text = redo_in_room(lines, stanzas, records, other);
                 Err(Unturned {
                     back: Entry {
@@ -281,18 +306,22 @@ pub(crate) fn undo_made(
                 })
             }
         },
-        Err(UnturnedText { back: text }) => Err(Unturned {
-            back: Entry {
-                text,
-                layout: part,
-                pages: back,
-            },
-        }),
+        Err(UnturnedText { back: text }) => {
+            *firsts = None;
+            Err(Unturned {
+                back: Entry {
+                    text,
+                    layout: part,
+                    pages: back,
+                },
+            })
+        }
     }
 }
 
 /// Does an edit again. Nothing is laid out and no page filled; sheets are made anew, and so are labels where a heading
-/// comes or goes. On an error there was no memory, nothing is changed, and an entry that can be done again is handed back.
+/// comes or goes. The first rows of page records are looked for once. On an error there was no memory, nothing is changed, and an
+/// entry that can be done again is handed back.
 pub(crate) fn redo_made(
     alloc: Global,
     lines: &mut Lines,
@@ -301,6 +330,7 @@ pub(crate) fn redo_made(
     layout: &mut KeptLayout,
     pages: &mut Pages,
     numbered: &mut Numbered,
+    firsts: &mut Option<Vec<usize>>,
     entry: Entry,
 ) -> Result<Entry, Unturned>
     requires can { CanRedo (state_of (text_of lines.old) records.old) entry }
@@ -308,12 +338,14 @@ pub(crate) fn redo_made(
     requires laid { IsLaidOf (state_of (text_of lines.old) records.old) (laid_of layout.old) }
     requires pages { pages.old.starts ≡ pages_of (state_of (text_of lines.old) records.old) }
     requires numbered { IsNumberedOf (state_of (text_of lines.old) records.old) numbered.old }
+    requires was_whole { IsWhole (state_of (text_of lines.old) records.old) }
     requires whole { IsWhole (redone_state (state_of (text_of lines.old) records.old) entry) }
     ensures state { OnOk result (state_of (text_of lines.new) records.new ≡ redone_state (state_of (text_of lines.old) records.old) entry) }
     ensures back { IfOk result (LeadsBack (state_of (text_of lines.old) records.old) (state_of (text_of lines.new) records.new)) }
     ensures range { IfOk result (λ it. done_range it ≡ undone_range entry) }
     ensures laid { IsLaidOf (state_of (text_of lines.new) records.new) (laid_of layout.new) }
     ensures numbered { IsNumberedOf (state_of (text_of lines.new) records.new) numbered.new }
+    ensures firsts { IfSome firsts.new (λ those. those.items ≡ first_rows (state_of (text_of lines.new) records.new)) }
     ensures pages { pages.new.starts ≡ pages_of (state_of (text_of lines.new) records.new) }
     ensures stanzas { stanzas.new.stanzas ≡ text_stanzas (text_of lines.new) }
     ensures same { OnErr result (state_of (text_of lines.new) records.new ≡ state_of (text_of lines.old) records.old) }
@@ -328,24 +360,29 @@ pub(crate) fn redo_made(
     } = entry;
     match redo_entry(lines, stanzas, records, text) {
         Ok(other) => match turn_made(
-            alloc, lines, stanzas, records, layout, pages, part, back, numbered,
+            alloc, lines, stanzas, records, layout, firsts, pages, part, back, numbered,
         ) {
             Ok(
                 Turned {
                     layout: part,
                     pages: swapped,
+                    firsts: after,
                 },
-            ) => Ok(Entry {
-                text: other,
-                layout: part,
-                pages: swapped,
-            }),
+            ) => {
+                *firsts = Some(after);
+                Ok(Entry {
+                    text: other,
+                    layout: part,
+                    pages: swapped,
+                })
+            }
             Err(
                 UnturnedPages {
                     layout: part,
                     pages: back,
                 },
             ) => {
+                *firsts = None;
                 let text = undo_in_room(lines, stanzas, records, other);
                 Err(Unturned {
                     back: Entry {
@@ -356,12 +393,15 @@ pub(crate) fn redo_made(
                 })
             }
         },
-        Err(UnturnedText { back: text }) => Err(Unturned {
-            back: Entry {
-                text,
-                layout: part,
-                pages: back,
-            },
-        }),
+        Err(UnturnedText { back: text }) => {
+            *firsts = None;
+            Err(Unturned {
+                back: Entry {
+                    text,
+                    layout: part,
+                    pages: back,
+                },
+            })
+        }
     }
 }

@@ -2,14 +2,13 @@
 ghost use Rattle.std.specs.Prelude.{◌≡◌, ◌+◌, ◌≤◌, length, IfOk, OnOk, OnErr};
 ghost use Rattle.spec_text.specs.Edits.{Replacement, restored};
 ghost use Rattle.spec_state.specs.Keeping.{IsWhole, state_of};
-ghost use Rattle.spec_state.specs.StateSheets.{keys_in};
 ghost use Rattle.sp_text.specs.DisplacedLines.{displaced_of};
 ghost use Rattle.sp_text.specs.Gap.{text_of};
 ghost use Rattle.sp_exchange.specs.Restoring.{text_stanzas};
 ghost use Rattle.sp_relay.specs.Edited.{WasLaidOf};
 ghost use Rattle.sp_relay.specs.Kept.{CanSwap, HasPartRoom, laid_of, with_part};
 ghost use Rattle.sp_refill.specs.Edits.{IsOfEdit};
-ghost use Rattle.sp_made.specs.Made.{IsLaidOf, key_starts};
+ghost use Rattle.sp_made.specs.Made.{IsLaidOf, first_rows};
 ghost use Rattle.sp_state.specs.Fills.{IsExchangeOf};
 ghost use Rattle.sp_state.specs.Raised.{AreCarried, FitPages, put_back_in, records_carried, records_raised, state_before};
 ghost use Rattle.sp_state.specs.Relaid.{IsSomeEditOf};
@@ -24,13 +23,14 @@ use sp_text::{Displaced, Lines};
 use spec_labels::Moved;
 use std::alloc::{AllocError, Global};
 
-/// What an edit displaced of a layout and of page records, and the rows that it exchanged.
+/// What an edit displaced of a layout and of page records, the rows that it exchanged, and the first rows of the page records.
 #[derive(Drop)]
 pub(crate) struct Relaid {
     pub part: LayoutPart,
     pub moved: Vec<Moved>,
     pub raised: Vec<Moved>,
     pub rows: ExchangedRows,
+    pub firsts: Vec<usize>,
 }
 
 /// Lays out the part that an edit changed, carries page records, and gives those the round whose rows differ. `before` are
@@ -52,7 +52,7 @@ pub(crate) fn relay_and_raise(
     requires can { AreCarried lines.now.lines displaced.now.lines records.old }
     requires was { WasLaidOf (restored (text_of lines.now) (displaced_of displaced.now)) lines.now.lines stanzas.now.stanzas swapped.now (records.old).speakers (laid_of layout.old) }
     requires edit { IsSomeEditOf (state_before (text_of lines.now) (displaced_of displaced.now) records.old) lines.now.lines stanzas.now.stanzas swapped.now }
-    requires before { before.now ≡ key_starts (restored (text_of lines.now) (displaced_of displaced.now)).lines (keys_in (state_before (text_of lines.now) (displaced_of displaced.now) records.old)) records.old.pages }
+    requires before { before.now ≡ first_rows (state_before (text_of lines.now) (displaced_of displaced.now) records.old) }
     ensures laid { OnOk result (IsLaidOf (state_of (text_of lines.now) records.new) (laid_of layout.new)) }
     ensures part { IfOk result (λ it. with_part (laid_of layout.new) it.part.places (laid_of it.part.kept) ≡ laid_of layout.old) }
     ensures swaps { IfOk result (λ it. CanSwap (laid_of layout.new) it.part.places (laid_of it.part.kept)) }
@@ -62,6 +62,7 @@ pub(crate) fn relay_and_raise(
     ensures raised { IfOk result (λ it. FitPages records.new it.raised.items) }
     ensures moved { IfOk result (λ it. FitPages (put_back_in it.raised.items records.new) it.moved.items) }
     ensures back { IfOk result (λ it. put_back_in it.moved.items (put_back_in it.raised.items records.new) ≡ records.old) }
+    ensures firsts { IfOk result (λ it. it.firsts.items ≡ first_rows (state_of (text_of lines.now) records.new)) }
     ensures same { OnErr result (records.new ≡ records.old) }
     ensures same_layout { OnErr result (laid_of layout.new ≡ laid_of layout.old) }
 {
@@ -69,13 +70,20 @@ pub(crate) fn relay_and_raise(
     let ahead = rows_ahead(lines, stanzas, swapped, &layout.body);
     let part = relay_edit(alloc, lines, stanzas, swapped, records.speakers, layout)?;
     match carry_and_raise(alloc, lines, displaced, records, before, layout, &part) {
-        Ok(Carried { moved, raised }) => {
+        Ok(
+            Carried {
+                moved,
+                raised,
+                firsts,
+            },
+        ) => {
             let rows = exchanged_rows(&ahead, lines, stanzas, swapped, &layout.body);
             Ok(Relaid {
                 part,
                 moved,
                 raised,
                 rows,
+                firsts,
             })
         }
         Err(error) => {

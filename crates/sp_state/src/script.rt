@@ -50,22 +50,25 @@ pub struct Script {
     records: Records,
     pages: Pages,
     made: Made,
+    /// The first rows of its page records, where the last edit found them and nothing else came since.
+    firsts: Option<Vec<usize>>,
 }
 
 impl Model for Script {
-    ghost use Rattle.std.specs.Prelude.{◌≡◌};
+    ghost use Rattle.std.specs.Prelude.{◌≡◌, IfSome};
     ghost use Rattle.sp_text.specs.Gap.{text_of};
     ghost use Rattle.spec_state.specs.State.{State};
     ghost use Rattle.spec_state.specs.Keeping.{IsWhole, state_of};
     ghost use Rattle.sp_exchange.specs.Restoring.{text_stanzas};
     ghost use Rattle.spec_locked_pages.specs.Segments.{pages_of};
-    ghost use Rattle.sp_made.specs.Made.{IsMadeOf};
+    ghost use Rattle.sp_made.specs.Made.{IsMadeOf, first_rows};
 
     ghost Value = { State };
 
     ghost view = { λ s. state_of (text_of s.lines) s.records };
 
-    ghost invariant = { λ s. IsWhole (state_of (text_of s.lines) s.records) × IsMadeOf (state_of (text_of s.lines) s.records) s.made × (s.stanzas.stanzas ≡ text_stanzas (text_of s.lines)) × (s.pages.starts ≡ pages_of (state_of (text_of s.lines) s.records)) };
+    ghost invariant = { λ s. IsWhole (state_of (text_of s.lines) s.records) × IsMadeOf (state_of (text_of s.lines) s.records) s.made × (s.stanzas.stanzas ≡ text_stanzas (text_of s.lines)) × (s.pages.starts ≡ pages_of (state_of (text_of s.lines) s.records))
+        × IfSome s.firsts (λ those. those.items ≡ first_rows (state_of (text_of s.lines) s.records)) };
 }
 
 impl Script {
@@ -107,6 +110,7 @@ impl Script {
             records,
             pages,
             made,
+            firsts: None,
         })
     }
 
@@ -206,6 +210,7 @@ impl Script {
             &mut self.made.layout,
             &mut self.pages,
             &mut self.made.numbered,
+            &mut self.firsts,
             edit,
             steps,
         )?;
@@ -234,6 +239,7 @@ impl Script {
             &mut self.made.layout,
             &mut self.pages,
             &mut self.made.numbered,
+            &mut self.firsts,
             entry,
         )?;
         Ok(other)
@@ -262,6 +268,7 @@ impl Script {
             &mut self.made.layout,
             &mut self.pages,
             &mut self.made.numbered,
+            &mut self.firsts,
             entry,
         )?;
         Ok(other)
@@ -282,6 +289,7 @@ impl Script {
             on,
         )?;
         self.made = made;
+        self.firsts = None;
         Ok(())
     }
 
@@ -309,6 +317,7 @@ impl Script {
         )?;
         self.made = made;
         self.pages = pages;
+        self.firsts = None;
         Ok(())
     }
 
@@ -318,6 +327,7 @@ impl Script {
     pub fn lock_scenes(&mut self, alloc: Global) -> Result<(), OpeningFault>
         ensures { IsOpening (scenes_refusal self.old) (scenes_locked self.old) self.old self.new result }
     {
+        self.firsts = None;
         lock_scenes_made(
             alloc,
             &self.lines,
@@ -333,6 +343,7 @@ impl Script {
     pub fn lock_pages(&mut self, alloc: Global) -> Result<(), OpeningFault>
         ensures { IsOpening (pages_refusal self.old) (pages_locked self.old) self.old self.new result }
     {
+        self.firsts = None;
         lock_pages_made(
             alloc,
             &self.lines,
@@ -349,6 +360,7 @@ impl Script {
     pub fn next_round(&mut self, alloc: Global) -> Result<(), OpeningFault>
         ensures { IsOpening (round_refusal self.old) (round_begun self.old) self.old self.new result }
     {
+        self.firsts = None;
         next_round_made(
             alloc,
             &self.lines,

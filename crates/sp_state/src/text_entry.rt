@@ -10,7 +10,7 @@ ghost use Rattle.sp_exchange.specs.Reads.{IsRefused};
 ghost use Rattle.sp_exchange.specs.Restoring.{CanRestoreText, HasRoomFor, text_before, text_stanzas};
 ghost use Rattle.sp_state.specs.TextEntries.{CanUndoText, CanRedoText, HasTextRoom, IsTextRedone, IsSameTextEntry, IsTextUndone, LeadsTextBack, LeadsTextForth, undone_text, redone_text, undone_lines, done_lines};
 ghost use Rattle.sp_relay.specs.Kept.{CanSwap, HasPartRoom, laid_of, with_part};
-ghost use Rattle.sp_made.specs.Made.{IsLaidOf};
+ghost use Rattle.sp_made.specs.Made.{IsLaidOf, first_rows};
 ghost use Rattle.sp_state.specs.Fills.{IsExchangeOf};
 ghost use Rattle.sp_state.specs.Reads.{EditReads, EditReadsAtMost};
 
@@ -18,7 +18,6 @@ use crate::relaying::{Relaid, relay_and_raise};
 use sp_exchange::{UnrestoredText, change_text, restore_text};
 use sp_kit::Steps;
 use sp_locks::put_back;
-use sp_made::record_starts;
 use sp_records::Records;
 use sp_refill::ExchangedRows;
 use sp_relay::{KeptLayout, LayoutPart};
@@ -66,28 +65,32 @@ fn restore_in_room(lines: &mut Lines, stanzas: &mut Stanzas, back: Displaced, sw
     }
 }
 
-/// An edit that was made: what undoes it but for the page starts, and the rows that it exchanged.
+/// An edit that was made: what undoes it but for the page starts, the rows that it exchanged, and the first rows of the page
+/// records.
 #[derive(Drop)]
 pub(crate) struct EditedText {
     pub text: TextEntry,
     pub layout: LayoutPart,
     pub rows: ExchangedRows,
+    pub firsts: Vec<usize>,
 }
 
-/// Makes an edit in a text and in its layout, and answers what undoes it. Each stanza of its window is read once. A refused
-/// edit changes nothing.
+/// Makes an edit in a text and in its layout, and answers what undoes it. `before` are the first rows of the page records. Each
+/// stanza of its window is read once. A refused edit changes nothing.
 pub(crate) fn edit_entry<S: Steps>(
     alloc: Global,
     lines: &mut Lines,
     stanzas: &mut Stanzas,
     records: &mut Records,
     layout: &mut KeptLayout,
+    before: &[usize],
     edit: Edit,
     steps: &mut S,
 ) -> Result<EditedText, EditFault>
     requires whole { IsWhole (state_of (text_of lines.old) records.old) }
     requires stanzas { stanzas.old.stanzas ≡ text_stanzas (text_of lines.old) }
     requires laid { IsLaidOf (state_of (text_of lines.old) records.old) (laid_of layout.old) }
+    requires before { before.now ≡ first_rows (state_of (text_of lines.old) records.old) }
     ensures refuses { Refuses (refusal_of (text_of lines.old) (edit_of edit)) result }
     ensures state { OnOk result (state_of (text_of lines.new) records.new ≡ edited_state (state_of (text_of lines.old) records.old) (replacement_of lines.old.lines (edit_of edit))) }
     ensures whole { OnOk result (IsWhole (state_of (text_of lines.new) records.new)) }
@@ -100,6 +103,7 @@ pub(crate) fn edit_entry<S: Steps>(
     ensures swaps { IfOk result (λ it. CanSwap (laid_of layout.new) it.layout.places (laid_of it.layout.kept)) }
     ensures layout_room { IfOk result (λ it. HasPartRoom layout.new it.layout.places it.layout.kept) }
     ensures rows { IfOk result (λ it. IsExchangeOf (state_of (text_of lines.old) records.old) (replacement_of lines.old.lines (edit_of edit)) it.rows) }
+    ensures firsts { IfOk result (λ it. it.firsts.items ≡ first_rows (state_of (text_of lines.new) records.new)) }
     ensures same { OnErr result (state_of (text_of lines.new) records.new ≡ state_of (text_of lines.old) records.old) }
     ensures same_layout { OnErr result (laid_of layout.new ≡ laid_of layout.old) }
     ensures reads { OnOk result (EditReads (state_of (text_of lines.old) records.old) (replacement_of lines.old.lines (edit_of edit)) (S.reads steps.old) (S.reads steps.new)) }
@@ -108,11 +112,10 @@ pub(crate) fn edit_entry<S: Steps>(
     ensures fills { S.fills steps.new ≡ S.fills steps.old }
 {
     let _count = lines.len();
-    let before = record_starts(alloc, lines, layout.body.keys(), &records.pages)?;
     let (displaced, swapped) = change_text(lines, stanzas, edit, records.round, steps)?;
     let _changed = lines.len();
     match relay_and_raise(
-        alloc, lines, stanzas, &displaced, &swapped, records, &before, layout,
+        alloc, lines, stanzas, &displaced, &swapped, records, before, layout,
     ) {
         Ok(
             Relaid {
@@ -120,6 +123,7 @@ pub(crate) fn edit_entry<S: Steps>(
                 moved,
                 raised,
                 rows,
+                firsts,
             },
         ) => Ok(EditedText {
             text: TextEntry {
@@ -130,6 +134,7 @@ pub(crate) fn edit_entry<S: Steps>(
             },
             layout: part,
             rows,
+            firsts,
         }),
         Err(_) => {
             restore_in_room(lines, stanzas, displaced, swapped);

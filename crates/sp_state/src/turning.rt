@@ -1,5 +1,5 @@
 //! The layout and the first rows of pages after an edit, and after it is undone or done again.
-ghost use Rattle.std.specs.Prelude.{◌≡◌, ℕ, ◌+◌, ◌-◌, ◌≤◌, List, length, map, IfErr, IfOk, IsTrue, OnErr, OnOk};
+ghost use Rattle.std.specs.Prelude.{◌≡◌, ℕ, ◌+◌, ◌-◌, ◌≤◌, List, None, length, map, IfErr, IfOk, IsTrue, OnErr, OnOk};
 ghost use Rattle.spec_pages.specs.Pages.{rows_on};
 ghost use Rattle.spec_layout.specs.Shown.{shape_of};
 ghost use Rattle.spec_state.specs.Headings.{heading_labels};
@@ -14,10 +14,11 @@ ghost use Rattle.sp_reflow.specs.Filling.{FilledAtMost};
 ghost use Rattle.sp_reflow.specs.Updates.{AreStale, CanPutBack, taken_back, taken_of, with_taken};
 ghost use Rattle.sp_relay.specs.Kept.{CanSwap, HasPartRoom, laid_of, with_part};
 ghost use Rattle.sp_made.specs.HeadingIds.{laid_labels};
-ghost use Rattle.sp_made.specs.Made.{AreStopsOf, IsLaidOf, IsNumberedOf};
+ghost use Rattle.sp_made.specs.Numbered.{AreUnmarked};
+ghost use Rattle.sp_made.specs.Made.{AreStopsOf, IsLaidOf, IsNumberedOf, first_rows};
 
 use sp_kit::Steps;
-use sp_made::{Numbered, keeps_headings, laid_stops, renumber, rows_on};
+use sp_made::{Numbered, keeps_headings, laid_firsts, laid_stops, renumber, rows_on};
 use sp_records::Records;
 use sp_reflow::{Pages, SwappedPages, UnswappedPages};
 use sp_relay::{KeptLayout, LayoutPart, UnswappedLayout};
@@ -53,12 +54,14 @@ fn put_back_in_room(pages: &mut Pages, back: SwappedPages) -> SwappedPages
     }
 }
 
-/// Fills the pages of the page window again, where `old` rows from `first` on were exchanged for `new` ones.
+/// Fills the pages of the page window again, where `old` rows from `first` on were exchanged for `new` ones; `firsts` are the first
+/// rows of page records.
 fn update_pages<S: Steps>(
     alloc: Global,
     lines: &Lines,
     records: &Records,
     layout: &KeptLayout,
+    firsts: &[usize],
     pages: &mut Pages,
     first: usize,
     old: usize,
@@ -67,6 +70,7 @@ fn update_pages<S: Steps>(
 ) -> Result<SwappedPages, AllocError>
     requires whole { IsWhole (state_of (text_of lines.now) records.now) }
     requires laid { IsLaidOf (state_of (text_of lines.now) records.now) (laid_of layout.now) }
+    requires firsts { firsts.now ≡ first_rows (state_of (text_of lines.now) records.now) }
     requires stale { (stops : List ℕ) → AreStopsOf (state_of (text_of lines.now) records.now) stops → AreStale (rows_on (records.now).paper) (record { first = first; old = old; new = new }) pages.old.starts (map shape_of (rows_in (state_of (text_of lines.now) records.now))) stops }
     ensures pages { OnOk result (pages.new.starts ≡ pages_of (state_of (text_of lines.now) records.now)) }
     ensures back { IfOk result (λ it. with_taken pages.new.starts it ≡ pages.old.starts) }
@@ -78,7 +82,7 @@ fn update_pages<S: Steps>(
     ensures reads { S.reads steps.new ≡ S.reads steps.old }
     ensures same { OnErr result (pages.new.starts ≡ pages.old.starts) }
 {
-    let stops = laid_stops(alloc, lines, records, layout)?;
+    let stops = laid_stops(alloc, layout, firsts)?;
     pages.update(
         layout.body.shapes(),
         &stops,
@@ -90,8 +94,8 @@ fn update_pages<S: Steps>(
     )
 }
 
-/// Makes page starts, labels and sheets those of a state after an edit, whose text is laid out: the pages of the page window are
-/// filled again, where `old` rows from `first` on were exchanged for `new` ones. Labels that are those of the state already may
+/// Makes page starts, labels and sheets those of a state after an edit, whose text is laid out, by the first rows of its page
+/// records: the pages of the page window are filled again, where `old` rows from `first` on were exchanged for `new` ones. Labels that are those of the state already may
 /// be kept. On an error there was no memory, and nothing is changed.
 pub(crate) fn refilled<S: Steps>(
     alloc: Global,
@@ -99,6 +103,7 @@ pub(crate) fn refilled<S: Steps>(
     stanzas: &Stanzas,
     records: &Records,
     layout: &KeptLayout,
+    firsts: &[usize],
     pages: &mut Pages,
     numbered: &mut Numbered,
     keeps_labels: bool,
@@ -110,8 +115,10 @@ pub(crate) fn refilled<S: Steps>(
     requires whole { IsWhole (state_of (text_of lines.now) records.now) }
     requires stanzas { stanzas.now.stanzas ≡ text_stanzas (text_of lines.now) }
     requires laid { IsLaidOf (state_of (text_of lines.now) records.now) (laid_of layout.now) }
+    requires firsts { firsts.now ≡ first_rows (state_of (text_of lines.now) records.now) }
     requires stale { (stops : List ℕ) → AreStopsOf (state_of (text_of lines.now) records.now) stops → AreStale (rows_on (records.now).paper) (record { first = first; old = old; new = new }) pages.old.starts (map shape_of (rows_in (state_of (text_of lines.now) records.now))) stops }
     requires labels { IsTrue keeps_labels → numbered.old.labels ≡ heading_labels lines.now.lines records.now.scenes }
+    requires sheets { (records.now).pages ≡ None → (records.now).round ≡ 0 → AreUnmarked numbered.old.sheets pages.old.starts }
     ensures pages { OnOk result (pages.new.starts ≡ pages_of (state_of (text_of lines.now) records.now)) }
     ensures back { IfOk result (λ it. with_taken pages.new.starts it ≡ pages.old.starts) }
     ensures can { IfOk result (λ it. CanPutBack pages.new.starts it) }
@@ -122,14 +129,18 @@ pub(crate) fn refilled<S: Steps>(
     ensures reads { S.reads steps.new ≡ S.reads steps.old }
     ensures same { OnErr result (pages.new.starts ≡ pages.old.starts) }
 {
-    let swapped = update_pages(alloc, lines, records, layout, pages, first, old, new, steps)?;
+    let swapped = update_pages(
+        alloc, lines, records, layout, firsts, pages, first, old, new, steps,
+    )?;
     match renumber(
         alloc,
         lines,
         stanzas,
         records,
         layout,
+        firsts,
         pages,
+        &swapped,
         keeps_labels,
         numbered,
     ) {
@@ -141,34 +152,53 @@ pub(crate) fn refilled<S: Steps>(
     }
 }
 
+/// Page starts that were put back: what stood in their place, and the first rows of page records.
+#[derive(Drop)]
+struct TurnedPages {
+    pages: SwappedPages,
+    firsts: Vec<usize>,
+}
+
 /// Makes page starts, labels and sheets those of a state after an edit was undone or done again, whose text is laid out, by the
-/// page starts that it displaced. It fills no page. Labels that are those of the state already may be kept. On an error there was
-/// no memory, and page starts, labels and sheets are as they were.
+/// page starts that it displaced. The first rows of page records are looked for first as far apart as those that are known. It
+/// fills no page. Labels that are those of the state already may be kept. On an error there was no memory, and page starts,
+/// labels and sheets are as they were.
 fn turned_pages(
     alloc: Global,
     lines: &Lines,
     stanzas: &Stanzas,
     records: &Records,
     layout: &KeptLayout,
+    known: &Option<Vec<usize>>,
     pages: &mut Pages,
     back: SwappedPages,
     numbered: &mut Numbered,
     keeps_labels: bool,
-) -> Result<SwappedPages, UnswappedPages>
+) -> Result<TurnedPages, UnswappedPages>
     requires whole { IsWhole (state_of (text_of lines.now) records.now) }
     requires stanzas { stanzas.now.stanzas ≡ text_stanzas (text_of lines.now) }
     requires laid { IsLaidOf (state_of (text_of lines.now) records.now) (laid_of layout.now) }
     requires can { CanPutBack pages.old.starts back }
     requires leads { with_taken pages.old.starts back ≡ pages_of (state_of (text_of lines.now) records.now) }
     requires labels { IsTrue keeps_labels → numbered.old.labels ≡ heading_labels lines.now.lines records.now.scenes }
+    requires sheets { (records.now).pages ≡ None → (records.now).round ≡ 0 → AreUnmarked numbered.old.sheets pages.old.starts }
     ensures pages { OnOk result (pages.new.starts ≡ pages_of (state_of (text_of lines.now) records.now)) }
-    ensures back { IfOk result (λ it. with_taken pages.new.starts it ≡ pages.old.starts) }
-    ensures can { IfOk result (λ it. CanPutBack pages.new.starts it) }
+    ensures back { IfOk result (λ it. with_taken pages.new.starts it.pages ≡ pages.old.starts) }
+    ensures can { IfOk result (λ it. CanPutBack pages.new.starts it.pages) }
+    ensures firsts { IfOk result (λ it. it.firsts.items ≡ first_rows (state_of (text_of lines.now) records.now)) }
     ensures numbered { OnOk result (IsNumberedOf (state_of (text_of lines.now) records.now) numbered.new) }
     ensures same_numbered { OnErr result (numbered.new ≡ numbered.old) }
     ensures same { OnErr result (pages.new.starts ≡ pages.old.starts) }
     ensures handed_back { IfErr result (λ error. taken_of error.back ≡ taken_of back) }
 {
+    let none: &[usize] = &[];
+    let near = match known {
+        Some(firsts) => firsts.as_slice(),
+        None => none,
+    };
+    let Ok(firsts) = laid_firsts(alloc, lines, records, layout, near) else {
+        return Err(UnswappedPages { back });
+    };
     let other = pages.put_back(back)?;
     match renumber(
         alloc,
@@ -176,11 +206,16 @@ fn turned_pages(
         stanzas,
         records,
         layout,
+        &firsts,
         pages,
+        &other,
         keeps_labels,
         numbered,
     ) {
-        Ok(()) => Ok(other),
+        Ok(()) => Ok(TurnedPages {
+            pages: other,
+            firsts,
+        }),
         Err(_) => {
             let back = put_back_in_room(pages, other);
             Err(UnswappedPages { back })
@@ -188,11 +223,12 @@ fn turned_pages(
     }
 }
 
-/// A part of a layout and page starts that were put back: what stood in their place.
+/// A part of a layout and page starts that were put back: what stood in their place, and the first rows of page records.
 #[derive(Drop)]
 pub(crate) struct Turned {
     pub layout: LayoutPart,
     pub pages: SwappedPages,
+    pub firsts: Vec<usize>,
 }
 
 /// There was no memory; what was to be put back is handed back.
@@ -211,6 +247,7 @@ pub(crate) fn turn_made(
     stanzas: &Stanzas,
     records: &Records,
     layout: &mut KeptLayout,
+    known: &Option<Vec<usize>>,
     pages: &mut Pages,
     part: LayoutPart,
     back: SwappedPages,
@@ -223,12 +260,14 @@ pub(crate) fn turn_made(
     requires can { CanPutBack pages.old.starts back }
     requires leads { with_taken pages.old.starts back ≡ pages_of (state_of (text_of lines.now) records.now) }
     requires labels { numbered.old.labels ≡ laid_labels (laid_of layout.old) (records.now).scenes }
+    requires sheets { (records.now).pages ≡ None → (records.now).round ≡ 0 → AreUnmarked numbered.old.sheets pages.old.starts }
     ensures laid { OnOk result (IsLaidOf (state_of (text_of lines.now) records.now) (laid_of layout.new)) }
     ensures part { IfOk result (λ it. with_part (laid_of layout.new) it.layout.places (laid_of it.layout.kept) ≡ laid_of layout.old) }
     ensures swaps { IfOk result (λ it. CanSwap (laid_of layout.new) it.layout.places (laid_of it.layout.kept)) }
     ensures pages { OnOk result (pages.new.starts ≡ pages_of (state_of (text_of lines.now) records.now)) }
     ensures back { IfOk result (λ it. with_taken pages.new.starts it.pages ≡ pages.old.starts) }
     ensures can { IfOk result (λ it. CanPutBack pages.new.starts it.pages) }
+    ensures firsts { IfOk result (λ it. it.firsts.items ≡ first_rows (state_of (text_of lines.now) records.now)) }
     ensures numbered { OnOk result (IsNumberedOf (state_of (text_of lines.now) records.now) numbered.new) }
     ensures same_numbered { OnErr result (numbered.new ≡ numbered.old) }
     ensures same { OnErr result (pages.new.starts ≡ pages.old.starts) }
@@ -246,14 +285,21 @@ pub(crate) fn turn_made(
                 stanzas,
                 records,
                 layout,
+                known,
                 pages,
                 back,
                 numbered,
                 keeps_labels,
             ) {
-                Ok(swapped) => Ok(Turned {
+                Ok(
+                    TurnedPages {
+                        pages: swapped,
+                        firsts,
+                    },
+                ) => Ok(Turned {
                     layout: other,
                     pages: swapped,
+                    firsts,
                 }),
                 Err(UnswappedPages { back }) => {
                     let part = swap_in_room(layout, other);

@@ -1,35 +1,15 @@
-use Rattle.std.proofs.Common.{◌≡◌, List, ◌++◌, ap, ap₂, sym, ◌∙◌, ℕ}
-use Rattle.std.specs.Prelude.{option_map}
-use Rattle.spec_labels.specs.declared.RowKey.{RowKey}
-use Rattle.spec_records.specs.Kept.{RecordsOf}
-use Rattle.spec_state.specs.State.{State}
-use Rattle.spec_state.specs.Keeping.{state_of}
-use Rattle.spec_state.specs.StateSheets.{layout_in, keys_in, rows_in, locked_starts}
-use Rattle.spec_state.proofs.StateKeys.{state-row_keys}
-use Rattle.sp_text.specs.Gap.{text_of}
+use Rattle.std.proofs.Common.{◌≡◌, ℕ, List, ◌++◌, ap, ap₂, sym, ◌∙◌}
+use Rattle.spec_state.specs.StateSheets.{layout_in, rows_in, locked_starts}
 use Rattle.sp_layout.specs.LaidOut.{LayoutOf}
 use Rattle.sp_relay.specs.Kept.{laid_of}
-use Rattle.sp_made.specs.Made.{key_starts}
-use Rattle.sp_made.proofs.MadeLaws.{anchored, locked-keys}
+use Rattle.sp_made.proofs.MadeLaws.{locked-keys}
 use Rattle.sp_made.proofs.StopsMade.{stops-made}
 use Rattle.sp_made.proofs.made.laid_stops.Goals as goal
 
-pub record_starts-requires : goal.record_starts-requires
-record_starts-requires c =
-    let state : State = state_of (text_of c.args.lines.now) c.args.records.now in
-    let laid = ap laid_of c.layout.view_is ∙ c.requires.laid in
-    let keys : c.keys.result.now ≡ keys_in state = c.keys.ensures.keys ∙ ap (λ (l : LayoutOf). l.body.keys) laid ∙ sym (state-row_keys state) in
-    anchored (λ those. those.items) state c.keys.result.now c.records.inside.pages c.requires.whole keys (sym (ap (λ (r : RecordsOf). r.pages) c.records.view_is))
-
 pub returns : goal.returns
-returns c =
-    let state : State = state_of (text_of c.args.lines.now) c.args.records.now in
-    let laid = ap laid_of c.layout.view_is ∙ c.requires.laid in
-    let keys : c.keys.result.now ≡ keys_in state = c.keys.ensures.keys ∙ ap (λ (l : LayoutOf). l.body.keys) laid ∙ sym (state-row_keys state) in
-    let records = option_map (λ those. those.items) c.records.inside.pages in
-    let firsts : c.deref-2.result.now ≡ locked_starts state.lines (rows_in state) state.pages =
-    c.deref-2.ensures.value ∙ c.in_ok-firsts.ensures ∙ ap (λ (ks : List RowKey). key_starts state.lines ks records) keys
-    ∙ ap (key_starts state.lines (keys_in state)) (ap (λ (r : RecordsOf). r.pages) c.records.view_is) ∙ sym (locked-keys state state.pages) in
+returns c state whole is first =
+    let laid = ap laid_of c.layout.view_is ∙ is in
+    let firsts : c.args.firsts.now ≡ locked_starts state.lines (rows_in state) state.pages = first ∙ sym (locked-keys state state.pages) in
     let breaks : c.deref.result.now ≡ (layout_in state).breaks = c.deref.ensures.value ∙ ap (λ (l : LayoutOf). l.breaks) laid in
-    stops-made (λ stops. stops.items) state c.merged_stops.result (c.deref.result.now ++ c.deref-2.result.now) c.requires.whole
+    stops-made (λ stops. stops.items) state c.merged_stops.result (c.deref.result.now ++ c.args.firsts.now) whole
     (ap₂ (λ (a b : List ℕ). a ++ b) breaks firsts) c.merged_stops.ensures.same c.merged_stops.ensures.order

@@ -1,31 +1,16 @@
-use Rattle.std.proofs.Common.{◌≡◌, List, ap, sym, ◌∙◌}
-use Rattle.std.specs.Prelude.{option_map}
-use Rattle.spec_labels.specs.declared.RowKey.{RowKey}
-use Rattle.spec_records.specs.Kept.{RecordsOf}
+use Rattle.std.proofs.Common.{ap, sym, ◌∙◌}
 use Rattle.spec_state.specs.State.{State}
 use Rattle.spec_state.specs.Keeping.{state_of}
-use Rattle.spec_state.specs.StateSheets.{keys_in, locked_starts, rows_in}
-use Rattle.spec_state.proofs.StateKeys.{state-row_keys}
+use Rattle.spec_state.specs.StateSheets.{locked_starts, rows_in}
 use Rattle.sp_text.specs.Gap.{text_of}
-use Rattle.sp_layout.specs.LaidOut.{LayoutOf}
-use Rattle.sp_relay.specs.Kept.{laid_of}
-use Rattle.sp_made.specs.Made.{MadeOf, key_starts}
-use Rattle.sp_made.proofs.MadeLaws.{anchored, locked-keys, shows-same}
+use Rattle.sp_made.specs.Made.{MadeOf, first_rows}
+use Rattle.sp_made.proofs.MadeLaws.{locked-keys, shows-same}
 use Rattle.sp_made.proofs.made.made_starts.Goals as goal
 
-pub record_starts-requires : goal.record_starts-requires
-record_starts-requires c =
-    let state : State = state_of (text_of c.args.lines.now) c.args.records.now in
-    let laid = ap laid_of c.layout.view_is ∙ ap (λ (m : MadeOf). m.layout) c.made.view_is ∙ c.requires.made.layout in
-    let keys : c.keys.result.now ≡ keys_in state = c.keys.ensures.keys ∙ ap (λ (l : LayoutOf). l.body.keys) laid ∙ sym (state-row_keys state) in
-    anchored (λ those. those.items) state c.keys.result.now c.records.inside.pages c.requires.whole keys (sym (ap (λ (r : RecordsOf). r.pages) c.records.view_is))
+pub laid_firsts-requires-clause-laid : goal.laid_firsts-requires-clause-laid
+laid_firsts-requires-clause-laid c = ap (λ (m : MadeOf). m.layout) c.made.view_is ∙ c.requires.made.layout
 
 pub returns : goal.returns
 returns c =
     let state : State = state_of (text_of c.args.lines.now) c.args.records.now in
-    let laid = ap laid_of c.layout.view_is ∙ ap (λ (m : MadeOf). m.layout) c.made.view_is ∙ c.requires.made.layout in
-    let keys : c.keys.result.now ≡ keys_in state = c.keys.ensures.keys ∙ ap (λ (l : LayoutOf). l.body.keys) laid ∙ sym (state-row_keys state) in
-    let records = option_map (λ those. those.items) c.records.inside.pages in
-    shows-same (λ starts. starts.items) c.record_starts.result (key_starts state.lines c.keys.result.now records) (locked_starts state.lines (rows_in state) state.pages)
-    (ap (λ (ks : List RowKey). key_starts state.lines ks records) keys ∙ ap (key_starts state.lines (keys_in state)) (ap (λ (r : RecordsOf). r.pages) c.records.view_is) ∙ sym (locked-keys state state.pages))
-    c.record_starts.ensures
+    shows-same (λ starts. starts.items) c.laid_firsts.result (first_rows state) (locked_starts state.lines (rows_in state) state.pages) (sym (locked-keys state state.pages)) c.laid_firsts.ensures

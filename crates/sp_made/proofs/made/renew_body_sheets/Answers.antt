@@ -1,25 +1,16 @@
-use Rattle.std.proofs.Common.{◌≡◌, List, ap, sym, ◌∙◌}
+use Rattle.std.proofs.Common.{◌≡◌, ap, sym, ◌∙◌}
 use Rattle.std.specs.Prelude.{option_map}
-use Rattle.spec_labels.specs.declared.RowKey.{RowKey}
 use Rattle.spec_records.specs.Kept.{RecordsOf}
 use Rattle.spec_state.specs.State.{State}
 use Rattle.spec_state.specs.Keeping.{state_of}
 use Rattle.spec_state.specs.StateSheets.{body_sheets, layout_in, keys_in}
-use Rattle.spec_state.proofs.StateKeys.{state-row_keys}
 use Rattle.sp_text.specs.Gap.{text_of}
 use Rattle.sp_layout.specs.LaidOut.{LayoutOf}
 use Rattle.sp_relay.specs.Kept.{laid_of}
 use Rattle.sp_made.specs.Made.{key_starts, marked_or_locked}
-use Rattle.sp_made.proofs.MadeLaws.{asked-of, done-same, anchored, pages-are, sheets-made}
+use Rattle.sp_made.proofs.MadeLaws.{asked-of, done-same, pages-are, sheets-made}
 use Rattle.sp_made.proofs.MarkedLaws.{rows-unmarked}
 use Rattle.sp_made.proofs.made.renew_body_sheets.Goals as goal
-
-pub record_starts-requires : goal.record_starts-requires
-record_starts-requires c =
-    let state : State = state_of (text_of c.args.lines.now) c.args.records.now in
-    let laid = ap laid_of c.layout.view_is ∙ c.requires.laid in
-    let keys : c.keys.result.now ≡ keys_in state = c.keys.ensures.keys ∙ ap (λ (l : LayoutOf). l.body.keys) laid ∙ sym (state-row_keys state) in
-    anchored (λ those. those.items) state c.keys.result.now c.records.inside.pages c.requires.whole keys (sym (ap (λ (r : RecordsOf). r.pages) c.records.view_is))
 
 pub renew_sheets_of_pages-requires-clause-asked : goal.renew_sheets_of_pages-requires-clause-asked
 renew_sheets_of_pages-requires-clause-asked c =
@@ -28,12 +19,11 @@ renew_sheets_of_pages-requires-clause-asked c =
     let laid = ap laid_of c.layout.view_is ∙ c.requires.laid in
     let elements : body ≡ (layout_in state).body = ap (λ (l : LayoutOf). l.body.elements) laid in
     let breaks = ap (λ (l : LayoutOf). l.breaks) laid in
-    let keys : c.keys.result.now ≡ keys_in state = c.keys.ensures.keys ∙ ap (λ (l : LayoutOf). l.body.keys) laid ∙ sym (state-row_keys state) in
     let records = option_map (λ those. those.items) c.records.inside.pages in
     let kept = sym (ap (λ (r : RecordsOf). r.pages) c.records.view_is) in
-    let firsts : c.deref.result.now ≡ key_starts state.lines (keys_in state) records = c.deref.ensures.value ∙ c.in_ok-firsts.ensures ∙ ap (λ (ks : List RowKey). key_starts state.lines ks records) keys in
-    asked-of (λ those. those.items) state c.records.inside.pages body c.layout.inside.breaks.items c.deref.result.now c.args.pages.now c.requires.whole kept elements breaks firsts
-    (c.requires.pages ∙ pages-are state body records c.layout.inside.breaks.items c.deref.result.now elements kept breaks firsts)
+    let firsts : c.args.firsts.now ≡ key_starts state.lines (keys_in state) records = c.requires.firsts ∙ ap (key_starts state.lines (keys_in state)) kept in
+    asked-of (λ those. those.items) state c.records.inside.pages body c.layout.inside.breaks.items c.args.firsts.now c.args.pages.now c.requires.whole kept elements breaks firsts
+    (c.requires.pages ∙ pages-are state body records c.layout.inside.breaks.items c.args.firsts.now elements kept breaks firsts)
 
 pub renew_sheets_of_pages-requires-clause-unmarked : goal.renew_sheets_of_pages-requires-clause-unmarked
 renew_sheets_of_pages-requires-clause-unmarked c none =
@@ -48,11 +38,10 @@ returns-clause-made c =
     let laid = ap laid_of c.layout.view_is ∙ c.requires.laid in
     let elements : body ≡ (layout_in state).body = ap (λ (l : LayoutOf). l.body.elements) laid in
     let breaks = ap (λ (l : LayoutOf). l.breaks) laid in
-    let keys : c.keys.result.now ≡ keys_in state = c.keys.ensures.keys ∙ ap (λ (l : LayoutOf). l.body.keys) laid ∙ sym (state-row_keys state) in
     let records = option_map (λ those. those.items) c.records.inside.pages in
     let kept = sym (ap (λ (r : RecordsOf). r.pages) c.records.view_is) in
-    let firsts : c.deref.result.now ≡ key_starts state.lines (keys_in state) records = c.deref.ensures.value ∙ c.in_ok-firsts.ensures ∙ ap (λ (ks : List RowKey). key_starts state.lines ks records) keys in
-    let same : marked_or_locked body records c.deref.result.now c.args.pages.now ≡ body_sheets state =
-    sheets-made state body records c.layout.inside.breaks.items c.deref.result.now c.args.pages.now elements kept breaks firsts
-    (c.requires.pages ∙ pages-are state body records c.layout.inside.breaks.items c.deref.result.now elements kept breaks firsts) in
-    done-same c.renew_sheets_of_pages.result c.renew_sheets_of_pages.new.sheets.items (marked_or_locked body records c.deref.result.now c.args.pages.now) (body_sheets state) same c.renew_sheets_of_pages.ensures.made
+    let firsts : c.args.firsts.now ≡ key_starts state.lines (keys_in state) records = c.requires.firsts ∙ ap (key_starts state.lines (keys_in state)) kept in
+    let same : marked_or_locked body records c.args.firsts.now c.args.pages.now ≡ body_sheets state =
+    sheets-made state body records c.layout.inside.breaks.items c.args.firsts.now c.args.pages.now elements kept breaks firsts
+    (c.requires.pages ∙ pages-are state body records c.layout.inside.breaks.items c.args.firsts.now elements kept breaks firsts) in
+    done-same c.renew_sheets_of_pages.result c.renew_sheets_of_pages.new.sheets.items (marked_or_locked body records c.args.firsts.now c.args.pages.now) (body_sheets state) same c.renew_sheets_of_pages.ensures.made

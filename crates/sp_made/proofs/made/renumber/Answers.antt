@@ -1,5 +1,5 @@
-use Rattle.std.proofs.Common.{◌≡◌, List, [], None, ap, sym, ◌∙◌}
-use Rattle.std.specs.Prelude.{option_map}
+use Rattle.std.proofs.Common.{◌≡◌, ℕ, false, List, [], None, ap, sym, ◌∙◌, subst}
+use Rattle.std.specs.Prelude.{All, option_map}
 use Rattle.spec_pages.specs.declared.Paper.{Paper}
 use Rattle.spec_pages.specs.declared.Shape.{Shape}
 use Rattle.spec_pages.specs.Pages.{page_starts, rows_on}
@@ -11,13 +11,40 @@ use Rattle.spec_state.specs.Headings.{heading_labels}
 use Rattle.spec_state.specs.Keeping.{state_of}
 use Rattle.spec_state.specs.StateSheets.{body_sheets, layout_in}
 use Rattle.sp_text.specs.Gap.{text_of}
-use Rattle.sp_layout.specs.Bodies.{shapes_in}
+use Rattle.sp_layout.specs.Bodies.{marks_in, shapes_in}
 use Rattle.sp_layout.specs.LaidOut.{LayoutOf}
-use Rattle.sp_relay.specs.Kept.{laid_of}
+use Rattle.sp_relay.specs.Kept.{KeptOf, laid_of}
 use Rattle.sp_made.specs.declared.made.Numbered.TheInside.{Inside}
 use Rattle.sp_made.specs.Made.{NumberedOf}
+use Rattle.sp_made.specs.Numbered.{marked_sheets, AreSameOutside}
+use Rattle.sp_made.proofs.MarkedLaws.{rows-unmarked}
+use Rattle.sp_made.proofs.StaleSheets.{stale-same}
 use Rattle.sp_made.proofs.made.renumber.Goals as goal
-use Rattle.sp_made.proofs.made.renumber.Goals.{then-keeps_labels+in_ok-renew_body_sheets, else-keeps_labels+in_ok-labels+in_ok-renew_body_sheets-2+in-Some-1, else-keeps_labels+in_ok-labels+in_ok-renew_body_sheets-2+in-None-1}
+use Rattle.sp_made.proofs.made.renumber.Goals.{After-stale_places-stale, then-keeps_labels+in_ok-renew_body_sheets, else-keeps_labels+in_ok-labels+in_ok-renew_body_sheets-2+in-Some-1, else-keeps_labels+in_ok-labels+in_ok-renew_body_sheets-2+in-None-1}
+
+pub stale_places-stale-requires : goal.stale_places-stale-requires
+stale_places-stale-requires c = record {
+  unmarked = λ none. (
+      let state : State = state_of (text_of c.args.lines.now) c.args.records.now in
+      let laid = ap laid_of c.layout.view_is ∙ c.requires.laid in
+      let body = c.layout.inside.body.elements in
+      let round : (c.args.records.now).round ≡ 0 = rw none at c.renews_all.ensures.round in
+      subst (All (λ (mark : ℕ). mark ≡ 0)) (sym c.marks-marks.ensures) (rows-unmarked state body c.requires.whole (ap (λ (l : LayoutOf). l.body.elements) laid) round));
+}
+
+outside : (c : After-stale_places-stale)
+    → AreSameOutside c.numbered.inside.sheets.items (marked_sheets (marks_in c.args.layout.now.body.elements) 1 c.starts-starts.result.now) c.stale_places-stale.result.start c.stale_places-stale.result.end
+outside c =
+    stale-same c.deref.result.now c.numbered.inside.sheets.items (c.args.numbered.now).sheets c.marks-marks.result.now (marks_in c.args.layout.now.body.elements) c.starts-starts.result.now (c.args.pages.now).starts
+    c.args.swapped.now (c.renews_all.result ≡ false) c.stale_places-stale.result.start c.stale_places-stale.result.end
+    c.deref.ensures.value (ap (λ (n : NumberedOf). n.sheets) c.numbered.view_is) (c.marks-marks.ensures ∙ ap (λ (k : KeptOf). marks_in k.body.elements) c.layout.view_is) c.starts-starts.ensures
+    c.requires.can (λ none. c.requires.sheets (rw none at c.renews_all.ensures.locked) (rw none at c.renews_all.ensures.round)) c.stale_places-stale.ensures
+
+pub renew_body_sheets-requires-clause-stale : goal.renew_body_sheets-requires-clause-stale
+renew_body_sheets-requires-clause-stale c = outside (goal.at.renew_body_sheets-requires-clause-stale c).After-stale_places-stale
+
+pub renew_body_sheets-requires-else-keeps_labels-clause-stale : goal.renew_body_sheets-requires-else-keeps_labels-clause-stale
+renew_body_sheets-requires-else-keeps_labels-clause-stale c = outside (goal.at.renew_body_sheets-requires-else-keeps_labels-clause-stale c).After-stale_places-stale
 
 pub returns-clause-numbered : goal.returns-clause-numbered
 returns-clause-numbered c =

@@ -11,10 +11,10 @@ use Rattle.sp_text.specs.Gap.{text_of}
 use Rattle.sp_layout.specs.Bodies.{KeyedElements}
 use Rattle.sp_layout.specs.LaidOut.{LayoutOf}
 use Rattle.sp_relay.specs.Kept.{laid_of}
-use Rattle.sp_made.specs.Made.{IsLaidOf}
+use Rattle.sp_made.specs.Made.{IsLaidOf, first_rows}
 use Rattle.sp_state.specs.Raised.{state_before}
 use Rattle.sp_state.specs.Relaid.{body_before}
-use Rattle.sp_state.proofs.CarriedLaws.{before-segments, raised-fit, raised-here, whole-few, whole-laid}
+use Rattle.sp_state.proofs.CarriedLaws.{before-segments, raised-firsts, raised-fit, raised-here, whole-few, whole-laid}
 use Rattle.sp_state.proofs.carrying.carry_and_raise.Goals as goal
 
 pub raises_among-requires-clause-laid : goal.raises_among-requires-clause-laid
@@ -44,10 +44,21 @@ put_back_pages-requires c =
     let text = text_of c.args.lines.now in
     let old = restored text (displaced_of c.args.displaced.now) in
     let body : KeyedElements = body_before (laid_of c.args.layout.now) c.args.gone.now in
-    raised-fit (segment_rows (shown_rows old.lines None body.elements) c.args.before.now) (state_of text c.carry_pages.new.records) c.carry_pages.new.records c.in-Ok.raised.items (c.in-Ok.ensures None)
+    raised-fit (segment_rows (shown_rows old.lines None body.elements) c.args.before.now) (state_of text c.carry_pages.new.records) c.carry_pages.new.records c.in-Ok.field-0.raised.items (c.in-Ok.ensures.raised None)
 
 pub returns-in-Ok-clause-records : goal.returns-in-Ok-clause-records
 returns-in-Ok-clause-records c =
     let body : KeyedElements = body_before (laid_of c.args.layout.now) c.args.gone.now in
-    raised-here (text_of c.args.lines.now) (displaced_of c.args.displaced.now) c.args.records.now c.carry_pages.new.records c.put_back_pages.new.records body.elements c.args.before.now c.in-Ok.raised.items
-    c.in_ok-moved.ensures.records (ap (λ (l : LayoutOf). l.body.elements) c.requires.was) c.requires.before c.in-Ok.ensures c.put_back_pages.ensures.records
+    raised-here (text_of c.args.lines.now) (displaced_of c.args.displaced.now) c.args.records.now c.carry_pages.new.records c.put_back_pages.new.records body.elements c.args.before.now c.in-Ok.field-0.raised.items
+    c.in_ok-moved.ensures.records (ap (λ (l : LayoutOf). l.body.elements) c.requires.was) c.requires.before c.in-Ok.ensures.raised c.put_back_pages.ensures.records
+
+pub returns-in-Ok-clause-firsts : goal.returns-in-Ok-clause-firsts
+returns-in-Ok-clause-firsts c =
+    let text = text_of c.args.lines.now in
+    let back = displaced_of c.args.displaced.now in
+    let old = c.args.records.now in
+    let body : KeyedElements = body_before (laid_of c.args.layout.now) c.args.gone.now in
+    let here = raised-here text back old c.carry_pages.new.records c.put_back_pages.new.records body.elements c.args.before.now c.in-Ok.field-0.raised.items
+    c.in_ok-moved.ensures.records (ap (λ (l : LayoutOf). l.body.elements) c.requires.was) c.requires.before c.in-Ok.ensures.raised c.put_back_pages.ensures.records in
+    c.in-Ok.ensures.firsts ∙ ap (λ (r : RecordsOf). first_rows (state_of text r)) c.in_ok-moved.ensures.records ∙ sym (raised-firsts text back old)
+    ∙ ap (λ (r : RecordsOf). first_rows (state_of text r)) (sym here)

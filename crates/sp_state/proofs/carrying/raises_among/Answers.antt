@@ -16,19 +16,11 @@ use Rattle.sp_compare.specs.BareRows.{Both}
 use Rattle.sp_layout.specs.Bodies.{KeyedElements, row_count}
 use Rattle.sp_layout.specs.LaidOut.{LayoutOf}
 use Rattle.sp_relay.specs.Kept.{laid_of}
+use Rattle.sp_made.specs.Made.{key_starts}
 use Rattle.sp_state.specs.Raised.{AreSegments}
 use Rattle.sp_state.specs.Relaid.{body_before}
 use Rattle.sp_state.proofs.CarriedLaws.{own-segments, raises-made, some-pages, whole-laid}
 use Rattle.sp_state.proofs.carrying.raises_among.Goals as goal
-
-pub starts-requires : goal.starts-requires
-starts-requires c =
-    let state : State = state_of (text_of c.args.lines.now) c.args.records.now in
-    let laid = ap laid_of c.layout.view_is ∙ c.requires.laid in
-    let keys : c.keys.result.now ≡ keys_in state = c.keys.ensures.keys ∙ ap (λ (l : LayoutOf). l.body.keys) laid ∙ sym (state-row_keys state) in
-    let pages = some-pages (λ those. those.items) c.records.inside.pages c.in-Some.pages c.args.records.now.pages (ap (λ (r : RecordsOf). r.pages) c.records.view_is) c.in-Some.is in
-    subst (λ (rs : List PageRecordOf). AreAnchored state.lines c.keys.result.now rs) (sym c.deref.ensures.value)
-    (subst (λ (ks : List RowKey). AreAnchored state.lines ks c.in-Some.pages.items) (sym keys) (state-AreAnchored state c.in-Some.pages.items c.requires.whole pages))
 
 pub both_texts-texts-requires-clause-news : goal.both_texts-texts-requires-clause-news
 both_texts-texts-requires-clause-news c =
@@ -40,37 +32,31 @@ pub raises-requires-clause-before : goal.raises-requires-clause-before
 raises-requires-clause-before c =
     let body : KeyedElements = body_before (laid_of c.args.layout.now) c.args.gone.now in
     let pages = some-pages (λ those. those.items) c.records.inside.pages c.in-Some.pages c.args.records.now.pages (ap (λ (r : RecordsOf). r.pages) c.records.view_is) c.in-Some.is in
-    subst (λ (rs : List PageRecordOf). AreSegments (row_count c.both_texts-texts.result.olds) (length rs) c.args.before.now) (sym c.deref-3.ensures.value)
+    subst (λ (rs : List PageRecordOf). AreSegments (row_count c.both_texts-texts.result.olds) (length rs) c.args.before.now) (sym c.deref-2.ensures.value)
     (subst (λ (es : List ElementOf). AreSegments (row_count es) (length c.in-Some.pages.items) c.args.before.now) (sym (ap (λ (b : Both). b.olds) c.both_texts-texts.ensures))
     (subst (λ (rs : Option (List PageRecordOf)). IfSome rs (λ those. AreSegments (row_count body.elements) (length those) c.args.before.now)) pages c.requires.before))
 
 pub raises-requires-clause-after : goal.raises-requires-clause-after
 raises-requires-clause-after c =
     let state : State = state_of (text_of c.args.lines.now) c.args.records.now in
-    let laid = ap laid_of c.layout.view_is ∙ c.requires.laid in
-    let keys : c.keys.result.now ≡ keys_in state = c.keys.ensures.keys ∙ ap (λ (l : LayoutOf). l.body.keys) laid ∙ sym (state-row_keys state) in
     let pages = some-pages (λ those. those.items) c.records.inside.pages c.in-Some.pages c.args.records.now.pages (ap (λ (r : RecordsOf). r.pages) c.records.view_is) c.in-Some.is in
     let news = c.both_texts-texts.result.news in
-    subst (λ (rs : List PageRecordOf). AreSegments (row_count news) (length rs) c.deref-2.result.now) (sym c.deref-3.ensures.value)
-    (own-segments state c.in-Some.pages.items news c.deref-2.result.now c.requires.whole pages
+    subst (λ (rs : List PageRecordOf). AreSegments (row_count news) (length rs) c.deref.result.now) (sym c.deref-2.ensures.value)
+    (own-segments state c.in-Some.pages.items news c.deref.result.now c.requires.whole pages
     (ap (λ (b : Both). b.news) c.both_texts-texts.ensures ∙ ap (λ (l : LayoutOf). l.body.elements) c.requires.laid)
-    (c.deref-2.ensures.value ∙ c.in_ok-after.ensures.starts ∙ ap (λ (ks : List RowKey). record_starts state.lines ks c.deref.result.now) keys
-    ∙ ap (record_starts state.lines (keys_in state)) c.deref.ensures.value))
+    (c.deref.ensures.value ∙ c.in_ok-firsts.ensures ∙ ap (key_starts state.lines (keys_in state)) pages))
 
-pub returns : goal.returns
-returns c =
+pub returns-clause-raised : goal.returns-clause-raised
+returns-clause-raised c =
     let text = text_of c.args.lines.now in
     let state : State = state_of text c.args.records.now in
     let layout : LayoutOf = laid_of c.args.layout.now in
-    let laid = ap laid_of c.layout.view_is ∙ c.requires.laid in
-    let keys : c.keys.result.now ≡ keys_in state = c.keys.ensures.keys ∙ ap (λ (l : LayoutOf). l.body.keys) laid ∙ sym (state-row_keys state) in
     let pages = some-pages (λ those. those.items) c.records.inside.pages c.in-Some.pages c.args.records.now.pages (ap (λ (r : RecordsOf). r.pages) c.records.view_is) c.in-Some.is in
-    raises-made (λ moved. moved.items) c.raises.result state (restored text (displaced_of c.args.displaced.now)).lines c.both_texts-texts.result (body_before layout c.args.gone.now).elements layout.body.elements
-    c.args.before.now c.deref-2.result.now c.records.inside.round c.deref-3.result.now
+    raises-made c.in_ok-raised.raised.items state (restored text (displaced_of c.args.displaced.now)).lines c.both_texts-texts.result (body_before layout c.args.gone.now).elements layout.body.elements
+    c.args.before.now c.deref.result.now c.records.inside.round c.deref-2.result.now
     c.both_texts-texts.ensures
     (ap (λ (l : LayoutOf). l.body.elements) c.requires.laid)
-    (c.deref-2.ensures.value ∙ c.in_ok-after.ensures.starts ∙ ap (λ (ks : List RowKey). record_starts state.lines ks c.deref.result.now) keys
-    ∙ ap (record_starts state.lines (keys_in state)) (c.deref.ensures.value ∙ sym c.deref-3.ensures.value))
+    (c.deref.ensures.value ∙ c.in_ok-firsts.ensures ∙ ap (key_starts state.lines (keys_in state)) (pages ∙ ap (λ (rs : List PageRecordOf). Some rs) (sym c.deref-2.ensures.value)))
     (ap (λ (r : RecordsOf). r.round) c.records.view_is)
-    (pages ∙ ap (λ (rs : List PageRecordOf). Some rs) (sym c.deref-3.ensures.value))
-    c.raises.ensures
+    (pages ∙ ap (λ (rs : List PageRecordOf). Some rs) (sym c.deref-2.ensures.value))
+    c.in_ok-raised.ensures

@@ -1,4 +1,5 @@
-use Rattle.std.proofs.Common.{◌≡◌, ℕ, List, ap, sym, subst, ◌∙◌}
+use Rattle.std.proofs.Common.{◌≡◌, ℕ, List, Option, ap, sym, subst, ◌∙◌}
+use Rattle.spec_labels.specs.PageRecords.{PageRecordOf}
 use Rattle.spec_text.specs.Edits.{Replacement, replacement_of}
 use Rattle.spec_text.specs.Ranges.{range_of}
 use Rattle.spec_state.specs.State.{State}
@@ -16,6 +17,7 @@ use Rattle.sp_state.specs.Fills.{EditFills, EditFillsAtMost, IsExchangeOf}
 use Rattle.sp_state.proofs.FillLaws.{fills-edited, fills-within, none-filled}
 use Rattle.sp_state.proofs.LabelLaws.{labels-after}
 use Rattle.sp_state.proofs.RefilledLaws.{can-edit, stale-edited}
+use Rattle.sp_state.proofs.SheetLaws.{edited-unlocked, sheets-before}
 use Rattle.sp_state.proofs.editing.edit_made.Goals as goal
 
 pub returns-in_err-text-clause-fills_at_most : goal.returns-in_err-text-clause-fills_at_most
@@ -53,8 +55,8 @@ returns-in-Ok-clause-fills_at_most g c =
     subst (λ (n : ℕ). EditFillsAtMost old it n (g.S.Steps.fills c.refilled.new.steps)) c.edit_entry.ensures.fills
     (fills-within old new it edit c.args.pages.now.starts (g.S.Steps.fills c.edit_entry.new.steps) (g.S.Steps.fills c.refilled.new.steps) c.in_ok-text.ensures.state c.requires.pages found c.refilled.ensures.at_most)
 
-pub returns-in-Err-clause-fills_at_most : goal.returns-in-Err-clause-fills_at_most
-returns-in-Err-clause-fills_at_most g c =
+pub returns-clause-fills_at_most : goal.returns-clause-fills_at_most
+returns-clause-fills_at_most g c =
     let old : State = state_of (text_of c.args.lines.now) c.args.records.now in
     let new : State = state_of (text_of c.edit_entry.new.lines) c.edit_entry.new.records in
     let it : Replacement = replacement_of c.args.lines.now.lines (edit_of c.args.edit) in
@@ -97,9 +99,18 @@ refilled-requires-clause-labels g c keeps =
 pub returns-in_err-text-clause-numbered : goal.returns-in_err-text-clause-numbered
 returns-in_err-text-clause-numbered g c = subst (λ (s : State). IsNumberedOf s c.args.numbered.now) (sym c.in_err-text.ensures.same) c.requires.numbered
 
-pub returns-in-Err-clause-numbered : goal.returns-in-Err-clause-numbered
-returns-in-Err-clause-numbered g c =
+pub returns-clause-numbered : goal.returns-clause-numbered
+returns-clause-numbered g c =
     let old : State = state_of (text_of c.args.lines.now) c.args.records.now in
     let now : State = state_of (text_of c.undo_in_room-text.new.lines) c.undo_in_room-text.new.records in
     let same : now ≡ old = cc (c.undo_in_room-text.ensures.state, c.in_ok-text.ensures.back.back) in
     subst (IsNumberedOf now) (sym c.in-Err.ensures.same_numbered) (subst (λ (s : State). IsNumberedOf s c.args.numbered.now) (sym same) c.requires.numbered)
+
+pub refilled-requires-clause-sheets : goal.refilled-requires-clause-sheets
+refilled-requires-clause-sheets g c none first =
+    let old : State = state_of (text_of c.args.lines.now) c.args.records.now in
+    let it : Replacement = replacement_of c.args.lines.now.lines (edit_of c.args.edit) in
+    let led = c.in_ok-text.ensures.state in
+    sheets-before old c.args.numbered.now.sheets c.args.pages.now.starts c.requires.whole
+    (edited-unlocked old it (sym (ap (λ (s : State). s.pages) led) ∙ none)) (sym (ap (λ (s : State). s.round) led) ∙ first)
+    c.requires.numbered.sheets c.requires.pages

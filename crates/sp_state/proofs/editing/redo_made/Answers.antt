@@ -1,4 +1,4 @@
-use Rattle.std.proofs.Common.{◌≡◌, ap, sym, subst}
+use Rattle.std.proofs.Common.{◌≡◌, ap, sym, subst, ◌∙◌}
 use Rattle.spec_state.specs.State.{State}
 use Rattle.spec_state.specs.Keeping.{state_of}
 use Rattle.sp_text.specs.Gap.{text_of}
@@ -8,6 +8,7 @@ use Rattle.sp_state.specs.TextEntries.{IsSameTextEntry, IsTextUndone}
 use Rattle.sp_state.specs.Entries.{EntryState, CanRedo}
 use Rattle.sp_state.proofs.EntryLaws.{redo-again}
 use Rattle.sp_state.proofs.LabelLaws.{labels-were}
+use Rattle.sp_state.proofs.SheetLaws.{none-mapped, sheets-before}
 use Rattle.sp_state.proofs.TextEntryLaws.{redone-undone}
 use Rattle.sp_state.proofs.editing.redo_made.Goals as goal
 
@@ -46,3 +47,11 @@ returns-in-Err-turn_made-clause-numbered c =
 
 pub returns-in-Err-clause-numbered : goal.returns-in-Err-clause-numbered
 returns-in-Err-clause-numbered c = subst (λ (s : State). IsNumberedOf s c.args.numbered.now) (sym c.in-Err.ensures.same) c.requires.numbered
+
+pub turn_made-requires-clause-sheets : goal.turn_made-requires-clause-sheets
+turn_made-requires-clause-sheets c none first =
+    let old : State = state_of (text_of c.args.lines.now) c.args.records.now in
+    let led = c.in-Ok.ensures.state in
+    sheets-before old c.args.numbered.now.sheets c.args.pages.now.starts c.requires.was_whole
+    (none-mapped _ old.pages (sym (ap (λ (s : State). s.pages) led) ∙ none)) (sym (ap (λ (s : State). s.round) led) ∙ first)
+    c.requires.numbered.sheets c.requires.pages

@@ -7,33 +7,22 @@ use Rattle.spec_script.specs.BlockValues.{StanzaOf}
 use Rattle.spec_records.specs.Kept.{RecordsOf}
 use Rattle.spec_state.specs.State.{State}
 use Rattle.spec_state.specs.Keeping.{state_of}
-use Rattle.spec_state.specs.StateSheets.{keys_in}
-use Rattle.spec_state.proofs.StateKeys.{state-row_keys}
 use Rattle.sp_text.specs.Changing.{edit_of}
 use Rattle.sp_text.specs.DisplacedLines.{displaced_of}
 use Rattle.sp_text.specs.Gap.{text_of}
 use Rattle.sp_reread.specs.Cache.{GivesBack}
 use Rattle.sp_exchange.specs.Reads.{ReadsAtMost, ReadsWindow}
 use Rattle.sp_exchange.specs.Restoring.{text_stanzas}
-use Rattle.sp_layout.specs.LaidOut.{LayoutOf}
 use Rattle.sp_relay.specs.Edited.{WasLaidOf}
 use Rattle.sp_relay.specs.Kept.{laid_of}
 use Rattle.sp_refill.specs.Edits.{IsOfEdit}
-use Rattle.sp_made.specs.Made.{key_starts}
+use Rattle.sp_made.specs.Made.{first_rows}
 use Rattle.sp_state.specs.Fills.{IsExchangeOf}
 use Rattle.sp_state.specs.TextEntries.{TextEntryState}
 use Rattle.sp_state.proofs.CarriedLaws.{carried-here, edited-here, edited-whole, leads-back, whole-before, whole-carry}
 use Rattle.sp_state.proofs.EditedScripts.{edited-range}
-use Rattle.sp_state.proofs.RelaidLaws.{edit-of, starts-before, was-laid}
-use Rattle.sp_made.proofs.MadeLaws.{anchored}
+use Rattle.sp_state.proofs.RelaidLaws.{edit-of, was-laid}
 use Rattle.sp_state.proofs.text_entry.edit_entry.Goals as goal
-
-pub record_starts-requires : goal.record_starts-requires
-record_starts-requires g c =
-    let state : State = state_of (text_of c.args.lines.now) c.args.records.now in
-    let laid = ap laid_of c.layout.view_is ∙ c.requires.laid in
-    let keys : c.keys.result.now ≡ keys_in state = c.keys.ensures.keys ∙ ap (λ (l : LayoutOf). l.body.keys) laid ∙ sym (state-row_keys state) in
-    anchored (λ those. those.items) state c.keys.result.now c.records.inside.pages c.requires.whole keys (sym (ap (λ (r : RecordsOf). r.pages) c.records.view_is))
 
 pub relay_and_raise-requires-clause-was : goal.relay_and_raise-requires-clause-was
 relay_and_raise-requires-clause-was g c =
@@ -65,14 +54,7 @@ relay_and_raise-requires-clause-edit g c =
 
 pub relay_and_raise-requires-clause-before : goal.relay_and_raise-requires-clause-before
 relay_and_raise-requires-clause-before g c =
-    let old = text_of c.args.lines.now in
-    let new = text_of c.change_text.new.lines in
-    let state : State = state_of old c.args.records.now in
-    let laid = ap laid_of c.layout.view_is ∙ c.requires.laid in
-    let keys : c.keys.result.now ≡ keys_in state = c.keys.ensures.keys ∙ ap (λ (l : LayoutOf). l.body.keys) laid ∙ sym (state-row_keys state) in
-    let pages = ap (λ (r : RecordsOf). r.pages) c.records.view_is in
-    starts-before old new (displaced_of c.in_ok-displaced.displaced) c.args.records.now c.keys.result.now c.deref.result.now c.in_ok-displaced.ensures.leads keys
-    (c.deref.ensures.value ∙ c.in_ok-before.ensures ∙ ap (key_starts old.lines c.keys.result.now) pages)
+    c.requires.before ∙ ap (λ (t : TextState). first_rows (state_of t c.args.records.now)) (sym c.in_ok-displaced.ensures.leads)
 
 pub relay_and_raise-requires-clause-carried : goal.relay_and_raise-requires-clause-carried
 relay_and_raise-requires-clause-carried g c =

@@ -17,4 +17,4 @@ pub invariant_of-self : goal.invariant_of-self
 invariant_of-self c =
     let old : State = state_of (text_of c.self.inside.lines) c.self.inside.records in
     let new : State = state_of (text_of c.self.inside.lines) c.lock_scenes_made.new.records in
-    (c.lock_scenes_made.ensures.whole, c.lock_scenes_made.ensures.made, c.self.invariant.2, c.self.invariant.3 ∙ sym (scenes-stay old new c.lock_scenes_made.result c.lock_scenes_made.ensures.opening))
+    (c.lock_scenes_made.ensures.whole, c.lock_scenes_made.ensures.made, c.self.invariant.2, c.self.invariant.3 ∙ sym (scenes-stay old new c.lock_scenes_made.result c.lock_scenes_made.ensures.opening), tt)

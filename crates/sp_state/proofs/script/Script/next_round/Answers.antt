@@ -17,4 +17,4 @@ pub invariant_of-self : goal.invariant_of-self
 invariant_of-self c =
     let old : State = state_of (text_of c.self.inside.lines) c.self.inside.records in
     let new : State = state_of (text_of c.self.inside.lines) c.next_round_made.new.records in
-    (c.next_round_made.ensures.whole, c.next_round_made.ensures.made, c.self.invariant.2, c.self.invariant.3 ∙ sym (round-stay old new c.next_round_made.result c.self.invariant.0 c.next_round_made.ensures.opening))
+    (c.next_round_made.ensures.whole, c.next_round_made.ensures.made, c.self.invariant.2, c.self.invariant.3 ∙ sym (round-stay old new c.next_round_made.result c.self.invariant.0 c.next_round_made.ensures.opening), tt)
