@@ -114,7 +114,8 @@ fn title_pages(alloc: Global, titles: &Body, paper: Paper) -> Result<Pages, Allo
     Pages::new(alloc, titles.shapes(), none, rows_on(paper), &mut fills)
 }
 
-/// The first rows of page records; none where pages aren't locked. They are looked for first as far apart as in `near`.
+/// The first rows of page records; none where pages aren't locked. Each is looked for first as far behind the one before it as in
+/// `near`.
 fn record_starts(
     alloc: Global,
     lines: &Lines,
@@ -131,8 +132,9 @@ fn record_starts(
     }
 }
 
-/// The first rows of the page records of a state whose text is laid out; none where pages aren't locked. They are looked for
-/// first as far apart as in `near`, those of a state before it or any other rows. `AllocError` comes for want of memory alone.
+/// The first rows of the page records of a state whose text is laid out; none where pages aren't locked. Each is looked for first
+/// as far behind the one before it as in `near`, those of a state before it or any other rows. `AllocError` comes for want of
+/// memory alone.
 pub fn laid_firsts(
     alloc: Global,
     lines: &Lines,
@@ -237,8 +239,8 @@ pub fn lay(
     Ok(KeptLayout::new(layout))
 }
 
-/// The stops of a state whose text is laid out, by the first rows of its page records (docs/RULES.md, "Pages"). `AllocError` comes
-/// for want of memory alone.
+/// The stops of a state whose text is laid out, by the first rows of its page records (docs/RULES.md, "Pages"). `AllocError`
+/// comes for want of memory alone.
 pub fn laid_stops(
     alloc: Global,
     layout: &KeptLayout,
@@ -324,9 +326,10 @@ fn renews_all(records: &Records) -> bool
 }
 
 /// Makes the labels and the sheets those of a state after an edit whose text is laid out, by the first rows of its page records
-/// and of its pages, and by what would make the page starts those before. It fills no page of the body. Labels that are those
-/// of the state already may be kept: then no stanza is looked at. Sheets before and behind the exchanged pages stay as they are
-/// where pages aren't locked and the round is 0. On an error there was no memory, and nothing is changed.
+/// and of its pages, and by what would make the page starts those before. It fills no page of the body. Labels that are those of
+/// the state already may be kept: then no stanza is looked at. Where pages aren't locked and the round is 0, sheets before the
+/// exchanged pages, but for the one before them, stay as they are, and those behind them where no row or page comes or goes. On
+/// an error there was no memory, and nothing is changed.
 pub fn renumber(
     alloc: Global,
     lines: &Lines,

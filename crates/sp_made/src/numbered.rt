@@ -110,7 +110,7 @@ fn ends_at(sheets: &[Sheet], row: usize) -> bool
     }
 }
 
-/// The places of the sheets to be set anew where page starts were exchanged and no row is marked; all, where that isn't known.
+/// The places of the sheets to be set anew where page starts were exchanged and no row is marked; all, where rows may be marked.
 /// A sheet ends where the next page begins, so that the one before the exchanged pages is among them. Those behind them stay
 /// where the last one still ends behind the last row.
 pub(crate) fn stale_places(

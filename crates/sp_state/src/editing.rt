@@ -151,8 +151,8 @@ fn redo_in_room(
 }
 
 /// Makes an edit. The part of the layout that it changes is laid out anew, the pages of its page window are filled again, and
-/// sheets are made anew; so are labels where a heading comes or goes. The first rows of page records are looked for once, where
-/// those before the edit are known. A fault changes nothing but that they may be forgotten.
+/// sheets are made those of the new state; so are labels where a heading comes or goes. The first rows of page records are found
+/// once, and once more where those before the edit aren't known. A fault forgets them, and changes nothing else.
 pub(crate) fn edit_made<S: Steps>(
     alloc: Global,
     lines: &mut Lines,

@@ -50,7 +50,7 @@ pub struct Script {
     records: Records,
     pages: Pages,
     made: Made,
-    /// The first rows of its page records, where the last edit found them and nothing else came since.
+    /// The first rows of its page records, where they are known.
     firsts: Option<Vec<usize>>,
 }
 
@@ -180,9 +180,9 @@ impl Script {
 
     /// Makes an edit, and answers the entry that undoes it. Each stanza of its window is read once, the part of the layout that
     /// it changes is laid out anew, and each page of its page window is filled once (docs/RULES.md, "Windows"); sheets are made
-    /// anew, and so are labels where a heading comes or goes. Where pages are locked their records are carried, and those whose
-    /// rows differ get the round (docs/RULES.md, "Edits and records"). On a fault nothing is changed; NoMemory may come in
-    /// place of any answer, and the others come as docs/RULES.md says in "Edits".
+    /// those of the new state, and so are labels where a heading comes or goes. Where pages are locked their records are carried,
+    /// and those whose rows differ get the round (docs/RULES.md, "Edits and records"). On a fault nothing is changed; NoMemory
+    /// may come in place of any answer, and the others come as docs/RULES.md says in "Edits".
     pub fn edit<S: Steps>(
         &mut self,
         alloc: Global,

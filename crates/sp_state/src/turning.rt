@@ -54,8 +54,8 @@ fn put_back_in_room(pages: &mut Pages, back: SwappedPages) -> SwappedPages
     }
 }
 
-/// Fills the pages of the page window again, where `old` rows from `first` on were exchanged for `new` ones; `firsts` are the first
-/// rows of page records.
+/// Fills the pages of the page window again, where `old` rows from `first` on were exchanged for `new` ones; `firsts` are the
+/// first rows of page records.
 fn update_pages<S: Steps>(
     alloc: Global,
     lines: &Lines,
@@ -95,8 +95,8 @@ fn update_pages<S: Steps>(
 }
 
 /// Makes page starts, labels and sheets those of a state after an edit, whose text is laid out, by the first rows of its page
-/// records: the pages of the page window are filled again, where `old` rows from `first` on were exchanged for `new` ones. Labels that are those of the state already may
-/// be kept. On an error there was no memory, and nothing is changed.
+/// records: the pages of the page window are filled again, where `old` rows from `first` on were exchanged for `new` ones. Labels
+/// that are those of the state already may be kept. On an error there was no memory, and nothing is changed.
 pub(crate) fn refilled<S: Steps>(
     alloc: Global,
     lines: &Lines,
@@ -238,9 +238,10 @@ pub(crate) struct UnturnedPages {
     pub pages: SwappedPages,
 }
 
-/// Makes layout, page starts, labels and sheets those of a state after an edit was undone or done again, by what the edit displaced
-/// of layout and page starts. It lays out nothing and fills no page, and keeps the labels where no heading comes or goes. On an
-/// error there was no memory, all four are as they were, and what is handed back leads where what was to be put back led.
+/// Makes layout, page starts, labels and sheets those of a state after an edit was undone or done again, by what the edit
+/// displaced of layout and page starts, and finds the first rows of page records, first as far apart as those that are known. It
+/// lays out nothing and fills no page, and keeps the labels where no heading comes or goes. On an error there was no memory, all
+/// four are as they were, and what is handed back leads where what was to be put back led.
 pub(crate) fn turn_made(
     alloc: Global,
     lines: &Lines,
