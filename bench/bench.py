@@ -1,6 +1,7 @@
 """Times `print` on scripts of 1, 2, 4, 8 and 16 MiB, beside `fold -s -w 60 FILE | pr -l 57` on the same file in the same run,
 and on scripts of 25,000 to 200,000 lines that a careless reader is slow on; and sessions of `desk` on scripts of 2,000 to
-200,000 lines: the opening, a splice and an undo; and of many edits and undos of 200,000 lines, beside `print` of them.
+200,000 lines: the opening, a splice and an undo; and of many edits and undos of 200,000 lines, and the large sample, beside `print` of
+them.
 
 For each kind of script and each size it prints the time of `print`, MB/s, the peak memory over the size of the input, how
 much longer it took than at half the size, the ratio to `fold | pr`, and that of `html` to `print`. Each time is the least of several runs.
@@ -26,10 +27,12 @@ DESK = '"$PROGRAM" desk "$FILE" < "$FILE.commands" > /dev/null'
 # How many splices follow one another in a session before as many undos, and how often they do.
 SPLICES = 20
 TURNS = 200
-# How many edits are timed where pages are locked, and how many of a room are late.
+# How many edits of a room are late.
 EDITS = 200
-# How many edits and undos of 200,000 lines are timed beside `print`, where pages aren't locked.
+# How many edits and undos of 200,000 lines are timed beside `print`.
 EDITED = 2_000
+# How many rooms the large sample has.
+ROOMS = 2_000
 # A script has at most 16,777,216 bytes with a line end behind its last line.
 MOST_BYTES = 16_777_215
 
@@ -205,12 +208,12 @@ def session_peak(path, commands):
 
 def main():
     parser = argparse.ArgumentParser()
-    parser.add_argument("--kind", choices=sorted([*KINDS, *LINES, "session", "edits", "locks", "cast", "collate", "room"]), action="append")
+    parser.add_argument("--kind", choices=sorted([*KINDS, *LINES, "session", "edits", "sample", "locks", "cast", "collate", "room"]), action="append")
     parser.add_argument("--runs", type=int, default=5)
     parser.add_argument("--most", type=int, default=16)
     options = parser.parse_args()
     subprocess.run([TOP / "run", "print"], stdin=subprocess.DEVNULL, check=True)
-    kinds = options.kind or [*KINDS, *LINES, "session", "edits", "locks", "cast", "collate", "room"]
+    kinds = options.kind or [*KINDS, *LINES, "session", "edits", "sample", "locks", "cast", "collate", "room"]
     with tempfile.TemporaryDirectory() as folder:
         folder = pathlib.Path(folder)
         if sizes := [kind for kind in kinds if kind in KINDS]:
@@ -221,6 +224,8 @@ def main():
             time_sessions(folder, options)
         if "edits" in kinds:
             time_edits(folder, options)
+        if "sample" in kinds:
+            time_sample(folder, options)
         if "locks" in kinds:
             time_locks(folder, options)
         if "cast" in kinds:
@@ -291,8 +296,8 @@ def time_edits(folder, options):
         ("lines far apart", actions, [], apart(EDITED)),
         ("random places", scenes, [], anywhere(200_000, EDITED)),
         ("random, lines come", SCENE * (190_000 // 11), [], longer(190_000, EDITED)),
-        ("lines apart, locked", actions, LOCKS, apart(EDITS)),
-        ("random places, locked", scenes, LOCKS, anywhere(200_000, EDITS)),
+        ("lines apart, locked", actions, LOCKS, apart(EDITED)),
+        ("random places, locked", scenes, LOCKS, anywhere(200_000, EDITED)),
     ):
         path = folder / "edits"
         commands = folder / "edits.commands"
@@ -309,6 +314,24 @@ def time_edits(folder, options):
             f"{kind:24} {printed:9.4f} {undone:9.4f} {undone / printed:8.2f} {(edited - opened) / len(edits):9.6f} {(undone - edited) / len(edits):9.6f} {(peaks[2] - peaks[0]) / 1e6:8.1f}",
             flush=True,
         )
+
+
+def sample_script():
+    """The script of the large sample (docs/RULES.md, "The sample")."""
+    cues = ("BERT ^", "BERT", "BERT", "BERT", "BERT")
+    return "".join(
+        f"INT. ROOM {n} - DAY\n\nThe lamp in room {n} is lit.\n\nANNA\n(to BERT)\nI have counted {n} lamps today. They are all lit.\n\n{cues[n % 5]}\nCount them again.\n\n"
+        for n in range(1, ROOMS + 1)
+    )
+
+
+def time_sample(folder, options):
+    """Times the large sample beside `print` of its script."""
+    path = folder / "sample"
+    path.write_text(sample_script())
+    printed = least('"$PROGRAM" print "$FILE" > /dev/null', path, options.runs)
+    sampled = least(f'"$PROGRAM" sample {ROOMS} > /dev/null', path, options.runs)
+    print(f"{'kind':10} {'print s':>9} {'sample s':>9} {'/ print':>8}\n{'sample':10} {printed:9.4f} {sampled:9.4f} {sampled / printed:8.2f}", flush=True)
 
 
 def time_cast(folder, options):
