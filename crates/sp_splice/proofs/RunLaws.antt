@@ -1,6 +1,6 @@
 -- Runs poured from list to list.
-use Rattle.std.proofs.Common.{◌≡◌, ℕ, ◌+◌, ◌-◌, ◌≤◌, List, [], ◌∷◌, ◌++◌, length, take, drop, reverse, slice_range, refl, sym, ap, ap₂, ◌∙◌, arith, append_assoc, append-nil, length-append, take_at, drop_at, drop-drop, length-drop}
-use Rattle.std.proofs.lemmas.List.{reverse-append, length-take-le, nil_from_length, take-append-drop}
+use Rattle.std.proofs.Common.{◌≡◌, ℕ, zero, suc, ◌+◌, ◌-◌, ◌≤◌, List, [], ◌∷◌, ◌++◌, length, take, drop, reverse, slice_range, refl, sym, ap, ap₂, ◌∙◌, arith, append_assoc, append-nil, length-append, take_all, take_at, drop_at, drop-drop, length-drop}
+use Rattle.std.proofs.lemmas.List.{reverse-append, reverse-reverse, length-take-le, take-append-drop}
 use Rattle.sp_splice.specs.Runs.{Poured, exchanged}
 
 pub Poured-none : {X : Type 0} (from to : List X) → Poured from to from to 0
@@ -14,12 +14,18 @@ Poured-one from to from_now to_now from_next to_next count x poured taken put = 
   put = put ∙ ap (λ xs. xs ++ x ∷ []) poured.put ∙ append_assoc to (reverse poured.moved) (x ∷ []) ∙ ap (λ xs. to ++ xs) (sym (reverse-append (x ∷ []) poured.moved));
 }
 
--- Pouring all of a list puts all of it, turned, behind the other.
-pub Poured-all : {X : Type 0} (from to from_now to_now : List X) (count : ℕ) → Poured from to from_now to_now count → count ≡ length from → (to_now ≡ to ++ reverse from) × (from_now ≡ [])
-Poured-all from to from_now to_now count poured all =
-    let none : from_now ≡ [] = nil_from_length from_now (omega (arith, ap length poured.taken, length-append from_now poured.moved, poured.count_is, all)) in
-    let same : poured.moved ≡ from = ap (λ xs. xs ++ poured.moved) (sym none) ∙ sym poured.taken in
-    (poured.put ∙ ap (λ xs. to ++ reverse xs) same, none)
+-- What was poured and turned once more is the end of the list, in its order.
+pub handed-over : {X : Type 0} (from to from_now to_now all : List X) (count place : ℕ) → Poured from to from_now to_now count → place ≡ length to → all ≡ take place to_now ++ reverse (drop place to_now)
+    → (from_now ≡ take (length from - count) from) × (all ≡ to ++ drop (length from - count) from)
+handed-over from to from_now to_now all count place poured place_is all_is =
+    let left : length from_now ≡ length from - count = omega (arith, ap length poured.taken, length-append from_now poured.moved, poured.count_is) in
+    let end : drop (length from - count) from ≡ poured.moved = ap (drop (length from - count)) poured.taken ∙ drop_at from_now poured.moved (length from - count) left in
+    let behind : length to ≡ place = sym place_is in (
+      sym (ap (take (length from - count)) poured.taken ∙ take_at from_now poured.moved (length from - count) left),
+      all_is
+          ∙ ap₂ (λ xs ys. xs ++ reverse ys) (ap (take place) poured.put ∙ take_at to (reverse poured.moved) place behind) (ap (drop place) poured.put ∙ drop_at to (reverse poured.moved) place behind)
+          ∙ ap (λ xs. to ++ xs) (reverse-reverse poured.moved ∙ sym end),
+    )
 
 -- A list in three parts, by two places.
 pub in-three : {X : Type 0} (list : List X) (from to : ℕ) → from ≤ to → list ≡ take from list ++ (slice_range list from to ++ drop to list)
@@ -27,58 +33,93 @@ in-three list from to order =
     let rest : drop (to - from) (drop from list) ≡ drop to list = drop-drop (to - from) from list ∙ ap (λ n. drop n list) (let same : from + (to - from) ≡ to = omega (arith, order) in same) in
     sym (ap (λ xs. take from list ++ (slice_range list from to ++ xs)) (sym rest) ∙ ap (λ xs. take from list ++ xs) (take-append-drop (to - from) (drop from list)) ∙ take-append-drop from list)
 
--- The last of two parts by their lengths.
-last-part : {X : Type 0} (xs ys zs vs : List X) → xs ++ ys ≡ zs ++ vs → length ys ≡ length vs → (xs ≡ zs) × (ys ≡ vs)
-last-part xs ys zs vs same count =
-    let len : length xs ≡ length zs = omega (arith, count, ap length same, length-append xs ys, length-append zs vs) in (
-      sym (take_at xs ys (length zs) len) ∙ ap (take (length zs)) same ∙ take_at zs vs (length zs) refl,
-      sym (drop_at xs ys (length zs) len) ∙ ap (drop (length zs)) same ∙ drop_at zs vs (length zs) refl,
-    )
+-- So many items, and so many of those behind them.
+take-then-take : {X : Type 0} (m n : ℕ) (xs : List X) → take m xs ++ take n (drop m xs) ≡ take (m + n) xs
+take-then-take zero n xs = ap (λ k. take k xs) (let same : n ≡ 0 + n = omega arith in same)
+take-then-take (suc m) n [] = take_all n [] (omega arith) ∙ sym (take_all (suc m + n) [] (omega arith))
+take-then-take (suc m) n (x ∷ xs) = ap (λ ys. x ∷ ys) (take-then-take m n xs) ∙ ap (λ k. take k (x ∷ xs)) (let same : suc (m + n) ≡ suc m + n = omega arith in same)
 
--- What two turns make of three parts with a fourth behind them.
-turned : {X : Type 0} (a r b i one brought sent : List X) (from count stands : ℕ) → length a ≡ from → length i ≡ count → length r ≡ stands
-    → one ≡ (a ++ (r ++ b)) ++ i
-    → brought ≡ take from one ++ (drop (length one - count) one ++ slice_range one from (length one - count))
-    → sent ≡ take (from + count) brought ++ (drop (from + count + stands) brought ++ slice_range brought (from + count) (from + count + stands))
-    → sent ≡ (a ++ (i ++ b)) ++ r
-turned a r b i one brought sent from count stands a_len i_len r_len one_is brought_is sent_is =
-    let own = a ++ (r ++ b) in
-    let till : length own ≡ length one - count = omega (arith, ap length one_is, length-append own i, i_len) in
-    let own_len : length own ≡ from + length (r ++ b) = omega (arith, length-append a (r ++ b), a_len) in
-    let one_parts : one ≡ a ++ ((r ++ b) ++ i) = one_is ∙ append_assoc a (r ++ b) i in
-    let begin : take from one ≡ a = ap (take from) one_parts ∙ take_at a ((r ++ b) ++ i) from a_len in
-    let end : drop (length one - count) one ≡ i = ap (drop (length one - count)) one_is ∙ drop_at own i (length one - count) till in
-    let mid : slice_range one from (length one - count) ≡ r ++ b =
-    ap (λ xs. take (length one - count - from) xs) (ap (drop from) one_parts ∙ drop_at a ((r ++ b) ++ i) from a_len)
-    ∙ take_at (r ++ b) i (length one - count - from) (omega (arith, till, own_len)) in
-    let brought_parts : brought ≡ (a ++ i) ++ (r ++ b) =
-    brought_is ∙ ap (λ xs. xs ++ (drop (length one - count) one ++ slice_range one from (length one - count))) begin
-    ∙ ap₂ (λ xs ys. a ++ (xs ++ ys)) end mid ∙ sym (append_assoc a i (r ++ b)) in
-    let front_len : length (a ++ i) ≡ from + count = omega (arith, length-append a i, a_len, i_len) in
-    let brought_more : brought ≡ ((a ++ i) ++ r) ++ b = brought_parts ∙ sym (append_assoc (a ++ i) r b) in
-    let more_len : length ((a ++ i) ++ r) ≡ from + count + stands = omega (arith, length-append (a ++ i) r, front_len, r_len) in
-    let few : from + count + stands - (from + count) ≡ stands = omega arith in
-    let run : slice_range brought (from + count) (from + count + stands) ≡ r =
-    ap (λ xs. take (from + count + stands - (from + count)) xs) (ap (drop (from + count)) brought_parts ∙ drop_at (a ++ i) (r ++ b) (from + count) front_len)
-    ∙ take_at r b (from + count + stands - (from + count)) (omega (arith, few, r_len)) in
-    sent_is
-    ∙ ap (λ xs. xs ++ (drop (from + count + stands) brought ++ slice_range brought (from + count) (from + count + stands)))
-    (ap (take (from + count)) brought_parts ∙ take_at (a ++ i) (r ++ b) (from + count) front_len)
-    ∙ ap₂ (λ xs ys. (a ++ i) ++ (xs ++ ys)) (ap (drop (from + count + stands)) brought_more ∙ drop_at ((a ++ i) ++ r) b (from + count + stands) more_len) run
-    ∙ append_assoc a i (b ++ r) ∙ ap (λ xs. a ++ xs) (sym (append_assoc i b r)) ∙ sym (append_assoc a (i ++ b) r)
+-- What is behind a place, in two parts by a later one.
+drop-parts : {X : Type 0} (list : List X) (mid to : ℕ) → mid ≤ to → drop mid list ≡ slice_range list mid to ++ drop to list
+drop-parts list mid to order =
+    let rest : drop (to - mid) (drop mid list) ≡ drop to list = drop-drop (to - mid) mid list ∙ ap (λ n. drop n list) (let same : mid + (to - mid) ≡ to = omega (arith, order) in same) in
+    sym (ap (λ xs. slice_range list mid to ++ xs) (sym rest) ∙ take-append-drop (to - mid) (drop mid list))
 
--- What an exchange makes, step by step.
-pub exchanged-by : {X : Type 0} (list items one brought sent last moved : List X) (from to count stands : ℕ) → from ≤ to → to ≤ length list → length items ≡ count → stands ≡ to - from
-    → one ≡ list ++ items
-    → brought ≡ take from one ++ (drop (length one - count) one ++ slice_range one from (length one - count))
-    → sent ≡ take (from + count) brought ++ (drop (from + count + stands) brought ++ slice_range brought (from + count) (from + count + stands))
-    → sent ≡ last ++ moved → length moved ≡ stands
-    → (last ≡ exchanged list from to items) × (moved ≡ slice_range list from to)
-exchanged-by list items one brought sent last moved from to count stands order within items_len stands_is one_is brought_is sent_is last_is moved_len =
+-- A run in two parts, by a place within it.
+slice-parts : {X : Type 0} (list : List X) (from mid to : ℕ) → from ≤ mid → mid ≤ to → slice_range list from mid ++ slice_range list mid to ≡ slice_range list from to
+slice-parts list from mid to order later =
+    let front = slice_range list from mid in
+    let all : drop from list ≡ front ++ drop mid list = drop-parts list from mid order in
+    let inner : drop (mid - from) (drop from list) ≡ drop mid list = drop-drop (mid - from) from list ∙ ap (λ n. drop n list) (let same : from + (mid - from) ≡ mid = omega (arith, order) in same) in
+    ap (λ xs. front ++ take (to - mid) xs) (sym inner)
+    ∙ take-then-take (mid - from) (to - mid) (drop from list)
+    ∙ ap (λ n. take n (drop from list)) (let same : (mid - from) + (to - mid) ≡ to - from = omega (arith, order, later) in same)
+
+-- What an exchange for more items makes, step by step.
+pub more-exchanged : {X : Type 0} (list items one it two three : List X) (from to more : ℕ) → from ≤ to → to ≤ length list → to - from ≤ length items → more ≡ length items - (to - from)
+    → one ≡ list ++ drop (length items - more) items → it ≡ take (length items - more) items
+    → two ≡ exchanged one from to it
+    → three ≡ take to two ++ (drop (length two - more) two ++ slice_range two to (length two - more))
+    → (three ≡ exchanged list from to items) × (slice_range one from to ≡ slice_range list from to)
+more-exchanged list items one it two three from to more order within enough more_is one_is it_is two_is three_is =
     let a = take from list in
     let r = slice_range list from to in
     let b = drop to list in
+    let t = drop (length items - more) items in
     let a_len : length a ≡ from = length-take-le from list (omega (arith, order, within)) in
-    let r_len : length r ≡ stands = length-take-le (to - from) (drop from list) (omega (arith, length-drop from list, within)) ∙ sym stands_is in
-    let made = turned a r b items one brought sent from count stands a_len items_len r_len (one_is ∙ ap (λ xs. xs ++ items) (in-three list from to order)) brought_is sent_is in
-    last-part last moved (a ++ (items ++ b)) r (sym last_is ∙ made) (moved_len ∙ sym r_len)
+    let r_len : length r ≡ to - from = length-take-le (to - from) (drop from list) (omega (arith, length-drop from list, within)) in
+    let it_len : length it ≡ to - from = ap length it_is ∙ length-take-le (length items - more) items (omega arith) ∙ (let same : length items - more ≡ to - from = omega (arith, more_is, enough) in same) in
+    let t_len : length t ≡ more = length-drop (length items - more) items ∙ (let same : length items - (length items - more) ≡ more = omega (arith, more_is) in same) in
+    let one_parts : one ≡ a ++ ((r ++ b) ++ t) = one_is ∙ ap (λ xs. xs ++ t) (in-three list from to order) ∙ append_assoc a (r ++ b) t in
+    let one_two : one ≡ (a ++ r) ++ (b ++ t) = one_parts ∙ ap (λ xs. a ++ xs) (append_assoc r b t) ∙ sym (append_assoc a r (b ++ t)) in
+    let begin : take from one ≡ a = ap (take from) one_parts ∙ take_at a ((r ++ b) ++ t) from a_len in
+    let run : slice_range one from to ≡ r =
+    ap (λ xs. take (to - from) xs) (ap (drop from) one_parts ∙ drop_at a ((r ++ b) ++ t) from a_len ∙ append_assoc r b t) ∙ take_at r (b ++ t) (to - from) r_len in
+    let front : length (a ++ r) ≡ to = omega (arith, length-append a r, a_len, r_len, order) in
+    let rest : drop to one ≡ b ++ t = ap (drop to) one_two ∙ drop_at (a ++ r) (b ++ t) to front in
+    let two_parts : two ≡ a ++ (it ++ (b ++ t)) = two_is ∙ ap₂ (λ xs ys. xs ++ (it ++ ys)) begin rest in
+    let two_front : two ≡ (a ++ it) ++ (b ++ t) = two_parts ∙ sym (append_assoc a it (b ++ t)) in
+    let two_back : two ≡ ((a ++ it) ++ b) ++ t = two_front ∙ sym (append_assoc (a ++ it) b t) in
+    let front_len : length (a ++ it) ≡ to = omega (arith, length-append a it, a_len, it_len, order) in
+    let till : length ((a ++ it) ++ b) ≡ length two - more = omega (arith, ap length two_back, length-append ((a ++ it) ++ b) t, t_len) in
+    let b_len : length b ≡ length two - more - to = omega (arith, till, length-append (a ++ it) b, front_len) in (
+      three_is
+          ∙ ap₂ (λ xs ys. xs ++ (drop (length two - more) two ++ ys)) (ap (take to) two_front ∙ take_at (a ++ it) (b ++ t) to front_len)
+          (ap (λ xs. take (length two - more - to) xs) (ap (drop to) two_front ∙ drop_at (a ++ it) (b ++ t) to front_len) ∙ take_at b t (length two - more - to) b_len)
+          ∙ ap (λ xs. (a ++ it) ++ (xs ++ b)) (ap (drop (length two - more)) two_back ∙ drop_at ((a ++ it) ++ b) t (length two - more) till)
+          ∙ append_assoc a it (t ++ b) ∙ ap (λ xs. a ++ xs) (sym (append_assoc it t b))
+          ∙ ap (λ xs. a ++ (xs ++ b)) (ap (λ xs. xs ++ t) it_is ∙ take-append-drop (length items - more) items),
+      run,
+    )
+
+-- What an exchange for fewer items makes, step by step.
+pub fewer-exchanged : {X : Type 0} (list items one two : List X) (from to count less : ℕ) → from ≤ to → to ≤ length list → count ≡ length items → count ≤ to - from → less ≡ to - from - count
+    → one ≡ exchanged list from (from + count) items
+    → two ≡ take (from + count) one ++ (drop (from + count + less) one ++ slice_range one (from + count) (from + count + less))
+    → (take (length two - less) two ≡ exchanged list from to items) × (slice_range list from (from + count) ++ drop (length two - less) two ≡ slice_range list from to)
+fewer-exchanged list items one two from to count less order within count_is few less_is one_is two_is =
+    let mid = from + count in
+    let a = take from list in
+    let r = slice_range list from mid in
+    let q = slice_range list mid to in
+    let b = drop to list in
+    let to_is : mid + less ≡ to = omega (arith, less_is, few, order) in
+    let a_len : length a ≡ from = length-take-le from list (omega (arith, order, within)) in
+    let q_len : length q ≡ less = length-take-le (to - mid) (drop mid list) (omega (arith, length-drop mid list, within)) ∙ (let same : to - mid ≡ less = omega (arith, to_is) in same) in
+    let rest : drop mid list ≡ q ++ b = drop-parts list mid to (omega (arith, to_is)) in
+    let one_parts : one ≡ a ++ (items ++ (q ++ b)) = one_is ∙ ap (λ xs. a ++ (items ++ xs)) rest in
+    let one_front : one ≡ (a ++ items) ++ (q ++ b) = one_parts ∙ sym (append_assoc a items (q ++ b)) in
+    let one_back : one ≡ ((a ++ items) ++ q) ++ b = one_front ∙ sym (append_assoc (a ++ items) q b) in
+    let front_len : length (a ++ items) ≡ mid = omega (arith, length-append a items, a_len, count_is) in
+    let back_len : length ((a ++ items) ++ q) ≡ mid + less = omega (arith, length-append (a ++ items) q, front_len, q_len) in
+    let few_is : mid + less - mid ≡ less = omega arith in
+    let two_parts : two ≡ (a ++ items) ++ (b ++ q) =
+    two_is
+    ∙ ap₂ (λ xs ys. xs ++ (ys ++ slice_range one mid (mid + less))) (ap (take mid) one_front ∙ take_at (a ++ items) (q ++ b) mid front_len) (ap (drop (mid + less)) one_back ∙ drop_at ((a ++ items) ++ q) b (mid + less) back_len)
+    ∙ ap (λ xs. (a ++ items) ++ (b ++ xs))
+    (ap (λ xs. take (mid + less - mid) xs) (ap (drop mid) one_front ∙ drop_at (a ++ items) (q ++ b) mid front_len) ∙ take_at q b (mid + less - mid) (omega (arith, few_is, q_len))) in
+    let two_back : two ≡ ((a ++ items) ++ b) ++ q = two_parts ∙ sym (append_assoc (a ++ items) b q) in
+    let till : length ((a ++ items) ++ b) ≡ length two - less = omega (arith, ap length two_back, length-append ((a ++ items) ++ b) q, q_len) in (
+      ap (take (length two - less)) two_back ∙ take_at ((a ++ items) ++ b) q (length two - less) till ∙ append_assoc a items b,
+      ap (λ xs. r ++ xs) (ap (drop (length two - less)) two_back ∙ drop_at ((a ++ items) ++ b) q (length two - less) till) ∙ slice-parts list from mid to (omega arith) (omega (arith, to_is)),
+    )

@@ -39,6 +39,30 @@ fn pour<T>(from: &mut Vec<T>, to: &mut Vec<T>, count: usize)
     }
 }
 
+/// Turns the items of a list from a place on.
+fn reverse_from<T>(list: &mut Vec<T>, place: usize)
+    requires { place ≤ vec_len list.old }
+    ensures items { list.new.items ≡ take place list.old.items ++ reverse (drop place list.old.items) }
+    ensures len { vec_len list.new ≡ vec_len list.old }
+    ensures room { vec_capacity list.new ≡ vec_capacity list.old }
+{
+    list[place..].reverse();
+}
+
+/// Takes so many items off the end of a list and puts them behind another, in their order.
+fn hand_over<T>(from: &mut Vec<T>, to: &mut Vec<T>, count: usize)
+    requires there { count ≤ vec_len from.old }
+    requires room { vec_len to.old + count ≤ vec_capacity to.old }
+    ensures from { from.new.items ≡ take (length from.old.items - count) from.old.items }
+    ensures to { to.new.items ≡ to.old.items ++ drop (length from.old.items - count) from.old.items }
+    ensures from_room { vec_capacity from.new ≡ vec_capacity from.old }
+    ensures to_room { vec_capacity to.new ≡ vec_capacity to.old }
+{
+    let place = to.len();
+    pour(from, to, count);
+    reverse_from(to, place);
+}
+
 /// Moves the last items of a list to a place of it.
 fn bring_back<T>(list: &mut Vec<T>, place: usize, count: usize)
     requires { place + count ≤ vec_len list.old }
@@ -72,8 +96,43 @@ fn trade<T>(list: &mut Vec<T>, from: usize, to: usize, items: &mut Vec<T>)
     list[from..to].swap_with_slice(items);
 }
 
-/// Exchanges the items of a list from one place to before another for others. The later ones are moved unless as many come as
-/// go, none is copied, and no memory is taken.
+/// Exchanges the items of a list from one place to before another for as many others or more.
+fn exchange_for_more<T>(list: &mut Vec<T>, from: usize, to: usize, items: &mut Vec<T>)
+    requires order { from ≤ to }
+    requires within { to ≤ vec_len list.old }
+    requires enough { to - from ≤ vec_len items.old }
+    requires room { vec_len list.old + vec_len items.old ≤ vec_capacity list.old }
+    ensures list { list.new.items ≡ exchanged list.old.items from to items.old.items }
+    ensures items { items.new.items ≡ slice_range list.old.items from to }
+    ensures list_room { vec_capacity list.new ≡ vec_capacity list.old }
+    ensures items_room { vec_capacity items.new ≡ vec_capacity items.old }
+{
+    let more = items.len() - (to - from);
+    hand_over(items, list, more);
+    trade(list, from, to, items);
+    bring_back(list, to, more);
+}
+
+/// Exchanges the items of a list from one place to before another for as many others or fewer.
+fn exchange_for_fewer<T>(list: &mut Vec<T>, from: usize, to: usize, items: &mut Vec<T>)
+    requires order { from ≤ to }
+    requires within { to ≤ vec_len list.old }
+    requires few { vec_len items.old ≤ to - from }
+    requires items_room { to - from ≤ vec_capacity items.old }
+    ensures list { list.new.items ≡ exchanged list.old.items from to items.old.items }
+    ensures items { items.new.items ≡ slice_range list.old.items from to }
+    ensures list_room { vec_capacity list.new ≡ vec_capacity list.old }
+    ensures items_room { vec_capacity items.new ≡ vec_capacity items.old }
+{
+    let count = items.len();
+    let less = to - from - count;
+    trade(list, from, from + count, items);
+    send_off(list, from + count, less);
+    hand_over(list, items, less);
+}
+
+/// Exchanges the items of a list from one place to before another for others. As many as come and go change places; the later
+/// items are moved once, where more come or go. None is copied, and no memory is taken.
 pub fn exchange<T>(list: &mut Vec<T>, from: usize, to: usize, items: &mut Vec<T>)
     requires order { from ≤ to }
     requires within { to ≤ vec_len list.old }
@@ -84,15 +143,9 @@ pub fn exchange<T>(list: &mut Vec<T>, from: usize, to: usize, items: &mut Vec<T>
     ensures list_room { vec_capacity list.new ≡ vec_capacity list.old }
     ensures items_room { vec_capacity items.new ≡ vec_capacity items.old }
 {
-    let count = items.len();
-    let stands = to - from;
-    if count == stands {
-        return trade(list, from, to, items);
+    if items.len() < to - from {
+        exchange_for_fewer(list, from, to, items);
+    } else {
+        exchange_for_more(list, from, to, items);
     }
-    items.reverse();
-    pour(items, list, count);
-    bring_back(list, from, count);
-    send_off(list, from + count, stands);
-    pour(list, items, stands);
-    items.reverse();
 }
