@@ -1,4 +1,4 @@
-use Rattle.std.proofs.Common.{◌++◌, ◌-◌, ◌+◌, length, drop, refl, ap, ◌∙◌, arith}
+use Rattle.std.proofs.Common.{◌++◌, ◌-◌, length, drop, refl, ap, ◌∙◌, arith}
 use Rattle.sp_splice.proofs.RunLaws.{fewer-exchanged}
 use Rattle.sp_splice.proofs.runs.exchange_for_fewer.Goals as goal
 

@@ -1,4 +1,4 @@
-use Rattle.std.proofs.Common.{◌-◌, ap, sym, ◌∙◌, arith}
+use Rattle.std.proofs.Common.{◌-◌, ap, ◌∙◌, arith}
 use Rattle.sp_splice.proofs.RunLaws.{more-exchanged}
 use Rattle.sp_splice.proofs.runs.exchange_for_more.Goals as goal
 
