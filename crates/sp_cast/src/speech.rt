@@ -3,7 +3,7 @@ use std::marker::Model;
 
 /// A speech as cast sides tell it (docs/RULES.md, "Cast sides"): the name of its speaker, the label of the scene that it
 /// stands in, and the first label of the sheet on which it begins.
-#[derive(Debug, Drop)]
+#[derive(Drop)]
 pub struct Said {
     pub name: String,
     /// None before the first heading.

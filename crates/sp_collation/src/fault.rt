@@ -1,7 +1,7 @@
 use std::alloc::AllocError;
 
 /// Why two files were not collated (docs/RULES.md, "Collation").
-#[derive(Debug, Clone, Copy, PartialEq, Eq, Drop)]
+#[derive(Clone, Copy, PartialEq, Eq, Drop)]
 pub enum CollateFault {
     /// This file, 0 for the old and 1 for the new, is no list of sheets: this is the first sheet that breaks it.
     BadSheets { file: u8, sheet: u64 },

@@ -10,7 +10,7 @@ use std::cmp::Ordering;
 use std::marker::Model;
 
 /// The labels that a sheet stands for, from the first to the last (docs/RULES.md, "Collation").
-#[derive(Debug, Drop)]
+#[derive(Drop)]
 pub struct Span {
     pub first: Label,
     pub last: Label,

@@ -43,7 +43,7 @@ impl<'a> Model for SheetList<'a> {
 }
 
 /// Why a piece of the bytes doesn't go on with a list of sheets.
-#[derive(Debug, Clone, Copy, PartialEq, Eq, Drop)]
+#[derive(Clone, Copy, PartialEq, Eq, Drop)]
 pub enum SheetFault {
     /// It is no sheet, or its labels aren't behind those of the sheets before it.
     NoSheet,

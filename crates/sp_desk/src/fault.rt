@@ -4,7 +4,7 @@ use sp_wire::Refusal;
 use std::alloc::AllocError;
 
 /// Why a desk changed nothing.
-#[derive(Debug, Drop)]
+#[derive(Drop)]
 pub enum DeskFault {
     /// The command is refused (docs/RULES.md, "The desk").
     Refused(Refusal),

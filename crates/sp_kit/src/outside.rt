@@ -5,7 +5,7 @@ ghost use Rattle.sp_kit.specs.Causes.{HasCause};
 ghost use Rattle.sp_kit.specs.Outside.{SourceState, SinkState, Writes};
 
 /// A read or a write failed. The object's count of faults tells it too.
-#[derive(Debug, Clone, Copy, PartialEq, Eq, Drop)]
+#[derive(Clone, Copy, PartialEq, Eq, Drop)]
 pub struct Failed;
 
 /// Where bytes come from. What can be told of it is the bytes that weren't read yet, where they are known, and a count of

@@ -4,7 +4,7 @@ ghost use Rattle.sp_kit.specs.Files.{ShelfState, FetchGives, FetchesAtMost, Stor
 use std::alloc::AllocError;
 
 /// What a fetch found under a name.
-#[derive(Debug, PartialEq, Eq, Drop)]
+#[derive(PartialEq, Eq, Drop)]
 pub enum Fetched {
     /// There is no such name.
     Absent,
@@ -15,7 +15,7 @@ pub enum Fetched {
 }
 
 /// Why a call of a shelf did nothing or only a part.
-#[derive(Debug, Clone, Copy, PartialEq, Eq, Drop)]
+#[derive(Clone, Copy, PartialEq, Eq, Drop)]
 pub enum ShelfFault {
     /// The call failed. The shelf's count of faults tells it too.
     Failed,

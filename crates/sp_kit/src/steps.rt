@@ -20,7 +20,7 @@ pub trait Steps {
 }
 
 /// The two counts, as numbers.
-#[derive(Debug, Clone, Copy, PartialEq, Eq, Drop)]
+#[derive(Clone, Copy, PartialEq, Eq, Drop)]
 pub struct Counter {
     reads: u64,
     fills: u64,

@@ -1,7 +1,7 @@
 use std::alloc::AllocError;
 
 /// Why a list of records was not made or not extended (docs/RULES.md, "Scene numbers" and "Page records").
-#[derive(Debug, Clone, Copy, PartialEq, Eq, Drop)]
+#[derive(Clone, Copy, PartialEq, Eq, Drop)]
 pub enum LockFault {
     /// The list would have more than 100,000 records.
     RecordsFull,

@@ -6,7 +6,7 @@ use std::cmp::Ordering;
 use std::marker::Model;
 
 /// A scene number or the label of a sheet (docs/RULES.md, "Labels").
-#[derive(Debug, Drop)]
+#[derive(Drop)]
 pub struct Label {
     /// What is written in decimal.
     pub number: u32,

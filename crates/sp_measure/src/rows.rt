@@ -11,7 +11,7 @@ use std::alloc::{AllocError, Global};
 use std::marker::Model;
 
 /// A row of a line (docs/RULES.md, "Wrapping"): its runs, by places of bytes in the line, and its width in columns.
-#[derive(Debug, Drop)]
+#[derive(Drop)]
 pub struct WrapRow {
     pub runs: Vec<Run>,
     pub width: u32,

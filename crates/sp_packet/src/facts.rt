@@ -16,7 +16,7 @@ use std::alloc::{AllocError, Global};
 use std::marker::Model;
 
 /// Records from one place to another, both included.
-#[derive(Debug, Drop)]
+#[derive(Drop)]
 pub struct Places {
     pub first: usize,
     pub last: usize,
@@ -31,7 +31,7 @@ impl Model for Places {
 }
 
 /// What a packet asks of a sheet with labels (docs/RULES.md, "Packets").
-#[derive(Debug, Drop)]
+#[derive(Drop)]
 pub struct SheetFacts {
     /// The places of its first and last record.
     pub records: Places,

@@ -12,7 +12,7 @@ use sp_state::Script;
 use std::alloc::{AllocError, Global};
 
 /// Why there is no packet (docs/RULES.md, "Packets").
-#[derive(Debug, Clone, Copy, PartialEq, Eq, Drop)]
+#[derive(Clone, Copy, PartialEq, Eq, Drop)]
 pub enum PacketFault {
     /// There are no page records.
     PagesNotLocked,

@@ -11,7 +11,7 @@ use sp_text::Edit;
 use sp_wire::Command;
 
 /// What an accepted edit, undo or redo changed: at the line `first`, `taken` lines made way for `put` others.
-#[derive(Debug, Clone, Copy, PartialEq, Eq, Drop)]
+#[derive(Clone, Copy, PartialEq, Eq, Drop)]
 pub struct Change {
     pub first: u64,
     pub taken: u64,

@@ -2,7 +2,7 @@ use sp_labels::Label;
 use std::marker::Model;
 
 /// A heading of a script.
-#[derive(Debug, Drop)]
+#[derive(Drop)]
 pub struct HeadingAt {
     /// The place of its line.
     pub place: u64,
@@ -23,7 +23,7 @@ impl Model for HeadingAt {
 }
 
 /// A label that a heading keeps (docs/RULES.md, "Scene numbers").
-#[derive(Debug, Drop)]
+#[derive(Drop)]
 pub struct SceneRecord {
     pub label: Label,
     /// The id of the heading's line.

@@ -7,7 +7,7 @@ use crate::heading::SceneRecord;
 use std::alloc::{AllocError, Global};
 
 /// The place of the record of a line.
-#[derive(Debug, Clone, Copy)]
+#[derive(Clone, Copy)]
 pub(crate) struct LinePlace {
     pub line: u64,
     pub place: usize,

@@ -20,7 +20,7 @@ const COUNT_LIMIT: usize = 1_000_000;
 const PIECE: usize = 65_536;
 
 /// What came when the next command line was asked for.
-#[derive(Debug, Clone, Copy, PartialEq, Eq, Drop)]
+#[derive(Clone, Copy, PartialEq, Eq, Drop)]
 pub enum NextLine {
     /// A line that a line feed ends.
     Whole,
@@ -31,7 +31,7 @@ pub enum NextLine {
 }
 
 /// Why there is no next command line.
-#[derive(Debug, Clone, Copy, PartialEq, Eq, Drop)]
+#[derive(Clone, Copy, PartialEq, Eq, Drop)]
 pub enum LineStop {
     /// The source failed.
     Read,

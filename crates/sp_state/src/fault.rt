@@ -3,7 +3,7 @@ use sp_scenes::SceneFault;
 use std::alloc::AllocError;
 
 /// Why a lock or a round changed nothing (docs/RULES.md, "Commands").
-#[derive(Debug, Clone, Copy, PartialEq, Eq, Drop)]
+#[derive(Clone, Copy, PartialEq, Eq, Drop)]
 pub enum OpeningFault {
     /// Scenes are locked already.
     ScenesLocked,

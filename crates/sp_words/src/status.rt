@@ -11,7 +11,7 @@ use spec_session::SessionEnd;
 use std::alloc::AllocError;
 
 /// How a run ended (docs/RULES.md, "The program").
-#[derive(Debug, PartialEq, Eq, Drop)]
+#[derive(PartialEq, Eq, Drop)]
 pub enum Status {
     /// The input was read to its end and the whole output was written.
     Done,

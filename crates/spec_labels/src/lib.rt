@@ -3,14 +3,14 @@
 #![tactic(auto)]
 
 /// The key of a row: its line's id, and its number among the rows of that line (docs/RULES.md, "Page records").
-#[derive(Debug, Clone, Copy, PartialEq, Eq, Drop)]
+#[derive(Clone, Copy, PartialEq, Eq, Drop)]
 pub struct RowKey {
     pub line: u64,
     pub row: u32,
 }
 
 /// What a page record had or is to have: the record's index, an anchor, and a round (docs/RULES.md, "Page records").
-#[derive(Debug, Clone, Copy, PartialEq, Eq, Drop)]
+#[derive(Clone, Copy, PartialEq, Eq, Drop)]
 pub struct Moved {
     pub index: u64,
     pub line: u64,

@@ -3,7 +3,7 @@
 #![tactic(auto)]
 
 /// What a row is to the rules of page ends (docs/RULES.md, "Pages").
-#[derive(Debug, Clone, Copy, PartialEq, Eq, Drop)]
+#[derive(Clone, Copy, PartialEq, Eq, Drop)]
 pub enum RowKind {
     Heading,
     Action,
@@ -19,7 +19,7 @@ pub enum RowKind {
 
 /// A row as page ends see it: the empty rows before it, its kind, whether its text ends a sentence, and how many rows of its
 /// element stand before it and after it. The small fields stand together, since fields lie in this order.
-#[derive(Debug, Clone, Copy, PartialEq, Eq, Drop)]
+#[derive(Clone, Copy, PartialEq, Eq, Drop)]
 pub struct Shape {
     pub lead: u8,
     pub kind: RowKind,
@@ -30,7 +30,7 @@ pub struct Shape {
 
 /// A cluster of a line (docs/RULES.md, "Columns"): its place by bytes, its columns, its style, and whether it is a space.
 /// A line has at most 4,096 bytes, so 16 bits are enough for places and columns.
-#[derive(Debug, Clone, Copy, PartialEq, Eq, Drop)]
+#[derive(Clone, Copy, PartialEq, Eq, Drop)]
 pub struct Cluster {
     pub from: u16,
     pub to: u16,
@@ -40,7 +40,7 @@ pub struct Cluster {
 }
 
 /// Where a row ends among the clusters that are left (docs/RULES.md, "Wrapping").
-#[derive(Debug, Clone, Copy, PartialEq, Eq, Drop)]
+#[derive(Clone, Copy, PartialEq, Eq, Drop)]
 pub enum Cut {
     /// After all of them.
     Rest,
@@ -51,7 +51,7 @@ pub enum Cut {
 }
 
 /// Where an element's row stands: by itself, or in a half of dual dialogue (docs/RULES.md, "Elements").
-#[derive(Debug, Clone, Copy, PartialEq, Eq, Drop)]
+#[derive(Clone, Copy, PartialEq, Eq, Drop)]
 pub enum Side {
     Alone,
     Left,
@@ -59,7 +59,7 @@ pub enum Side {
 }
 
 /// The paper that pages are printed on (docs/RULES.md, "Pages").
-#[derive(Debug, Clone, Copy, PartialEq, Eq, Drop)]
+#[derive(Clone, Copy, PartialEq, Eq, Drop)]
 pub enum Paper {
     Letter,
     A4,

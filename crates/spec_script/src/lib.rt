@@ -3,7 +3,7 @@
 #![tactic(auto)]
 
 /// What a line is before notes are looked for (docs/RULES.md, "Sorts of lines").
-#[derive(Debug, Clone, Copy, PartialEq, Eq, Drop)]
+#[derive(Clone, Copy, PartialEq, Eq, Drop)]
 pub enum Sort {
     Empty,
     Held,
@@ -12,7 +12,7 @@ pub enum Sort {
 }
 
 /// What a block is (docs/RULES.md, "Blocks").
-#[derive(Debug, Clone, Copy, PartialEq, Eq, Drop)]
+#[derive(Clone, Copy, PartialEq, Eq, Drop)]
 pub enum Kind {
     Heading,
     Action,
@@ -27,7 +27,7 @@ pub enum Kind {
 }
 
 /// What a line of a block is (docs/RULES.md, "Blocks").
-#[derive(Debug, Clone, Copy, PartialEq, Eq, Drop)]
+#[derive(Clone, Copy, PartialEq, Eq, Drop)]
 pub enum Part {
     Text,
     Cue,
@@ -40,7 +40,7 @@ pub enum Part {
 }
 
 /// A visible part of a line, by places of bytes, with its style: the sum of 1 for italic, 2 for bold and 4 for underlined.
-#[derive(Debug, Clone, Copy, PartialEq, Eq, Drop)]
+#[derive(Clone, Copy, PartialEq, Eq, Drop)]
 pub struct Run {
     pub from: u32,
     pub to: u32,
@@ -48,7 +48,7 @@ pub struct Run {
 }
 
 /// A layer of emphasis: italic by `*`, bold by `**`, both by `***`, underlined by `_` (docs/RULES.md, "Emphasis").
-#[derive(Debug, Clone, Copy, PartialEq, Eq, Drop)]
+#[derive(Clone, Copy, PartialEq, Eq, Drop)]
 pub enum Layer {
     Italic,
     Bold,
@@ -57,14 +57,14 @@ pub enum Layer {
 }
 
 /// Two markers of one layer that belong together, by the places of their first bytes in a line's cleaned text.
-#[derive(Debug, Clone, Copy, PartialEq, Eq, Drop)]
+#[derive(Clone, Copy, PartialEq, Eq, Drop)]
 pub struct Pair {
     pub first: u32,
     pub second: u32,
 }
 
 /// A part of a line's cleaned text, by places of bytes in that text: its first byte, and the byte after its last.
-#[derive(Debug, Clone, Copy, PartialEq, Eq, Drop)]
+#[derive(Clone, Copy, PartialEq, Eq, Drop)]
 pub struct Cut {
     pub from: usize,
     pub to: usize,
@@ -72,7 +72,7 @@ pub struct Cut {
 
 /// What a line of a title page is, with the place of its value's first byte, or of the text's end where it has no
 /// value (docs/RULES.md, "Title page").
-#[derive(Debug, Clone, Copy, PartialEq, Eq, Drop)]
+#[derive(Clone, Copy, PartialEq, Eq, Drop)]
 pub enum TitleLine {
     Opens { from: u32, centred: bool },
     Value { from: u32 },

@@ -3,7 +3,7 @@
 #![tactic(auto)]
 
 /// How a session ended (docs/RULES.md, "Sessions").
-#[derive(Debug, Clone, Copy, PartialEq, Eq, Drop)]
+#[derive(Clone, Copy, PartialEq, Eq, Drop)]
 pub enum SessionEnd {
     /// The source was read to its end, and the replies to all its lines were written.
     Done,
