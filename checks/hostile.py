@@ -140,7 +140,7 @@ def statuses(place):
     hello = HELLO.encode()
     yield from ends("print FILE", place.run("print", "f"), 0, hello)
     yield from ends("print", place.run("print", text=b"!Hello."), 0, hello)
-    for words in ((), ("print", "f", "f"), ("desk",), ("--help",)):
+    for words in ((), ("print", "f", "f"), ("desk",), ("--help",), ("print", b"\xff")):
         yield from ends(f"{words}", place.run(*words, text=b"!Hello."), 2)
     yield from ends("outline", place.run("outline", "f"), 0)
     yield from differs("a packet where pages aren't locked", place.run("packet", "f"), (14, b"", "fountain: pages are not locked\n"))

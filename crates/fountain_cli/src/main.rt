@@ -1,9 +1,6 @@
 //! `fountain`: the program over the standard streams and the files of the system.
 #![tactic(auto)]
 
-mod files;
-mod streams;
-
 ghost use Rattle.std.specs.Prelude.{◌≡◌};
 ghost use Rattle.std.specs.declared.result.Result.{Result};
 ghost use Rattle.std.specs.Process.{exit_status};
@@ -11,12 +8,11 @@ ghost use Rattle.sp_kit.specs.Outside.{Writes};
 ghost use Rattle.sp_kit.specs.declared.outside.Failed.{Failed};
 ghost use Rattle.sp_words.specs.Statuses.{code_of, line_of};
 
-use files::FileShelf;
 use sp_kit::{Counter, Sink};
 use sp_run::{Status, fault_line, run};
+use sp_system::{FileShelf, Input, Output};
 use std::process::ExitCode;
 use std::{env, io};
-use streams::{Input, Output};
 
 /// The words after the program's name.
 fn words(rt: &HostRuntime) -> io::Result<Vec<String>> {
@@ -65,8 +61,3 @@ fn main(rt: HostRuntime) -> ExitCode {
     };
     tell(&status, &mut Output::new(rt.stderr()))
 }
-
-#[cfg(test)]
-mod failing;
-#[cfg(test)]
-mod tests;

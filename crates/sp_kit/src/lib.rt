@@ -15,6 +15,3 @@ pub use memory_source::MemorySource;
 pub use outside::{Failed, Sink, Source, write_whole};
 pub use shelf::{Fetched, Shelf, ShelfFault};
 pub use steps::{Counter, Steps};
-
-#[cfg(test)]
-mod tests;

@@ -2,7 +2,7 @@ use Rattle.std.proofs.Common.{◌≡◌, ℕ, ◌<◌, List, [], ◌++◌, lengt
 use Rattle.std.specs.Prelude.{IfSome, option_map}
 use Rattle.std.specs.declared.option.Option.{Option}
 use Rattle.std.proofs.lemmas.List.{take_all, length-take}
-use Rattle.fountain_cli.proofs.files.read_file.Goals as goal
+use Rattle.sp_system.proofs.files.read_file.Goals as goal
 
 -- Where fewer bytes came than were asked for, they are all.
 read-whole : (known : Option (List ℕ)) (asked : ℕ) (bytes front : List ℕ) → IfSome (option_map (take asked) known) (λ xs. bytes ≡ front ++ xs) → front ≡ [] → length bytes < asked

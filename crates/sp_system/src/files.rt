@@ -23,6 +23,7 @@ pub struct FileShelf<'a, R: Files> {
 }
 
 impl<'a, R: Files> FileShelf<'a, R> {
+    /// The files of this system; no fault is counted yet. Takes no memory.
     pub fn new(alloc: Global, system: &'a R) -> Self {
         FileShelf {
             system,

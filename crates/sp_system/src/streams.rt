@@ -12,6 +12,7 @@ pub struct Input<R: Read + Drop> {
 }
 
 impl<R: Read + Drop> Input<R> {
+    /// Reads from this stream; no fault is counted yet. Takes no memory.
     pub fn new(stream: R) -> Self {
         Input { stream, faults: 0 }
     }
@@ -39,6 +40,7 @@ pub struct Output<W: Write + Drop> {
 }
 
 impl<W: Write + Drop> Output<W> {
+    /// Writes to this stream; no fault is counted yet. Takes no memory.
     pub fn new(stream: W) -> Self {
         Output { stream, faults: 0 }
     }
