@@ -5,4 +5,4 @@ mod places;
 mod runs;
 
 pub use places::exchange_places;
-pub use runs::{exchange, make_room};
+pub use runs::{exchange, make_room, pour};

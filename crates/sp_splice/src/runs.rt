@@ -24,8 +24,8 @@ pub fn make_room<T>(list: &mut Vec<T>, total: usize) -> Result<(), AllocError>
     list.reserve_exact(more.saturating_sub(list.len()))
 }
 
-/// Takes so many items off the end of a list and puts them behind another, the last first.
-fn pour<T>(from: &mut Vec<T>, to: &mut Vec<T>, count: usize)
+/// Takes so many items off the end of a list and puts them behind another, the last first. It takes no memory.
+pub fn pour<T>(from: &mut Vec<T>, to: &mut Vec<T>, count: usize)
     requires there { count ≤ vec_len from.old }
     requires room { vec_len to.old + count ≤ vec_capacity to.old }
     ensures poured { Poured from.old.items to.old.items from.new.items to.new.items count }
