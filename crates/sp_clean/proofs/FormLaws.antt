@@ -35,12 +35,17 @@ same_lowercase (x ∷ xs) (y ∷ ys) h =
     let rest : map to_ascii_lowercase xs ≡ map to_ascii_lowercase ys = cc in
     and_from _ _ (eq-eqb (to_ascii_lowercase x) (to_ascii_lowercase y) first) (same_lowercase xs ys rest)
 
--- The name of a cue that ends in `)` and has a `(`, and of any other.
+-- The name of a cue that ends in `)` and has a `(`, of one that ends otherwise, and of one without a `(`.
 pub cue_name-cut : (cue name : List ℕ) → ends 41 cue ≡ true → position_or_len (λ b. b == 40) cue < length cue → name ≡ before_first (λ b. b == 40) cue → trim name ≡ cue_name cue
 cue_name-cut cue name e low h =
     let p : ℕ → Bool = λ b. b == 40 in
     let some : list_any p cue ≡ true = list_any_at p cue (position_or_len p cue) 0 low (passes_at_first p cue 0 low) in
     ap trim h ∙ sym (ap (λ t. cond t (trim (before_first p cue)) cue) (and_from (ends 41 cue) (list_any p cue) e some))
+
+pub cue_name-plain : (cue : List ℕ) → ends 41 cue ≡ false → cue ≡ cue_name cue
+cue_name-plain cue e =
+    let p : ℕ → Bool = λ b. b == 40 in
+    sym (ap (λ t. cond t (trim (before_first p cue)) cue) (and_left (ends 41 cue) (list_any p cue) e))
 
 pub cue_name-whole : (cue : List ℕ) → position_or_len (λ b. b == 40) cue ≡ length cue → cue ≡ cue_name cue
 cue_name-whole cue h =
