@@ -1,18 +1,17 @@
 -- Keys of a set, what they stand for, and entries gathered by them.
-use Rattle.std.proofs.Common.{◌≡◌, ℕ, ◌+◌, ◌<◌, ◌≤◌, ◌||◌, ◌&&◌, ◌==◌, Bool, true, false, not, cond, Option, Some, None, List, [], ◌∷◌, ◌++◌, length, map, filter, take, get_or, refl, ap, ap₂, sym, ◌∙◌, arith, Bor}
-use Rattle.std.specs.Prelude.{bytes_eq, option_map}
+use Rattle.std.proofs.Common.{◌≡◌, ℕ, ◌+◌, ◌<◌, ◌||◌, ◌&&◌, ◌==◌, Bool, true, false, not, cond, Some, None, List, [], ◌∷◌, ◌++◌, length, map, filter, take, get_or, refl, ap, ap₂, sym, ◌∙◌, Bor}
+use Rattle.std.specs.Prelude.{bytes_eq}
 use Rattle.std.specs.List.{list_any, position_or_len}
 use Rattle.std.specs.Option.{option_eq}
 use Rattle.std.proofs.lemmas.List.{map-append, take_more, length-map}
 use Rattle.indexmap.specs.IndexSet.{insert_key}
-use Rattle.spec_labels.specs.Labels.{LabelOf}
 use Rattle.spec_cast.specs.Sides.{each_once, scene_eq}
 use Rattle.spec_cast.specs.Groups.{add_at, grouped}
 use Rattle.spec_cast.proofs.Counts.{TellsSame}
 use Rattle.spec_cast.proofs.Inserting.{each_once-more}
 use Rattle.spec_cast.proofs.Groups.{grouped-more}
 use Rattle.sp_cast.specs.declared.keys.LabelKey.{LabelKey}
-use Rattle.sp_cast.specs.Keys.{label_of}
+use Rattle.sp_cast.specs.Keys.{scene_of_key, IsAdded}
 
 -- Keys are told apart as what they stand for.
 abbrev pub TellsAs : {K J : Type 0} → (K → K → Bool) → (J → J → Bool) → (K → J) → Type 0
@@ -38,15 +37,6 @@ insert-of eq same of tells keys key = by (list_any (eq key) keys) (list_any (sam
     by true false is = cc
     by false true is = cc
 
--- A place stands within or directly behind.
-pub place-low : {X : Type 0} (p : X → Bool) (xs : List X) → position_or_len p xs ≤ length xs
-place-low p [] = omega arith
-place-low p (x ∷ xs) = by (p x) (place-low p xs)
-  where
-    by : (t : Bool) → position_or_len p xs ≤ length xs → cond (not t) (1 + position_or_len p xs) 0 ≤ length (x ∷ xs)
-    by true low = omega arith
-    by false low = omega (arith, low)
-
 -- ---- entries gathered so far
 
 -- A set has the values of the entries, and groups have the entries.
@@ -54,49 +44,41 @@ pub record Gathered {X K J : Type 0} (of : K → J) (same : J → J → Bool) (v
   pub values : map of keys ≡ each_once same (map value xs)
   pub groups_are : groups ≡ grouped same value xs
 
-placed : {X K J : Type 0} (eq : K → K → Bool) (of : K → J) (same : J → J → Bool) (value : X → J) → TellsAs eq same of → (xs : List X) (keys : List K) (groups : List (List X)) (item : X) (key : K) (place : ℕ)
-    → of key ≡ value item → place ≡ position_or_len (eq key) keys → Gathered of same value xs keys groups → place ≡ position_or_len (same (value item)) (each_once same (map value xs))
-placed eq of same value tells xs keys groups item key place is at so_far =
-    at ∙ place-of eq same of tells key keys ∙ ap₂ (λ v vs. position_or_len (same v) vs) is so_far.values
+pub gathered-even : {X K J : Type 0} (of : K → J) (same : J → J → Bool) (value : X → J) (xs : List X) (keys : List K) (groups : List (List X)) → Gathered of same value xs keys groups → length keys ≡ length groups
+gathered-even of same value xs keys groups so_far =
+    sym (length-map keys of) ∙ ap length so_far.values
+    ∙ sym (ap length so_far.groups_are ∙ length-map (each_once same (map value xs)) (λ v. filter (λ x. same v (value x)) xs))
 
 -- One more is put into a group that there is, or behind all.
-pub gathered-place : {X K J : Type 0} (eq : K → K → Bool) (of : K → J) (same : J → J → Bool) (value : X → J) → TellsAs eq same of → (xs : List X) (keys : List K) (groups : List (List X)) (key : K) (place : ℕ)
-    → place ≡ position_or_len (eq key) keys → Gathered of same value xs keys groups → place ≤ length groups
-gathered-place eq of same value tells xs keys groups key place at so_far =
-    let low = place-low (eq key) keys in
-    let kept = sym (length-map keys of) ∙ ap length so_far.values in
-    let made = ap length so_far.groups_are ∙ length-map (each_once same (map value xs)) (λ v. filter (λ x. same v (value x)) xs) in
-    omega (arith, at, low, kept, made)
+pub added : {X K J : Type 0} (eq : K → K → Bool) (of : K → J) (same : J → J → Bool) (value : X → J) → TellsAs eq same of → (keys more : List K) (groups next : List (List X)) (item : X) (key : K) (place : ℕ)
+    → of key ≡ value item → place ≡ position_or_len (eq key) keys → more ≡ insert_key eq keys key → next ≡ add_at groups place item → IsAdded of same value keys more groups next item
+added eq of same value tells keys more groups next item key place is at inserted grown = record {
+  values = ap (map of) inserted ∙ insert-of eq same of tells keys key ∙ ap (insert_key same (map of keys)) is;
+  groups_are = grown ∙ ap (λ n. add_at groups n item) (at ∙ place-of eq same of tells key keys ∙ ap (λ v. position_or_len (same v) (map of keys)) is);
+}
 
-pub gathered-more : {X K J : Type 0} (eq : K → K → Bool) (of : K → J) (same : J → J → Bool) (value : X → J) → TellsAs eq same of → TellsSame same
-    → (all : List X) (i : ℕ) (item : X) (keys more : List K) (groups next : List (List X)) (key : K) (place : ℕ) → i < length all → item ≡ get_or all i item → of key ≡ value item
-    → place ≡ position_or_len (eq key) keys → more ≡ insert_key eq keys key → next ≡ add_at groups place item → Gathered of same value (take i all) keys groups
-    → Gathered of same value (take (i + 1) all) more next
-gathered-more eq of same value tells tell all i item keys more groups next key place inside here is at inserted added so_far =
+pub gathered-more : {X K J : Type 0} (of : K → J) (same : J → J → Bool) (value : X → J) → TellsSame same
+    → (all : List X) (i : ℕ) (d item : X) (keys more : List K) (groups next : List (List X)) → i < length all → item ≡ get_or all i d
+    → IsAdded of same value keys more groups next item → Gathered of same value (take i all) keys groups → Gathered of same value (take (i + 1) all) more next
+gathered-more of same value tell all i d item keys more groups next inside here added so_far =
     let xs = take i all in
-    let grown : take (i + 1) all ≡ xs ++ item ∷ [] = take_more all i item inside ∙ ap (λ x. xs ++ x ∷ []) (sym here) in
+    let grown : take (i + 1) all ≡ xs ++ item ∷ [] = take_more all i d inside ∙ ap (λ x. xs ++ x ∷ []) (sym here) in
     record {
-      values = ap (map of) inserted ∙ insert-of eq same of tells keys key ∙ ap₂ (insert_key same) so_far.values is ∙ sym (each_once-more same tell (map value xs) (value item))
+      values = added.values ∙ ap (λ vs. insert_key same vs (value item)) so_far.values ∙ sym (each_once-more same tell (map value xs) (value item))
           ∙ sym (ap (each_once same) (ap (map value) grown ∙ map-append value xs (item ∷ [])));
-      groups_are = added ∙ ap₂ (λ gs n. add_at gs n item) so_far.groups_are (placed eq of same value tells xs keys groups item key place is at so_far)
+      groups_are = added.groups_are ∙ ap₂ (λ gs vs. add_at gs (position_or_len (same (value item)) vs) item) so_far.groups_are so_far.values
           ∙ sym (grouped-more same tell value xs item) ∙ sym (ap (grouped same value) grown);
     }
 
 -- ---- keys of this crate
 
--- A text that is lent.
-abbrev pub lent_text : Bor (List ℕ) → List ℕ
-lent_text text = text.now
-
+-- Texts that are lent.
 abbrev pub lent_eq : Bor (List ℕ) → Bor (List ℕ) → Bool
 lent_eq one other = bytes_eq one.now other.now
 
 -- Keys of labels and of scenes.
 abbrev pub key_eq : LabelKey → LabelKey → Bool
 key_eq one other = (one.number == other.number) && bytes_eq one.path.now other.path.now
-
-abbrev pub scene_of_key : Option LabelKey → Option LabelOf
-scene_of_key key = option_map label_of key
 
 pub scenes-as : TellsAs (option_eq key_eq) scene_eq scene_of_key
 scenes-as None None = refl

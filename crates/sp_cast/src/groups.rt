@@ -2,8 +2,9 @@
 ghost use Rattle.std.specs.Prelude.{◌≡◌, ◌≤◌, ◌∷◌, ◌++◌, [], length, bytes_eq, IfOk, OnOk};
 ghost use Rattle.spec_cast.specs.Groups.{add_at, grouped};
 ghost use Rattle.spec_cast.specs.Sides.{name_of, scene_eq, scene_of};
+ghost use Rattle.sp_cast.specs.Keys.{lent_text, scene_of_key, IsAdded};
 
-use crate::keys::scene_key;
+use crate::keys::{LabelKey, scene_key};
 use crate::speech::Said;
 use indexmap::IndexSet;
 use std::alloc::{AllocError, Global};
@@ -82,10 +83,22 @@ pub(crate) fn by_name(alloc: Global, all: &[Said]) -> Result<Vec<Group<'_>>, All
     let mut names = IndexSet::new(alloc);
     let mut groups = Vec::new(alloc);
     for said in all {
-        let (place, _) = names.insert_full(said.name.as_str())?;
-        add_at(alloc, &mut groups, place, said)?;
+        add_by_name(alloc, &mut names, &mut groups, said)?;
     }
     Ok(groups)
+}
+
+fn add_by_name<'a>(
+    alloc: Global,
+    names: &mut IndexSet<&'a str>,
+    groups: &mut Vec<Group<'a>>,
+    said: &'a Said,
+) -> Result<(), AllocError>
+    requires { length names.old.keys ≡ length groups.old.items }
+    ensures { OnOk result (IsAdded lent_text bytes_eq name_of names.old.keys names.new.keys groups.old.items groups.new.items said.now) }
+{
+    let (place, _) = names.insert_full(said.name.as_str())?;
+    add_at(alloc, groups, place, said)
 }
 
 /// Those of each scene among the speeches of a group.
@@ -95,8 +108,20 @@ pub(crate) fn by_scene<'a>(alloc: Global, group: &Group<'a>) -> Result<Vec<Group
     let mut scenes = IndexSet::new(alloc);
     let mut groups = Vec::new(alloc);
     for spoken in &group.spoken {
-        let (place, _) = scenes.insert_full(scene_key(spoken.said))?;
-        add_at(alloc, &mut groups, place, spoken.said)?;
+        add_by_scene(alloc, &mut scenes, &mut groups, spoken.said)?;
     }
     Ok(groups)
+}
+
+fn add_by_scene<'a>(
+    alloc: Global,
+    scenes: &mut IndexSet<Option<LabelKey<'a>>>,
+    groups: &mut Vec<Group<'a>>,
+    said: &'a Said,
+) -> Result<(), AllocError>
+    requires { length scenes.old.keys ≡ length groups.old.items }
+    ensures { OnOk result (IsAdded scene_of_key scene_eq scene_of scenes.old.keys scenes.new.keys groups.old.items groups.new.items said.now) }
+{
+    let (place, _) = scenes.insert_full(scene_key(said))?;
+    add_at(alloc, groups, place, said)
 }

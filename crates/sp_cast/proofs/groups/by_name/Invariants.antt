@@ -1,7 +1,8 @@
 use Rattle.std.proofs.Common.{take}
 use Rattle.std.specs.Prelude.{bytes_eq}
 use Rattle.spec_cast.specs.Sides.{name_of}
-use Rattle.sp_cast.proofs.KeyLaws.{Gathered, lent_text}
+use Rattle.sp_cast.specs.Keys.{lent_text}
+use Rattle.sp_cast.proofs.KeyLaws.{Gathered}
 use Rattle.sp_cast.proofs.groups.by_name.Given as goal
 
 abbrev pub invariant-loop-said : goal.invariant-loop-said
