@@ -6,7 +6,9 @@ use Rattle.spec_script.specs.Letters.{ends}
 use Rattle.spec_labels.specs.Labels.{LabelOf}
 use Rattle.spec_print.specs.Sheets.{SheetLabelOf}
 use Rattle.spec_collation.specs.SheetLists.{PrintedOf, SheetListOf}
-use Rattle.spec_collation.specs.SheetReadings.{header_in, header_labels, PieceKind, title, labelled, no_sheet, kind_by_labels, kind_of, SheetsReading, sheets, broken, with_labelled, follows, read_piece, read_pieces, sheets_in}
+use Rattle.spec_collation.specs.SheetReadings.{header_in, header_labels, PieceKind, title, labelled, no_sheet, kind_by_labels, kind_of, SheetsReading, sheets, broken, with_title, with_labelled, is_first, follows, read_piece, read_pieces, sheets_in}
+use Rattle.std.proofs.lemmas.Grind.{common_steps}
+use Rattle.std.proofs.lemmas.Option.{slice_get_cases}
 use Rattle.std.proofs.lemmas.Bool.{cases_lt}
 use Rattle.std.proofs.lemmas.List.{take_at}
 use Rattle.std.proofs.lemmas.List.Sums.{passes_at_first, fails_before_first, split_at_first}
@@ -55,6 +57,19 @@ adds-labelled old piece header rest label cut stop labels follow = record { read
         ∙ ap (λ b. onto old (cond b (with_labelled label piece (later (Some label.last))) (broken k))) follow
         ∙ put (later (Some label.last))
         ∙ ap (λ (o : Option LabelOf). onto new (later o)) (sym (ap last_of_sheet (last-get old.labelled sheet)))
+
+pub adds-title : (old : SheetListOf) (piece header rest : List ℕ) → IsCut (λ b. b == 10) piece header rest → ends 46 header ≡ false → (length old.labelled == 0) ≡ true
+    → Adds old piece (record { titles = old.titles ++ ((piece ++ (12 ∷ [])) ∷ []); labelled = old.labelled })
+adds-title old piece header rest cut stop none = grind (arith, common_steps)
+
+labelled-before : (list : SheetListOf) → (length list.labelled == 0) ≡ false → is_first (last_label list) ≡ false
+labelled-before list some = grind (arith, common_steps, slice_get_cases)
+
+pub breaks-title : (old : SheetListOf) (piece header rest : List ℕ) → IsCut (λ b. b == 10) piece header rest → ends 46 header ≡ false → (length old.labelled == 0) ≡ false → Breaks old piece
+breaks-title old piece header rest cut stop some =
+    let kind : kind_of piece ≡ title = kind-header piece header rest cut ∙ ap (λ b. cond b (kind_by_labels (header_labels header)) title) stop in
+    let before = labelled-before old some in
+    record { reads = λ k later. ap (λ (it : PieceKind). read_piece k (last_label old) piece it later) kind ∙ ap (λ b. cond b (with_title piece (later None)) (broken k)) before }
 
 -- One piece of bytes and what is behind it.
 pub read-cut : (k : ℕ) (before : Option LabelOf) (bytes piece behind : List ℕ) → IsCut (λ b. b == 12) bytes piece behind

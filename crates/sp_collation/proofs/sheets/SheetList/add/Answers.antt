@@ -3,8 +3,18 @@ use Rattle.std.specs.Prelude.{Some}
 use Rattle.spec_script.specs.Letters.{ends}
 use Rattle.spec_collation.specs.SheetReadings.{header_labels, follows}
 use Rattle.sp_collation.specs.Reading.{Adds, last_label}
-use Rattle.sp_collation.proofs.AddLaws.{adds-labelled}
+use Rattle.sp_collation.proofs.AddLaws.{adds-labelled, adds-title, breaks-title}
 use Rattle.sp_collation.proofs.sheets.SheetList.add.Goals as goal
+
+pub returns-then-not-has_only_titles-clause-refused : goal.returns-then-not-has_only_titles-clause-refused
+returns-then-not-has_only_titles-clause-refused c =
+    breaks-title c.args.self.now c.args.piece.now c.in-Some.header.now _ c.in-Some.ensures (cc (c.if-not-ends_in_stop.true, c.ends_in_stop.ensures)) (cc (c.if-not-has_only_titles.true, c.has_only_titles.ensures))
+
+pub returns-then-not-ends_in_stop-clause-added : goal.returns-then-not-ends_in_stop-clause-added
+returns-then-not-ends_in_stop-clause-added c =
+    let old = c.args.self.now in
+    let added = adds-title old c.args.piece.now c.in-Some.header.now _ c.in-Some.ensures (cc (c.if-not-ends_in_stop.true, c.ends_in_stop.ensures)) (cc (c.if-not-has_only_titles.false, c.has_only_titles.ensures)) in
+    subst (Adds old c.args.piece.now) (ap (λ (b : List ℕ). record { titles = old.titles ++ (b ∷ []); labelled = old.labelled }) (sym c.requires) ∙ sym c.in_ok-add_title.ensures) added
 
 pub returns-clause-added : goal.returns-clause-added
 returns-clause-added c =
