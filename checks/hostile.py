@@ -1,5 +1,5 @@
 """Runs the built program where the outside fails it: full disks, closed pipes, signals, folders and links under the name of a script,
-files that may not be read or written, a million commands, clients that send anything, two sessions over one script. Each run has to end
+files that may not be read or written, a million commands, the largest record files, clients that send anything, two sessions over one script. Each run has to end
 with its status and line, and no script, lock or reply may be lost.
 
 What needs more than a user may do here, such as a small file system, is skipped, and said to be.
@@ -206,6 +206,45 @@ def command_statuses(place):
     edits = lines_of({"do": "splice", "line": 0, "from": 1, "to": 1, "text": "b"}, UNDO) * 100_000
     edited = b'{"lines":1,"ok":true,"sheets":1}\n' * 200_000
     yield from ends("edits and undos", place.run("desk", "f", text=edits), 0, edited)
+
+
+def records_of(text, lines, scenes):
+    """The record file of a text of so many lines, half of which begin a locked page, with so many locked scenes."""
+    records = {
+        "digest": digest(text),
+        "format": "fountain-desk",
+        "ids": list(range(lines)),
+        "marks": [0] * lines,
+        "next": lines,
+        "pages": [[f"{line}(100000)", line, 4095, 0] for line in range(lines // 2)],
+        "round": 0,
+        "scenes": [[f"{line}A", line] for line in range(scenes)],
+        "settings": {"paper": "letter", "speakers": True},
+        "version": 2,
+    }
+    return json.dumps(records, separators=(",", ":")).encode() + b"\n"
+
+
+def largest_records(place):
+    """The largest lists of records are read and saved as they are; a record more is refused."""
+    text = b"x\n" * 200_000
+    place.put("f", text)
+    records = records_of(text, 200_000, 100_000)
+    place.put("f.desk", records)
+    reply = f'{{"digest":"{digest(text)}","ok":true}}\n'.encode()
+    yield from differs("a save of the largest lists", place.run("desk", "f", text=lines_of(SAVE)), (0, reply, ""))
+    yield from differs("its files are the same", (place.text("f") == text, place.text("f.desk") == records), (True, True))
+    place.put("f.desk", records_of(text, 200_000, 100_001))
+    yield from differs("a record more", place.run("desk", "f", text=lines_of(SAVE)), (8, b"", "fountain: bad records, rule 5\n"))
+
+
+def old_versions(place):
+    """In a room an edit over a version that is 1,001 behind is refused."""
+    place.put("f", b"!a\n")
+    splices = [{"do": "splice", "line": 0, "from": 1, "to": 1, "text": "", "seat": "q", "seen": seen} for seen in (*range(1001), 0)]
+    replies = [{"lines": 1, "ok": True, "sheets": 1, "version": seen + 1} for seen in range(1001)]
+    replies.append({"no": "Stale", "version": 1001})
+    yield from differs("a room", place.replies(*splices, words=("room", "f")), (0, replies, ""))
 
 
 def names_of_the_program(place):
@@ -628,9 +667,9 @@ def two_sessions(place):
 
 
 CHECKS = [
-    statuses, record_statuses, command_statuses, names_of_the_program, little_memory, full_output, closed_pipes, closed_streams,
-    broken_input, pieces, wild_clients, folders_and_links, files_beside, permissions, short_stores, small_file_systems, read_only_file_systems, devices,
-    ended_sessions, two_sessions,
+    statuses, record_statuses, command_statuses, largest_records, old_versions, names_of_the_program, little_memory, full_output,
+    closed_pipes, closed_streams, broken_input, pieces, wild_clients, folders_and_links, files_beside, permissions, short_stores,
+    small_file_systems, read_only_file_systems, devices, ended_sessions, two_sessions,
 ]
 
 

@@ -20,10 +20,16 @@ pub const MOST: usize = 1 << 30;
 /// - `#` the label of a sheet that is written, none for a title sheet; `:` a row of it;
 /// - `?` the number of the status, and its line, where it isn't 0;
 /// - `;` how many stanzas were read and how many pages filled, where that is asked for;
-/// - `=` a line of what stands under `f` at the end, `~` one of what stands under `f.desk`, where that is asked for.
+/// - `=` a line of what stands under `f` at the end, `~` one of what stands under `f.desk`, where that is asked for;
+/// - `*` calls that fail in turn, of the source, the sink or the shelf, the status that tells of each, and how many there are at least,
+///   as `*o 6 20`;
+/// - `/` the number of the status and its line where what stands under `f.desk` at the end is cut, for each shorter file but that without its
+///   last line feed;
+/// - `.` a command that is done in a session over what stands under `f` at the end, then saved, and its packet asked for: `<` are the last
+///   lines of that session, and the packet has to bring the sheets from before it up to date.
 ///
 /// Any other line is a remark. A number with `*` before a line stands for so many of it. In what is written `[n]` stands for n spaces, but
-/// `[0]` for itself.
+/// `[0]` for itself. `\u{n}` stands for the character of the hexadecimal number n.
 #[derive(Drop)]
 pub struct Case {
     pub words: Vec<String>,
@@ -41,34 +47,33 @@ pub struct Case {
     pub counts: String,
     pub script_kept: Vec<u8>,
     pub records_kept: Vec<u8>,
+    pub turns: Vec<String>,
+    pub cut: String,
+    pub command: String,
+}
+
+/// The number of spaces before the first bracket, and what stands behind that; none for 0.
+fn spaces(text: &str) -> Option<(usize, &str)> {
+    let (digits, rest) = text.split_once(']')?;
+    match digits.parse() {
+        Ok(count) if count > 0 => Some((count, rest)),
+        _ => None,
+    }
 }
 
 /// A text in which `[n]` stands for n spaces, but `[0]` for itself.
-pub fn spaced(alloc: Global, row: &str) -> Result<Vec<u8>, AllocError> {
-    let text = row.as_bytes();
-    let mut bytes = Vec::new(alloc);
-    let mut count: Option<usize> = None;
-    for (place, byte) in text.iter().enumerate() {
-        match count {
-            Some(0) if *byte == b']' => {
-                bytes.extend_from_slice(b"[0]")?;
-                count = None;
-            }
-            Some(spaces) if *byte == b']' => {
-                bytes.extend_from_slice(vec![in alloc; b' '; spaces.min(100)]?.as_slice())?;
-                count = None;
-            }
-            Some(spaces) => {
-                let digit = byte.saturating_sub(b'0') as usize;
-                count = Some(spaces.saturating_mul(10).saturating_add(digit));
+fn spaced(alloc: Global, text: &str) -> Result<Vec<u8>, AllocError> {
+    let mut pieces = text.split('[');
+    let mut bytes = pieces.next().unwrap_or("").as_bytes().to_vec(alloc)?;
+    for piece in pieces {
+        match spaces(piece) {
+            Some((count, rest)) => {
+                bytes.extend_from_slice(&vec![in alloc; b' '; count]?)?;
+                bytes.extend_from_slice(rest.as_bytes())?;
             }
             None => {
-                let next = text.get(place.saturating_add(1));
-                if *byte == b'[' && next.is_some_and(|next| next.is_ascii_digit()) {
-                    count = Some(0);
-                } else {
-                    bytes.push(*byte)?;
-                }
+                bytes.push(b'[')?;
+                bytes.extend_from_slice(piece.as_bytes())?;
             }
         }
     }
@@ -148,54 +153,57 @@ fn add_words(alloc: Global, words: &mut Vec<String>, line: &str) -> Result<(), A
     Ok(())
 }
 
+/// A status as it is told: with a line it has an end.
+fn told(alloc: Global, line: &str) -> Result<String, AllocError> {
+    let end = if line.contains(' ') { "\n" } else { "" };
+    format!(in alloc; "{line}{end}")
+}
+
+/// Adds what a line says that has to come of the case, but for the sheets.
+fn add_outcome(alloc: Global, case: &mut Case, kind: u8, line: &str) -> Result<(), AllocError> {
+    let text = line.as_bytes();
+    match kind {
+        b'#' => {
+            case.written.extend_from_slice(&header(alloc, line)?)?;
+        }
+        b'+' => {
+            case.written.extend_from_slice(&spaced(alloc, line)?)?;
+        }
+        b'<' | b':' => {
+            add_line(&mut case.written, &spaced(alloc, line)?)?;
+        }
+        b'=' => add_line(&mut case.script_kept, text)?,
+        b'~' => add_line(&mut case.records_kept, text)?,
+        b'?' => case.status = told(alloc, line)?,
+        b';' => case.counts = String::from_str(alloc, line)?,
+        b'*' => case.turns.push(String::from_str(alloc, line)?)?,
+        b'/' => case.cut = told(alloc, line)?,
+        _ => {}
+    }
+    Ok(())
+}
+
 /// Adds what a line says, but for the sheets.
 fn add(alloc: Global, case: &mut Case, kind: u8, line: &str) -> Result<(), AllocError> {
     let text = line.as_bytes();
     match kind {
-        b'$' => add_words(alloc, &mut case.words, line),
-        b'|' => add_line(&mut case.script, text),
-        b'(' => add_line(&mut case.script, times(alloc, line)?.as_slice()),
-        b')' => add_line(&mut case.commands, times(alloc, line)?.as_slice()),
-        b'^' => add_bytes(&mut case.script, line),
-        b'"' => add_bytes(&mut case.commands, line),
-        b'\'' => add_bytes(&mut case.other, line),
-        b'@' => add_line(&mut case.records, text),
-        b'&' => add_line(&mut case.other, text),
-        b'>' => add_line(&mut case.commands, text),
-        b'=' => add_line(&mut case.script_kept, text),
-        b'~' => add_line(&mut case.records_kept, text),
-        b'-' => {
-            case.is_missing = true;
-            Ok(())
-        }
-        b'?' => {
-            let end = if line.contains(' ') { "\n" } else { "" };
-            case.status = format!(in alloc; "{line}{end}")?;
-            Ok(())
-        }
-        b';' => {
-            case.counts = String::from_str(alloc, line)?;
-            Ok(())
-        }
-        b'%' => {
-            case.piece = line.parse().unwrap_or(MOST);
-            Ok(())
-        }
-        b'!' => add_fails(case, line),
-        b'#' => {
-            let header = header(alloc, line)?;
-            case.written.extend_from_slice(header.as_slice())
-        }
-        b'+' => {
-            let line = spaced(alloc, line)?;
-            case.written.extend_from_slice(line.as_slice())
-        }
-        b'<' | b':' => {
-            let line = spaced(alloc, line)?;
-            add_line(&mut case.written, line.as_slice())
-        }
-        _ => Ok(()),
+        b'$' => add_words(alloc, &mut case.words, line)?,
+        b'|' => add_line(&mut case.script, text)?,
+        b'(' => add_line(&mut case.script, &times(alloc, line)?)?,
+        b')' => add_line(&mut case.commands, &times(alloc, line)?)?,
+        b'^' => add_bytes(&mut case.script, line)?,
+        b'"' => add_bytes(&mut case.commands, line)?,
+        b'\'' => add_bytes(&mut case.other, line)?,
+        b'@' => add_line(&mut case.records, text)?,
+        b'&' => add_line(&mut case.other, text)?,
+        b'>' => add_line(&mut case.commands, text)?,
+        b'-' => case.is_missing = true,
+        b'%' => case.piece = line.parse().unwrap_or(MOST),
+        b'!' => add_fails(case, line)?,
+        b'.' => case.command = String::from_str(alloc, line)?,
+        _ => add_outcome(alloc, case, kind, line)?,
     }
+    Ok(())
 }
 
 /// Nothing yet.
@@ -216,14 +224,46 @@ fn no_case(alloc: Global) -> Case {
         counts: String::new(alloc),
         script_kept: Vec::new(alloc),
         records_kept: Vec::new(alloc),
+        turns: Vec::new(alloc),
+        cut: String::new(alloc),
+        command: String::new(alloc),
     }
+}
+
+/// The character of the number before the first brace, and what stands behind that.
+fn escaped(text: &str) -> Option<(char, &str)> {
+    let (digits, rest) = text.split_once('}')?;
+    let mut number: u32 = 0;
+    for digit in digits.chars() {
+        number = number.checked_mul(16)?.checked_add(digit.to_digit(16)?)?;
+    }
+    Some((char::from_u32(number)?, rest))
+}
+
+/// The text with the characters that stand in it by their numbers.
+fn plain(alloc: Global, text: &str) -> Result<String, AllocError> {
+    let mut pieces = text.split("\\u{");
+    let mut plain = String::from_str(alloc, pieces.next().unwrap_or(""))?;
+    for piece in pieces {
+        match escaped(piece) {
+            Some((char, rest)) => {
+                plain.push(char)?;
+                plain.push_str(rest)?;
+            }
+            None => {
+                plain.push_str("\\u{")?;
+                plain.push_str(piece)?;
+            }
+        }
+    }
+    Ok(plain)
 }
 
 /// The case that a text says.
 pub fn case_of(alloc: Global, text: &str) -> Result<Case, AllocError> {
     let mut case = no_case(alloc);
     let mut in_sheet = false;
-    for line in text.split('\n') {
+    for line in plain(alloc, text)?.split('\n') {
         let (count, line) = repeated(line);
         let Some(kind) = line.as_bytes().first() else {
             continue;

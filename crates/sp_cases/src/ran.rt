@@ -1,21 +1,12 @@
 //! A case that is run.
-use crate::case::{Case, MOST, case_of};
+use crate::case::{Case, MOST};
+use crate::faults::{Faults, shown};
 use sp_kit::{Counter, Fetched, MemoryShelf, MemorySink, MemorySource, Shelf};
 use sp_run::{Status, fault_line, run};
 use std::alloc::{AllocError, Global};
-use std::process::Abort;
-use std::test::Fail;
-
-/// What is told of bytes.
-fn shown(alloc: Global, bytes: &[u8]) -> Result<String, AllocError> {
-    match String::from_utf8(bytes.to_vec(alloc)?) {
-        Ok(text) => Ok(text),
-        Err(_) => String::from_str(alloc, "no UTF-8"),
-    }
-}
 
 /// The number of a status and its line.
-pub fn told(alloc: Global, status: &Status) -> Result<String, AllocError> {
+fn told(alloc: Global, status: &Status) -> Result<String, AllocError> {
     let mut sink = MemorySink::new(alloc, 4096, MOST, Vec::new(alloc))?;
     if fault_line(status, &mut sink).is_err() {
         return String::from_str(alloc, "its line fails");
@@ -61,7 +52,7 @@ fn shelf_of(alloc: Global, case: &Case) -> Result<MemoryShelf, AllocError> {
 #[derive(Drop)]
 pub struct Outcome {
     pub told: String,
-    pub written: String,
+    pub written: Vec<u8>,
     pub counts: String,
     pub shelf: MemoryShelf,
 }
@@ -72,7 +63,7 @@ pub fn ran_over(
     alloc: Global,
     case: &Case,
     shelf: &mut MemoryShelf,
-) -> Result<(String, String, String), AllocError> {
+) -> Result<(String, Vec<u8>, String), AllocError> {
     let bytes = if case.commands.is_empty() {
         case.script.to_vec(alloc)?
     } else {
@@ -95,7 +86,7 @@ pub fn ran_over(
         &mut steps,
     );
     let counts = format!(in alloc; "{} {}", steps.reads(), steps.fills())?;
-    Ok((told(alloc, &status)?, shown(alloc, output.taken())?, counts))
+    Ok((told(alloc, &status)?, output.taken().to_vec(alloc)?, counts))
 }
 
 /// Runs the program on a case.
@@ -118,34 +109,20 @@ pub fn kept(alloc: Global, shelf: &mut MemoryShelf, name: &str) -> Result<Vec<u8
     }
 }
 
-/// Runs the program on a case, and asks that it comes out as it says.
-pub fn comes_out(rt: &impl Abort, alloc: Global, case: &Case, text: &str) -> Result<(), Fail> {
-    let Outcome {
-        told,
-        written,
-        counts,
-        mut shelf,
-    } = ran(alloc, case)?;
-    assert!(rt; told.starts_with(case.status.as_str()), "{told} {text}");
-    if !case.counts.is_empty() {
-        assert_eq!(rt; counts.as_str(), case.counts.as_str(), "{text}");
+/// Runs the program on a case, and compares what comes of it with what has to.
+pub fn compare_run(alloc: Global, case: &Case, faults: &mut Faults) -> Result<(), AllocError> {
+    let mut it = ran(alloc, case)?;
+    if !it.told.starts_with(case.status.as_str()) {
+        faults.tell("told", it.told.as_bytes(), case.status.as_bytes())?;
     }
-    let expected = shown(alloc, case.written.as_slice())?;
-    assert_eq!(rt; written.as_str(), expected.as_str(), "{text}");
+    if !case.counts.is_empty() {
+        faults.compare("counted", it.counts.as_bytes(), case.counts.as_bytes())?;
+    }
+    faults.compare("wrote", &it.written, &case.written)?;
     for (name, bytes) in [("f", &case.script_kept), ("f.desk", &case.records_kept)] {
         if !bytes.is_empty() {
-            let kept = kept(alloc, &mut shelf, name)?;
-            assert_eq!(rt; kept.as_slice(), bytes.as_slice(), "{text}");
+            faults.compare(name, &kept(alloc, &mut it.shelf, name)?, bytes)?;
         }
-    }
-    Ok(())
-}
-
-/// The same of cases between which stand empty lines.
-pub fn come_out(rt: &impl Abort, alloc: Global, cases: &str) -> Result<(), Fail> {
-    for text in cases.split("\n\n") {
-        let case = case_of(alloc, text)?;
-        comes_out(rt, alloc, &case, text)?;
     }
     Ok(())
 }
