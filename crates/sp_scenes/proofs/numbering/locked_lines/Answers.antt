@@ -51,3 +51,12 @@ returns-clause-labels c = subst (λ (ls : List LabelOf). All IsLabel ls) (sym (r
 
 pub returns-clause-count : goal.returns-clause-count
 returns-clause-count c = ap length (returns-clause-numbers c) ∙ length-line_labels c.args.records.now c.args.lines.now
+
+pub push_recorded-requires-clause-few : goal.push_recorded-requires-clause-few
+push_recorded-requires-clause-few c = omega (arith, c.loop-line.invariant.few, c.requires.few)
+
+pub push_new-requires-clause-few : goal.push_new-requires-clause-few
+push_new-requires-clause-few c = omega (arith, c.loop-line.invariant.few, c.requires.few)
+
+pub overflow_add-waiting : goal.overflow_add-waiting
+overflow_add-waiting c = omega (arith, c.loop-line.invariant.few, c.requires.few)
