@@ -1,4 +1,6 @@
-use Rattle.std.proofs.Common.{rules, ◌≡◌, ◌<◌, get_or, length, ap, ◌∙◌, arith}
+use Rattle.std.proofs.Common.{rules, ◌≡◌, ◌<◌, ◌≤◌, get_or, length, ap, ◌∙◌, arith}
+use Rattle.std.proofs.lemmas.List.{take_all}
+use Rattle.spec_cast.specs.Groups.{grouped}
 use Rattle.spec_cast.specs.Sides.{scene_eq, scene_of}
 use Rattle.spec_cast.proofs.Counts.{scenes-tell}
 use Rattle.sp_cast.specs.Keys.{scene_of_key}
@@ -16,3 +18,9 @@ loop-spoken-preserved c =
     let inside : c.loop-spoken.spoken-index < length c.args.group.now = let low = c.loop-spoken-test.true in omega (arith, low, size) in
     gathered-more scene_of_key scene_eq scene_of scenes-tell c.args.group.now c.loop-spoken.spoken-index c.spoken-item.result c.spoken.inside.said.now c.loop-spoken.scenes.keys _ c.loop-spoken.groups.items _
     inside (lent ∙ c.spoken-item.is ∙ ap (λ those. get_or those c.loop-spoken.spoken-index c.spoken-item.result) same) c.in_ok-add_by_scene.ensures c.loop-spoken.invariant
+
+pub returns : goal.returns
+returns c =
+    let same : c.deref-spoken-items.result.now ≡ c.args.group.now = search rules in
+    let past : length c.args.group.now ≤ c.loop-spoken.spoken-index = let size = ap length same in let end = c.loop-spoken-test.false in omega (arith, size, end) in
+    c.loop-spoken.invariant.groups_are ∙ ap (grouped scene_eq scene_of) (take_all c.loop-spoken.spoken-index c.args.group.now past)

@@ -1,7 +1,8 @@
-use Rattle.std.proofs.Common.{rules, ◌≡◌, ◌<◌, ◌∷◌, ◌++◌, [], true, false, length, map, get_or, append-nil, ap, sym, ◌∙◌, arith}
+use Rattle.std.proofs.Common.{rules, ◌≡◌, ◌<◌, ◌≤◌, ◌∷◌, ◌++◌, [], true, false, length, map, get_or, append-nil, ap, sym, ◌∙◌, arith}
 use Rattle.std.specs.Prelude.{string_bytes}
-use Rattle.std.proofs.lemmas.List.{map-append}
+use Rattle.std.proofs.lemmas.List.{map-append, take_all}
 use Rattle.spec_labels.specs.Labels.{label_text}
+use Rattle.spec_cast.specs.Sides.{sheets_in}
 use Rattle.sp_cast.specs.Keys.{label_of}
 use Rattle.sp_cast.proofs.SheetTexts.{labels-step, texts-step}
 use Rattle.sp_cast.proofs.writing.sheet_texts.Goals.{then-branch+in_ok-scene_label_text+in_ok-push, else-branch}
@@ -34,3 +35,9 @@ loop-spoken-preserved c =
             (ap (λ v. map string_bytes v.items) w.texts-is ∙ sym (append-nil old))
       ];
     }
+
+pub returns : goal.returns
+returns c =
+    let same : c.deref-spoken-items.result.now ≡ c.args.group.now = search rules in
+    let past : length c.args.group.now ≤ c.loop-spoken.spoken-index = let size = ap length same in let end = c.loop-spoken-test.false in omega (arith, size, end) in
+    c.loop-spoken.invariant.texts ∙ ap (λ those. map label_text (sheets_in those)) (take_all c.loop-spoken.spoken-index c.args.group.now past)
