@@ -1,6 +1,7 @@
 -- What the iterator has at its start are the clusters of the text, and they make it up.
 use Rattle.std.proofs.Common.{◌≡◌, ◌++◌, true, length, sym, ap, subst, OnOk, ◌∙◌, arith}
 use Rattle.std.specs.List.{concat}
+use Rattle.std.proofs.lemmas.Grind.{common_steps}
 use Rattle.unicode_segmentation.specs.Grapheme.{graphemes, is_grapheme_break}
 use Rattle.unicode_segmentation.specs.Iter.{graphemes_left}
 use Rattle.unicode_segmentation.proofs.SegmentsLemmas.{concat-segments}
@@ -28,3 +29,6 @@ returns-then-is_printable-clause-items c =
     let same = ap (byte_clusters c.args.style c.args.from) c.as_bytes.ensures.value
     ∙ sym (clusters_at-printable c.args.style c.args.from text (sym c.is_printable.ensures ∙ c.if-is_printable.true)) in
     subst (λ added. OnOk c.add_bytes.result (c.add_bytes.new.out.items ≡ c.args.out.now.items ++ added)) same c.add_bytes.ensures.items
+
+pub loop-piece-preserved : goal.loop-piece-preserved
+loop-piece-preserved c = grind (arith, common_steps)
