@@ -5,6 +5,9 @@ use Rattle.spec_labels.specs.Labels.{LabelOf, IsLabel}
 use Rattle.spec_labels.proofs.HeadingLabels.{unlocked_labels-IsLabel, length-unlocked_labels}
 use Rattle.sp_scenes.proofs.numbering.unlocked.Goals as goal
 
+pub loop-heading-preserved : goal.loop-heading-preserved
+loop-heading-preserved c = grind (arith, common_steps)
+
 pub returns-clause-numbers : goal.returns-clause-numbers
 returns-clause-numbers c = grind (arith, common_steps)
 
