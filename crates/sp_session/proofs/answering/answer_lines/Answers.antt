@@ -1,4 +1,5 @@
 use Rattle.std.proofs.Common.{[], ◌∷◌, ◌++◌, ap, arith}
+use Rattle.std.proofs.lemmas.Grind.{common_steps}
 use Rattle.spec_session.specs.Runs.{at_shelf, counts_of}
 use Rattle.spec_session.specs.Sessions.{streams}
 use Rattle.sp_session.specs.CutState.{CutState}
@@ -85,3 +86,6 @@ returns-in-Ok-Last g c =
     asks.comes.1 asks.comes.0)
     (answered g.R.Responder.answers g.R.Responder.stops (g.O.Sink.state c.args.output.now) (g.O.Sink.state c.loop-responder.output) (g.O.Sink.state c.answer_line-in-Ok-Last.new.output)
     (at_shelf c.args.responder.now (g.F.Shelf.state c.args.shelf.now) (counts_of (g.S.Steps.reads c.args.steps.now) (g.S.Steps.fills c.args.steps.now))) (at_shelf c.loop-responder.responder (g.F.Shelf.state c.loop-responder.shelf) (counts_of (g.S.Steps.reads c.loop-responder.steps) (g.S.Steps.fills c.loop-responder.steps))) (at_shelf c.answer_line-in-Ok-Last.new.responder (g.F.Shelf.state c.answer_line-in-Ok-Last.new.shelf) (counts_of (g.S.Steps.reads c.answer_line-in-Ok-Last.new.steps) (g.S.Steps.fills c.answer_line-in-Ok-Last.new.steps))) lines c.next.new.self.line c.in_default-answer_line.field-0 done reply)
+
+pub loop-responder-smaller : goal.loop-responder-smaller
+loop-responder-smaller g c = grind (arith, common_steps)

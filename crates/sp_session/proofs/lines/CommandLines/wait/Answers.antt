@@ -1,4 +1,5 @@
-use Rattle.std.proofs.Common.{refl}
+use Rattle.std.proofs.Common.{refl, arith}
+use Rattle.std.proofs.lemmas.Grind.{common_steps}
 use Rattle.sp_session.proofs.WaitLaws.{waits, goes-over}
 use Rattle.sp_session.proofs.lines.CommandLines.wait.Goals as goal
 
@@ -11,3 +12,18 @@ returns-then-is_over g c =
     let (full, some) = c.if-is_over.ensures.over.0 refl in
     goes-over (g.I.Source.state c.args.input.now) (g.I.Source.state c.loop-self.input) (g.I.Source.state c.read.new.input) c.args.self.now c.loop-self.self c.read.new.self
     bytes c.in-Ok-true.field-0 c.loop-self.invariant gave pends c.in-Ok-true.ensures.budget full some
+
+pub returns-then-is_long : goal.returns-then-is_long
+returns-then-is_long g c = grind (arith, common_steps)
+
+pub cut-requires : goal.cut-requires
+cut-requires g c = grind (arith, common_steps)
+
+pub returns-then-cut : goal.returns-then-cut
+returns-then-cut g c = grind (arith, common_steps)
+
+pub loop-self-preserved : goal.loop-self-preserved
+loop-self-preserved g c = grind (arith, common_steps)
+
+pub loop-self-smaller : goal.loop-self-smaller
+loop-self-smaller g c = grind (arith, common_steps)
