@@ -1,4 +1,5 @@
 use Rattle.std.proofs.Common.{◌≡◌, ◌+◌, ◌<◌, ◌≤◌, length, drop, slice_get, ap, sym, ◌∙◌, arith, length-append}
+use Rattle.std.proofs.lemmas.Grind.{common_steps}
 use Rattle.spec_text.specs.Lines.{line_texts}
 use Rattle.spec_pages.specs.Rows.{shifted_cell}
 use Rattle.spec_layout.specs.Cells.{ShowsParts, shown_cell}
@@ -46,3 +47,6 @@ loop-cell-preserved c =
       within = omega (arith, c.loop-cell.invariant.within, all, size, count, past);
       part = sym (slice_get-past front rest c.loop-cell.left c.part_count-count.result count past) ∙ sym (ap (λ vs. slice_get vs c.loop-cell.left) here) ∙ c.loop-cell.invariant.part;
     }
+
+pub loop-cell-preserved-then-is_left_out : goal.loop-cell-preserved-then-is_left_out
+loop-cell-preserved-then-is_left_out c = grind (arith, common_steps)
