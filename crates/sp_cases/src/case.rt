@@ -21,15 +21,14 @@ pub const MOST: usize = 1 << 30;
 /// - `?` the number of the status, and its line, where it isn't 0;
 /// - `;` how many stanzas were read and how many pages filled, where that is asked for;
 /// - `=` a line of what stands under `f` at the end, `~` one of what stands under `f.desk`, where that is asked for;
-/// - `*` calls that fail in turn, of the source, the sink or the shelf, the status that tells of each, and how many there are at least,
-///   as `*o 6 20`;
-/// - `/` the number of the status and its line where what stands under `f.desk` at the end is cut, for each shorter file but that without its
+/// - `*` calls that fail in turn, as `*o 6 20`: of the source, the sink or the shelf, each with this status, and so many at least;
+/// - `/` the number of a status and its line, which tell of the script that is left beside its record file, cut anywhere but at the
 ///   last line feed;
-/// - `.` a command that is done in a session over what stands under `f` at the end, then saved, and its packet asked for: `<` are the last
-///   lines of that session, and the packet has to bring the sheets from before it up to date.
+/// - `.` a command that is done over the files that are left, before a save and `packet`: `<` are then the last lines of that
+///   session, and the packet has to bring the sheets up to date.
 ///
-/// Any other line is a remark. A number with `*` before a line stands for so many of it. In what is written `[n]` stands for n spaces, but
-/// `[0]` for itself. `\u{n}` stands for the character of the hexadecimal number n.
+/// Any other line is a remark. A number with `*` before a line stands for so many of it. In what is written `[n]` stands for n
+/// spaces, but `[0]` for itself. In any line `\u{n}` stands for the character of the hexadecimal number n.
 #[derive(Drop)]
 pub struct Case {
     pub words: Vec<String>,
