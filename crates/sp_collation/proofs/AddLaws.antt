@@ -1,6 +1,6 @@
 -- The next sheet of a list.
 use Rattle.std.proofs.Common.{◌≡◌, inl, inr, ℕ, ◌+◌, ◌-◌, ◌<◌, ◌≤◌, ◌==◌, Bool, true, false, not, cond, List, [], ◌∷◌, ◌++◌, length, take, get_or, refl, ap, ap₂, sym, ◌∙◌, append_assoc, append-nil, length-append, ne_eqb, eqb-true, arith}
-use Rattle.std.specs.Prelude.{Option, Some, slice_get}
+use Rattle.std.specs.Prelude.{Option, Some, None, slice_get}
 use Rattle.std.specs.List.{after_first, slice_split, position_or_len}
 use Rattle.spec_script.specs.Letters.{ends}
 use Rattle.spec_labels.specs.Labels.{LabelOf}
