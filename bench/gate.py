@@ -2,7 +2,8 @@
 these for one more check of the crate as it stands, which the gate begins them with.
 
 `python3 bench/gate.py WORDS..` runs `rt ci WORDS..`, hands its lines on to standard error, and prints a table at the end, and the longest
-chain of crates one above the other. What an earlier run passed isn't proved again, so the table is whole only after `rt ci --anew` or on a machine without one.
+chain of crates one above the other, in processor time and by the clock. What an earlier run passed isn't proved again, so the table is whole
+only after `rt ci --anew` or on a machine without one.
 """
 
 import functools
@@ -53,16 +54,21 @@ def phase_of(words, place):
 
 
 class Meter:
-    """The processor seconds of each crate and phase, as far as they were seen."""
+    """The processor seconds of each crate and phase, and when the proof of each was first and last at work, as far as they were seen."""
 
     def __init__(self):
         self.seen = {}
+        self.spans = {}
         self.ended = threading.Event()
 
     def look(self, gate):
+        now = time.monotonic()
         for number, words, place, seconds in processes(gate):
             crate = words[words.index("--crate-name") + 1]
-            self.seen[number, crate, phase_of(words, place)] = seconds
+            phase = phase_of(words, place)
+            self.seen[number, crate, phase] = seconds
+            if phase == "proof":
+                self.spans.setdefault(crate, [now, now])[1] = now
 
     def watch(self, gate):
         while not self.ended.wait(0.5):
@@ -106,17 +112,17 @@ def crates_below():
     return {name.strip(): below.split() for name, _, below in parts}
 
 
-def print_chain(sums):
-    """The crates one above the other whose proofs took longest together."""
+def print_chain(taken, measure):
+    """The crates one above the other whose proofs took longest together, by the seconds that each took."""
     below = crates_below()
 
     @functools.cache
     def way(name):
         seconds, names = max((way(it) for it in below[name] if it in below), default=(0.0, ()))
-        return seconds + sums.get(name, {}).get("proof", 0.0), (*names, name)
+        return seconds + taken.get(name, 0.0), (*names, name)
 
     seconds, names = max(map(way, below))
-    print(f"\nlongest chain of proofs, {seconds / 60:.1f} minutes of one processor: {' '.join(names)}")
+    print(f"\nlongest chain of proofs, {seconds / 60:.1f} minutes {measure}: {' '.join(names)}")
 
 
 def main():
@@ -124,7 +130,8 @@ def main():
     begun = time.monotonic()
     status = run_gate(sys.argv[1:], meter)
     print_table(meter.table(), (time.monotonic() - begun) / 60)
-    print_chain(meter.table())
+    print_chain({crate: row["proof"] for crate, row in meter.table().items()}, "of processor time")
+    print_chain({crate: end - first for crate, (first, end) in meter.spans.items()}, "by the clock")
     return status
 
 

@@ -1,5 +1,6 @@
 """Checks of the repository that no proof makes: the one line of HANDLES, the sizes of files, the sections that comments
-cite, and the names of definitions, calls, tests and checks that the documents cite."""
+cite, the names of definitions, calls, tests, checks and edits that the documents cite, that each crate has an edit that must fail, and
+that each file of cases is run."""
 
 import pathlib
 import re
@@ -10,6 +11,8 @@ from report import tell
 TOP = pathlib.Path(__file__).resolve().parent.parent
 CRATES = TOP / "crates"
 MOST_LINES = 800
+# Crates that are tests alone.
+NO_EDITS = ("sp_case", "sp_cases")
 
 
 def sources(*endings):
@@ -53,14 +56,25 @@ def names():
 
 
 def edits():
+    for line in (TOP / "crates.txt").read_text().splitlines():
+        name = line.split(":")[0]
+        if name.startswith("sp_") and name not in NO_EDITS and not list((CRATES / name / "must-fail").glob("*.edit")):
+            yield f"{name} has no edit that must fail"
     for name in re.findall(r"`(\w+/\w+)`", (TOP / "docs/PROMISES.md").read_text()):
         crate, edit = name.split("/")
         if not (CRATES / crate / "must-fail" / f"{edit}.edit").exists():
             yield f"docs/PROMISES.md cites {name}, which is no edit that must fail"
 
 
+def cases():
+    named = set((CRATES / "sp_cases/args").read_text().split())
+    for path in (CRATES / "sp_cases/data").iterdir():
+        if path.stem not in named:
+            yield f"{path.relative_to(TOP)} is run by no word of crates/sp_cases/args"
+
+
 def main():
-    checks = [handles, sizes, sections, names, edits]
+    checks = [handles, sizes, sections, names, edits, cases]
     return tell("checks", f"{len(checks)} checks", [fault for check in checks for fault in check()])
 
 

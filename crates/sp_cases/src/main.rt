@@ -3,17 +3,14 @@
 //! that one, and ends with status 1.
 #![tactic(auto)]
 
-mod case;
-mod faults;
 mod packets;
 mod ran;
 mod turns;
 
-use crate::case::case_of;
-use crate::faults::Faults;
 use crate::packets::compare_packet;
 use crate::ran::compare_run;
 use crate::turns::{compare_cuts, compare_turns};
+use sp_case::{Faults, case_of};
 use std::alloc::{AllocError, Global};
 use std::process::ExitCode;
 use std::rt::{Env, Files};

@@ -1,7 +1,6 @@
 //! Cases of packets.
-use crate::case::{Case, case_of};
-use crate::faults::Faults;
 use crate::ran::{ran, ran_over, store};
+use sp_case::{Case, Faults, case_of};
 use sp_kit::MemoryShelf;
 use std::alloc::{AllocError, Global};
 

@@ -1,6 +1,5 @@
 //! A case that is run.
-use crate::case::{Case, MOST};
-use crate::faults::{Faults, shown};
+use sp_case::{Case, Faults, MOST, shown};
 use sp_kit::{Counter, Fetched, MemoryShelf, MemorySink, MemorySource, Shelf};
 use sp_run::{Status, fault_line, run};
 use std::alloc::{AllocError, Global};

@@ -1,7 +1,6 @@
 //! Cases that are run again and again: with each call failing in turn, and over record files that are cut.
-use crate::case::{Case, case_of};
-use crate::faults::Faults;
 use crate::ran::{kept, ran};
+use sp_case::{Case, Faults, case_of};
 use std::alloc::{AllocError, Global};
 
 /// The calls that fail of a case: of the source, of the sink or of the shelf.
@@ -61,6 +60,21 @@ pub fn compare_turns(
     Ok(())
 }
 
+/// Prints a script beside a record file, and compares what comes of it.
+fn compare_print(
+    alloc: Global,
+    print: &mut Case,
+    records: &[u8],
+    told: &str,
+    written: &[u8],
+    faults: &mut Faults,
+) -> Result<(), AllocError> {
+    print.records = records.to_vec(alloc)?;
+    let it = ran(alloc, print)?;
+    faults.compare("told", it.told.as_bytes(), told.as_bytes())?;
+    faults.compare("wrote", &it.written, written)
+}
+
 /// Prints the script that a case leaves beside each shorter record file, where it says what is told then. Without the end of its
 /// line the file says what the whole one does.
 pub fn compare_cuts(alloc: Global, case: &Case, faults: &mut Faults) -> Result<(), AllocError> {
@@ -69,20 +83,26 @@ pub fn compare_cuts(alloc: Global, case: &Case, faults: &mut Faults) -> Result<(
     }
     let mut shelf = ran(alloc, case)?.shelf;
     let records = kept(alloc, &mut shelf, "f.desk")?;
+    if records.is_empty() {
+        faults.tell("f.desk", b"", b"a record file")?;
+    }
     let mut print = case_of(alloc, "$print f")?;
     print.script = kept(alloc, &mut shelf, "f")?;
     print.records = records.to_vec(alloc)?;
-    let whole = ran(alloc, &print)?;
-    faults.compare("told", whole.told.as_bytes(), b"0")?;
-    for place in 1..records.len() {
-        print.records = records[..place].to_vec(alloc)?;
-        let it = ran(alloc, &print)?;
-        if place < records.len() - 1 {
-            faults.compare("told", it.told.as_bytes(), case.cut.as_bytes())?;
-            faults.compare("wrote", &it.written, b"")?;
-        } else {
-            faults.compare("wrote", &it.written, &whole.written)?;
-        }
+    let whole = ran(alloc, &print)?.written;
+    let end = records.len().saturating_sub(1);
+    for place in 1..end {
+        compare_print(
+            alloc,
+            &mut print,
+            &records[..place],
+            case.cut.as_str(),
+            b"",
+            faults,
+        )?;
+    }
+    for place in end..=records.len() {
+        compare_print(alloc, &mut print, &records[..place], "0", &whole, faults)?;
     }
     Ok(())
 }
