@@ -14,6 +14,7 @@ ghost use Rattle.sp_layout.specs.Bodies.{row_count};
 ghost use Rattle.sp_relay.specs.Kept.{CanSwap, laid_of, with_part};
 ghost use Rattle.sp_relay.specs.Outside.{StaysOutside};
 ghost use Rattle.sp_made.specs.Made.{IsLaidOf, first_rows};
+ghost use Rattle.sp_state.specs.TextEntries.{had_by};
 ghost use Rattle.sp_state.specs.Raised.{AreCarried, AreSegments, FitPages, put_back_in, raises_in, records_carried, records_raised, state_before};
 ghost use Rattle.sp_state.specs.Relaid.{body_before};
 
@@ -47,9 +48,10 @@ fn carry_pages(
 }
 
 /// Exchanges the anchors and rounds of page records with those that are kept for them.
-fn put_back_pages(records: &mut Records, moved: &mut Vec<Moved>)
+pub(crate) fn put_back_pages(records: &mut Records, moved: &mut Vec<Moved>)
     requires { FitPages records.old moved.old.items }
     ensures records { records.new ≡ put_back_in moved.old.items records.old }
+    ensures had { moved.new.items ≡ had_by records.old.pages moved.old.items }
     ensures fits { FitPages records.new moved.new.items }
     ensures back { put_back_in moved.new.items records.new ≡ records.old }
 {

@@ -1,5 +1,5 @@
 //! What is made of a state after a change of its parts; where there is no memory for it the change is taken back.
-ghost use Rattle.std.specs.Prelude.{◌≡◌, length, IfErr, IfOk, IfSome, OnOk, OnErr};
+ghost use Rattle.std.specs.Prelude.{◌≡◌, None, length, IfErr, IfOk, IfSome, OnOk, OnErr};
 ghost use Rattle.spec_text.specs.Edits.{refusal_of, replacement_of};
 ghost use Rattle.spec_text.specs.Ranges.{range_of};
 ghost use Rattle.spec_state.specs.Changes.{edited_state};
@@ -150,6 +150,27 @@ fn redo_in_room(
     }
 }
 
+/// The first rows of page records: those that are known, or else those that are found. They are known no longer.
+fn firsts_before(
+    alloc: Global,
+    lines: &Lines,
+    records: &Records,
+    layout: &KeptLayout,
+    known: &mut Option<Vec<usize>>,
+) -> Result<Vec<usize>, AllocError>
+    requires whole { IsWhole (state_of (text_of lines.now) records.now) }
+    requires laid { IsLaidOf (state_of (text_of lines.now) records.now) (laid_of layout.now) }
+    requires known { IfSome known.old (λ those. those.items ≡ first_rows (state_of (text_of lines.now) records.now)) }
+    ensures found { IfOk result (λ those. those.items ≡ first_rows (state_of (text_of lines.now) records.now)) }
+    ensures forgotten { known.new ≡ None }
+{
+    let none: &[usize] = &[];
+    match known.take() {
+        Some(firsts) => Ok(firsts),
+        None => laid_firsts(alloc, lines, records, layout, none),
+    }
+}
+
 /// Makes an edit. The part of the layout that it changes is laid out anew, the pages of its page window are filled again, and
 /// sheets are made those of the new state; so are labels where a heading comes or goes. The first rows of page records are found
 /// once, and once more where those before the edit aren't known. A fault forgets them, and changes nothing else.
@@ -189,11 +210,7 @@ pub(crate) fn edit_made<S: Steps>(
     ensures fills_at_most { EditFillsAtMost (state_of (text_of lines.old) records.old) (replacement_of lines.old.lines (edit_of edit)) (S.fills steps.old) (S.fills steps.new) }
     ensures unfilled { IsRefused (refusal_of (text_of lines.old) (edit_of edit)) → S.fills steps.new ≡ S.fills steps.old }
 {
-    let none: &[usize] = &[];
-    let before = match firsts.take() {
-        Some(before) => before,
-        None => laid_firsts(alloc, lines, records, layout, none)?,
-    };
+    let before = firsts_before(alloc, lines, records, layout, firsts)?;
     let EditedText {
         text,
         layout: part,

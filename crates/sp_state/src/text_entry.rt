@@ -14,10 +14,10 @@ ghost use Rattle.sp_made.specs.Made.{IsLaidOf, first_rows};
 ghost use Rattle.sp_state.specs.Fills.{IsExchangeOf};
 ghost use Rattle.sp_state.specs.Reads.{EditReads, EditReadsAtMost};
 
+use crate::carrying::put_back_pages;
 use crate::relaying::{Relaid, relay_and_raise};
 use sp_exchange::{UnrestoredText, change_text, restore_text};
 use sp_kit::Steps;
-use sp_locks::put_back;
 use sp_records::Records;
 use sp_refill::ExchangedRows;
 use sp_relay::{KeptLayout, LayoutPart};
@@ -172,10 +172,8 @@ pub fn undo_entry(
     } = entry;
     match restore_text(lines, stanzas, back, swapped) {
         Ok((displaced, others)) => {
-            if let Some(pages) = &mut records.pages {
-                put_back(pages, &mut raised);
-                put_back(pages, &mut moved);
-            }
+            put_back_pages(records, &mut raised);
+            put_back_pages(records, &mut moved);
             Ok(TextEntry {
                 lines: displaced,
                 stanzas: others,
@@ -228,10 +226,8 @@ pub fn redo_entry(
     } = entry;
     match restore_text(lines, stanzas, back, swapped) {
         Ok((displaced, others)) => {
-            if let Some(pages) = &mut records.pages {
-                put_back(pages, &mut moved);
-                put_back(pages, &mut raised);
-            }
+            put_back_pages(records, &mut moved);
+            put_back_pages(records, &mut raised);
             Ok(TextEntry {
                 lines: displaced,
                 stanzas: others,

@@ -1,14 +1,12 @@
-use Rattle.std.proofs.Common.{◌≡◌, List, Option, Some, length, ap, sym, ◌∙◌, subst}
+use Rattle.std.proofs.Common.{List, Option, Some, length, ap, sym, ◌∙◌, subst}
 use Rattle.std.specs.Prelude.{IfSome}
-use Rattle.spec_labels.specs.declared.RowKey.{RowKey}
-use Rattle.spec_labels.specs.PageRecords.{AreAnchored, PageRecordOf, record_starts}
+use Rattle.spec_labels.specs.PageRecords.{PageRecordOf}
 use Rattle.spec_pages.specs.Rows.{ElementOf}
 use Rattle.spec_records.specs.Kept.{RecordsOf}
 use Rattle.spec_state.specs.State.{State}
 use Rattle.spec_state.specs.Keeping.{state_of}
 use Rattle.spec_state.specs.StateSheets.{keys_in}
 use Rattle.spec_state.proofs.StateKeys.{state-row_keys}
-use Rattle.spec_state.proofs.StateLaws.{state-AreAnchored}
 use Rattle.spec_text.specs.Edits.{restored}
 use Rattle.sp_text.specs.DisplacedLines.{displaced_of}
 use Rattle.sp_text.specs.Gap.{text_of}

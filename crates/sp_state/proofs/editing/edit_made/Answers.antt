@@ -1,4 +1,5 @@
-use Rattle.std.proofs.Common.{◌≡◌, ℕ, List, Option, ap, sym, subst, ◌∙◌}
+use Rattle.std.proofs.Common.{None, Some, ◌≡◌, ℕ, List, Option, ap, sym, subst, ◌∙◌}
+use Rattle.std.specs.Prelude.{IfSome}
 use Rattle.spec_labels.specs.PageRecords.{PageRecordOf}
 use Rattle.spec_text.specs.Edits.{Replacement, replacement_of}
 use Rattle.spec_text.specs.Ranges.{range_of}
@@ -12,19 +13,22 @@ use Rattle.sp_text.specs.Gap.{text_of}
 use Rattle.sp_layout.specs.LaidOut.{LayoutOf}
 use Rattle.sp_relay.specs.Kept.{CanSwap, laid_of, with_part}
 use Rattle.sp_reflow.specs.Updates.{CanPutBack, with_taken}
-use Rattle.sp_made.specs.Made.{IsNumberedOf, laid_in}
+use Rattle.sp_made.specs.Made.{IsNumberedOf, first_rows, laid_in}
 use Rattle.sp_state.specs.Fills.{EditFills, EditFillsAtMost, IsExchangeOf}
 use Rattle.sp_state.proofs.FillLaws.{fills-edited, fills-within, none-filled}
 use Rattle.sp_state.proofs.LabelLaws.{labels-after}
 use Rattle.sp_state.proofs.RefilledLaws.{can-edit, stale-edited}
 use Rattle.sp_state.proofs.SheetLaws.{edited-unlocked, sheets-before}
+use Rattle.std.proofs.lemmas.Result.{err_from_is_err_and}
+use Rattle.sp_state.specs.Reads.{EditReads, EditReadsAtMost}
+use Rattle.sp_state.proofs.EntryLaws.{leads-back}
+use Rattle.sp_exchange.specs.Reads.{IsRefused}
 use Rattle.sp_state.proofs.editing.edit_made.Goals as goal
 
-pub returns-in_err-text-clause-fills_at_most : goal.returns-in_err-text-clause-fills_at_most
-returns-in_err-text-clause-fills_at_most g c =
-    let old : State = state_of (text_of c.args.lines.now) c.args.records.now in
-    let it : Replacement = replacement_of c.args.lines.now.lines (edit_of c.args.edit) in
-    subst (λ (n : ℕ). EditFillsAtMost old it (g.S.Steps.fills c.args.steps.now) n) (sym c.edit_entry.ensures.fills) (none-filled old (edited_state old it) (range_of it) (g.S.Steps.fills c.args.steps.now))
+-- What isn't known any longer is anything.
+none-known : {V : Type 0} (known : Option V) (P : V → Type 0) → known ≡ None → IfSome known P
+none-known None P is = tt
+none-known (Some those) P is = absurd (let bad : ⊥ = cc in bad)
 
 pub refilled-requires-clause-stale : goal.refilled-requires-clause-stale
 refilled-requires-clause-stale g c stops are =
@@ -35,58 +39,6 @@ refilled-requires-clause-stale g c stops are =
     let found : IsExchangeOf old it edit = subst (IsExchangeOf old it) (sym c.rows.view_is) c.in_ok-text.ensures.rows in
     stale-edited old new it edit c.args.pages.now.starts stops c.requires.whole (can-edit (text_of c.args.lines.now) c.args.records.now (edit_of c.args.edit) new c.in_ok-text.ensures.refuses c.in_ok-text.ensures.whole c.in_ok-text.ensures.state) c.in_ok-text.ensures.state c.requires.pages found are
 
-pub returns-in-Ok-clause-fills : goal.returns-in-Ok-clause-fills
-returns-in-Ok-clause-fills g c =
-    let old : State = state_of (text_of c.args.lines.now) c.args.records.now in
-    let new : State = state_of (text_of c.edit_entry.new.lines) c.edit_entry.new.records in
-    let it : Replacement = replacement_of c.args.lines.now.lines (edit_of c.args.edit) in
-    let edit : Exchange = record { first = c.rows.inside.first; old = c.rows.inside.old; new = c.rows.inside.new } in
-    let found : IsExchangeOf old it edit = subst (IsExchangeOf old it) (sym c.rows.view_is) c.in_ok-text.ensures.rows in
-    subst (λ (n : ℕ). EditFills old it n (g.S.Steps.fills c.refilled.new.steps)) c.edit_entry.ensures.fills
-    (fills-edited old new it edit c.args.pages.now.starts (g.S.Steps.fills c.edit_entry.new.steps) (g.S.Steps.fills c.refilled.new.steps) c.in_ok-text.ensures.state c.requires.pages found c.in-Ok.ensures.fills)
-
-pub returns-in-Ok-clause-fills_at_most : goal.returns-in-Ok-clause-fills_at_most
-returns-in-Ok-clause-fills_at_most g c =
-    let old : State = state_of (text_of c.args.lines.now) c.args.records.now in
-    let new : State = state_of (text_of c.edit_entry.new.lines) c.edit_entry.new.records in
-    let it : Replacement = replacement_of c.args.lines.now.lines (edit_of c.args.edit) in
-    let edit : Exchange = record { first = c.rows.inside.first; old = c.rows.inside.old; new = c.rows.inside.new } in
-    let found : IsExchangeOf old it edit = subst (IsExchangeOf old it) (sym c.rows.view_is) c.in_ok-text.ensures.rows in
-    subst (λ (n : ℕ). EditFillsAtMost old it n (g.S.Steps.fills c.refilled.new.steps)) c.edit_entry.ensures.fills
-    (fills-within old new it edit c.args.pages.now.starts (g.S.Steps.fills c.edit_entry.new.steps) (g.S.Steps.fills c.refilled.new.steps) c.in_ok-text.ensures.state c.requires.pages found c.refilled.ensures.at_most)
-
-pub returns-clause-fills_at_most : goal.returns-clause-fills_at_most
-returns-clause-fills_at_most g c =
-    let old : State = state_of (text_of c.args.lines.now) c.args.records.now in
-    let new : State = state_of (text_of c.edit_entry.new.lines) c.edit_entry.new.records in
-    let it : Replacement = replacement_of c.args.lines.now.lines (edit_of c.args.edit) in
-    let edit : Exchange = record { first = c.rows.inside.first; old = c.rows.inside.old; new = c.rows.inside.new } in
-    let found : IsExchangeOf old it edit = subst (IsExchangeOf old it) (sym c.rows.view_is) c.in_ok-text.ensures.rows in
-    subst (λ (n : ℕ). EditFillsAtMost old it n (g.S.Steps.fills c.refilled.new.steps)) c.edit_entry.ensures.fills
-    (fills-within old new it edit c.args.pages.now.starts (g.S.Steps.fills c.edit_entry.new.steps) (g.S.Steps.fills c.refilled.new.steps) c.in_ok-text.ensures.state c.requires.pages found c.refilled.ensures.at_most)
-
-pub returns-in-Ok-clause-back : goal.returns-in-Ok-clause-back
-returns-in-Ok-clause-back g c =
-    let swapped = c.in-Ok.swapped in
-    let part = c.in_ok-text.field-0.layout in
-    let led = c.in_ok-text.ensures.back in
-    let laid = c.in_ok-text.ensures.laid in
-    let starts = c.in-Ok.ensures.pages in
-    record {
-      can = record {
-        text = led.can;
-        layout = record {
-          can = subst (λ (it : LayoutOf). CanSwap it part.places (laid_of part.kept)) laid c.in_ok-text.ensures.swaps;
-          are = ap (λ (it : LayoutOf). with_part it part.places (laid_of part.kept)) (sym laid) ∙ c.in_ok-text.ensures.layout_back ∙ c.requires.laid ∙ sym (ap laid_in led.back);
-        };
-        pages = record {
-          can = subst (λ (those : List ℕ). CanPutBack those swapped) starts c.in-Ok.ensures.can;
-          are = ap (λ (those : List ℕ). with_taken those swapped) (sym starts) ∙ c.in-Ok.ensures.back ∙ c.requires.pages ∙ sym (ap pages_of led.back);
-        };
-      };
-      back = led.back;
-    }
-
 pub refilled-requires-clause-labels : goal.refilled-requires-clause-labels
 refilled-requires-clause-labels g c keeps =
     let old : State = state_of (text_of c.args.lines.now) c.args.records.now in
@@ -96,16 +48,6 @@ refilled-requires-clause-labels g c keeps =
     labels-after old new layout (with_part layout part.places (laid_of part.kept)) c.args.numbered.now.labels c.requires.whole.text c.in_ok-text.ensures.whole c.in_ok-text.ensures.laid
     (c.in_ok-text.ensures.layout_back ∙ c.requires.laid) (ap (λ (s : State). s.scenes) c.in_ok-text.ensures.state) c.requires.numbered.labels (c.keeps_headings-keeps_labels.ensures.0 keeps)
 
-pub returns-in_err-text-clause-numbered : goal.returns-in_err-text-clause-numbered
-returns-in_err-text-clause-numbered g c = subst (λ (s : State). IsNumberedOf s c.args.numbered.now) (sym c.in_err-text.ensures.same) c.requires.numbered
-
-pub returns-clause-numbered : goal.returns-clause-numbered
-returns-clause-numbered g c =
-    let old : State = state_of (text_of c.args.lines.now) c.args.records.now in
-    let now : State = state_of (text_of c.undo_in_room-text.new.lines) c.undo_in_room-text.new.records in
-    let same : now ≡ old = cc (c.undo_in_room-text.ensures.state, c.in_ok-text.ensures.back.back) in
-    subst (IsNumberedOf now) (sym c.in-Err.ensures.same_numbered) (subst (λ (s : State). IsNumberedOf s c.args.numbered.now) (sym same) c.requires.numbered)
-
 pub refilled-requires-clause-sheets : goal.refilled-requires-clause-sheets
 refilled-requires-clause-sheets g c none first =
     let old : State = state_of (text_of c.args.lines.now) c.args.records.now in
@@ -114,3 +56,96 @@ refilled-requires-clause-sheets g c none first =
     sheets-before old c.args.numbered.now.sheets c.args.pages.now.starts c.requires.whole
     (edited-unlocked old it (sym (ap (λ (s : State). s.pages) led) ∙ none)) (sym (ap (λ (s : State). s.round) led) ∙ first)
     c.requires.numbered.sheets c.requires.pages
+
+pub returns-in_err-text : goal.returns-in_err-text
+returns-in_err-text g c =
+    let old : State = state_of (text_of c.args.lines.now) c.args.records.now in
+    let it : Replacement = replacement_of c.args.lines.now.lines (edit_of c.args.edit) in
+    let left = c.in_err-text.ensures in
+    let now : State = state_of (text_of c.edit_entry.new.lines) c.edit_entry.new.records in
+    let p = err_from_is_err_and c.from_residual-in_err-text.result c.from_residual-in_err-text.ensures.1 in
+    rw (p.1, p.2) (record {
+      refuses = left.refuses;
+      state = tt;
+      whole = tt;
+      back = tt;
+      range = tt;
+      laid = left.same_layout ∙ c.requires.laid ∙ sym (ap laid_in left.same);
+      numbered = subst (λ (s : State). IsNumberedOf s c.args.numbered.now) (sym left.same) c.requires.numbered;
+      firsts = none-known c.firsts_before.new.known (λ those. those.items ≡ first_rows now) c.firsts_before.ensures.forgotten;
+      pages = c.requires.pages ∙ sym (ap pages_of left.same);
+      stanzas = c.edit_entry.ensures.stanzas;
+      same = left.same;
+      reads = tt;
+      at_most = c.edit_entry.ensures.at_most;
+      unread = c.edit_entry.ensures.unread;
+      fills = tt;
+      fills_at_most = subst (EditFillsAtMost old it (g.S.Steps.fills c.args.steps.now)) (sym c.edit_entry.ensures.fills) (none-filled old (edited_state old it) (range_of it) (g.S.Steps.fills c.args.steps.now));
+      unfilled = λ refused. c.edit_entry.ensures.fills;
+    })
+
+pub returns-in-Ok : goal.returns-in-Ok
+returns-in-Ok g c =
+    let old : State = state_of (text_of c.args.lines.now) c.args.records.now in
+    let new : State = state_of (text_of c.edit_entry.new.lines) c.edit_entry.new.records in
+    let it : Replacement = replacement_of c.args.lines.now.lines (edit_of c.args.edit) in
+    let edit : Exchange = record { first = c.rows.inside.first; old = c.rows.inside.old; new = c.rows.inside.new } in
+    let done = c.in_ok-text.ensures in
+    let filled = c.in-Ok.ensures in
+    let found : IsExchangeOf old it edit = subst (IsExchangeOf old it) (sym c.rows.view_is) done.rows in
+    let reads = g.S.Steps.reads c.args.steps.now in
+    let fills = g.S.Steps.fills c.args.steps.now in
+    record {
+      refuses = done.refuses;
+      state = done.state;
+      whole = done.whole;
+      back = leads-back old new c.in_ok-text.field-0.text c.in_ok-text.field-0.layout c.in-Ok.swapped (laid_of c.args.layout.now) (laid_of c.edit_entry.new.layout) c.refilled.new.pages.starts
+          done.back c.requires.laid done.laid done.swaps done.layout_back filled.pages filled.can (filled.back ∙ c.requires.pages);
+      range = done.range;
+      laid = done.laid;
+      numbered = filled.numbered;
+      firsts = done.firsts;
+      pages = filled.pages;
+      stanzas = c.edit_entry.ensures.stanzas;
+      same = tt;
+      reads = subst (EditReads old it reads) (sym c.refilled.ensures.reads) done.reads;
+      at_most = subst (EditReadsAtMost old it reads) (sym c.refilled.ensures.reads) c.edit_entry.ensures.at_most;
+      unread = λ refused. absurd (subst IsRefused done.refuses refused);
+      fills = subst (λ (n : ℕ). EditFills old it n (g.S.Steps.fills c.refilled.new.steps)) c.edit_entry.ensures.fills
+          (fills-edited old new it edit c.args.pages.now.starts (g.S.Steps.fills c.edit_entry.new.steps) (g.S.Steps.fills c.refilled.new.steps) done.state c.requires.pages found filled.fills);
+      fills_at_most = subst (λ (n : ℕ). EditFillsAtMost old it n (g.S.Steps.fills c.refilled.new.steps)) c.edit_entry.ensures.fills
+          (fills-within old new it edit c.args.pages.now.starts (g.S.Steps.fills c.edit_entry.new.steps) (g.S.Steps.fills c.refilled.new.steps) done.state c.requires.pages found c.refilled.ensures.at_most);
+      unfilled = λ refused. absurd (subst IsRefused done.refuses refused);
+    }
+
+pub returns : goal.returns
+returns g c =
+    let old : State = state_of (text_of c.args.lines.now) c.args.records.now in
+    let new : State = state_of (text_of c.edit_entry.new.lines) c.edit_entry.new.records in
+    let now : State = state_of (text_of c.undo_in_room-text.new.lines) c.undo_in_room-text.new.records in
+    let it : Replacement = replacement_of c.args.lines.now.lines (edit_of c.args.edit) in
+    let edit : Exchange = record { first = c.rows.inside.first; old = c.rows.inside.old; new = c.rows.inside.new } in
+    let done = c.in_ok-text.ensures in
+    let left = c.in-Err.ensures in
+    let found : IsExchangeOf old it edit = subst (IsExchangeOf old it) (sym c.rows.view_is) done.rows in
+    let same : now ≡ old = c.undo_in_room-text.ensures.state ∙ done.back.back in
+    record {
+      refuses = tt;
+      state = tt;
+      whole = tt;
+      back = tt;
+      range = tt;
+      laid = c.swap_in_room-other.ensures.layout ∙ done.layout_back ∙ c.requires.laid ∙ sym (ap laid_in same);
+      numbered = subst (IsNumberedOf now) (sym left.same_numbered) (subst (λ (s : State). IsNumberedOf s c.args.numbered.now) (sym same) c.requires.numbered);
+      firsts = none-known c.firsts_before.new.known (λ those. those.items ≡ first_rows now) c.firsts_before.ensures.forgotten;
+      pages = left.same ∙ c.requires.pages ∙ sym (ap pages_of same);
+      stanzas = c.undo_in_room-text.ensures.stanzas;
+      same = same;
+      reads = tt;
+      at_most = subst (EditReadsAtMost old it (g.S.Steps.reads c.args.steps.now)) (sym c.refilled.ensures.reads) c.edit_entry.ensures.at_most;
+      unread = λ refused. absurd (subst IsRefused done.refuses refused);
+      fills = tt;
+      fills_at_most = subst (λ (n : ℕ). EditFillsAtMost old it n (g.S.Steps.fills c.refilled.new.steps)) c.edit_entry.ensures.fills
+          (fills-within old new it edit c.args.pages.now.starts (g.S.Steps.fills c.edit_entry.new.steps) (g.S.Steps.fills c.refilled.new.steps) done.state c.requires.pages found c.refilled.ensures.at_most);
+      unfilled = λ refused. absurd (subst IsRefused done.refuses refused);
+    }

@@ -1,52 +1,22 @@
-use Rattle.std.proofs.Common.{◌≡◌, ap, sym, subst, ◌∙◌}
+use Rattle.std.proofs.Common.{◌≡◌, ap, sym, subst, ◌∙◌, refl}
 use Rattle.spec_state.specs.State.{State}
 use Rattle.spec_state.specs.Keeping.{state_of}
 use Rattle.sp_text.specs.Gap.{text_of}
 use Rattle.sp_relay.specs.Kept.{laid_of}
-use Rattle.sp_made.specs.Made.{IsNumberedOf}
+use Rattle.sp_made.specs.Made.{IsNumberedOf, laid_in}
 use Rattle.sp_state.specs.TextEntries.{IsSameTextEntry, IsTextUndone}
-use Rattle.sp_state.specs.Entries.{EntryState, CanRedo}
-use Rattle.sp_state.proofs.EntryLaws.{redo-again}
+use Rattle.sp_state.specs.Entries.{EntryState, CanRedo, undone_range, redone_state}
+use Rattle.sp_state.proofs.EntryLaws.{redo-again, leads-back}
 use Rattle.sp_state.proofs.LabelLaws.{labels-were}
 use Rattle.sp_state.proofs.SheetLaws.{none-mapped, sheets-before}
 use Rattle.sp_state.proofs.TextEntryLaws.{redone-undone}
+use Rattle.spec_locked_pages.specs.Segments.{pages_of}
 use Rattle.sp_state.proofs.editing.redo_made.Goals as goal
-
-pub returns-in-Err-turn_made-clause-handed_back : goal.returns-in-Err-turn_made-clause-handed_back
-returns-in-Err-turn_made-clause-handed_back c =
-    let state : State = state_of (text_of c.args.lines.now) c.args.records.now in
-    let other = c.in-Ok.other in
-    let back = c.undo_in_room-text.result in
-    let entry : EntryState = record { text = c.entry.inside.text; layout = c.entry.inside.layout; pages = c.entry.inside.pages } in
-    let can : CanRedo state entry = subst (CanRedo state) (sym c.entry.view_is) c.requires.can in
-    subst (λ (e : EntryState). IsSameTextEntry back e.text) c.entry.view_is
-    (redone-undone state c.entry.inside.text other back can.text c.in-Ok.ensures.entry (subst (λ (s : State). IsTextUndone s other back) c.in-Ok.ensures.state c.undo_in_room-text.ensures.entry))
-
-pub returns-in-Err-turn_made-clause-again : goal.returns-in-Err-turn_made-clause-again
-returns-in-Err-turn_made-clause-again c =
-    let state : State = state_of (text_of c.args.lines.now) c.args.records.now in
-    let other = c.in-Ok.other in
-    let back = c.undo_in_room-text.result in
-    let entry : EntryState = record { text = c.entry.inside.text; layout = c.entry.inside.layout; pages = c.entry.inside.pages } in
-    let can : CanRedo state entry = subst (CanRedo state) (sym c.entry.view_is) c.requires.can in
-    let same = redone-undone state c.entry.inside.text other back can.text c.in-Ok.ensures.entry (subst (λ (s : State). IsTextUndone s other back) c.in-Ok.ensures.state c.undo_in_room-text.ensures.entry) in
-    redo-again state (laid_of c.args.layout.now) (record { text = back; layout = c.in-Err-turn_made.field-0.layout; pages = c.in-Err-turn_made.field-0.pages }) entry c.requires.laid same
-    (record { can = c.in-Err-turn_made.ensures.again; same = c.in-Err-turn_made.ensures.leads_again }) c.in-Err-turn_made.ensures.handed_back can
 
 pub turn_made-requires-clause-labels : goal.turn_made-requires-clause-labels
 turn_made-requires-clause-labels c =
     let state : State = state_of (text_of c.args.lines.now) c.args.records.now in
     labels-were state (laid_of c.args.layout.now) c.args.numbered.now.labels c.redo_entry.new.records.scenes c.len-count.ensures.keeps c.requires.laid (ap (λ (s : State). s.scenes) c.in-Ok.ensures.state) c.requires.numbered.labels
-
-pub returns-in-Err-turn_made-clause-numbered : goal.returns-in-Err-turn_made-clause-numbered
-returns-in-Err-turn_made-clause-numbered c =
-    let state : State = state_of (text_of c.args.lines.now) c.args.records.now in
-    let now : State = state_of (text_of c.undo_in_room-text.new.lines) c.undo_in_room-text.new.records in
-    let same : now ≡ state = cc (c.undo_in_room-text.ensures.state, c.in-Ok.ensures.back.back) in
-    subst (IsNumberedOf now) (sym c.in-Err-turn_made.ensures.same_numbered) (subst (λ (s : State). IsNumberedOf s c.args.numbered.now) (sym same) c.requires.numbered)
-
-pub returns-in-Err-clause-numbered : goal.returns-in-Err-clause-numbered
-returns-in-Err-clause-numbered c = subst (λ (s : State). IsNumberedOf s c.args.numbered.now) (sym c.in-Err.ensures.same) c.requires.numbered
 
 pub turn_made-requires-clause-sheets : goal.turn_made-requires-clause-sheets
 turn_made-requires-clause-sheets c none first =
@@ -55,3 +25,73 @@ turn_made-requires-clause-sheets c none first =
     sheets-before old c.args.numbered.now.sheets c.args.pages.now.starts c.requires.was_whole
     (none-mapped _ old.pages (sym (ap (λ (s : State). s.pages) led) ∙ none)) (sym (ap (λ (s : State). s.round) led) ∙ first)
     c.requires.numbered.sheets c.requires.pages
+
+pub returns-in-Ok-turn_made : goal.returns-in-Ok-turn_made
+returns-in-Ok-turn_made c =
+    let state : State = state_of (text_of c.args.lines.now) c.args.records.now in
+    let after : State = state_of (text_of c.redo_entry.new.lines) c.redo_entry.new.records in
+    let redone = c.in-Ok.ensures in
+    let turned = c.in-Ok-turn_made.ensures in
+    let it = c.in-Ok-turn_made.field-0 in
+    record {
+      state = redone.state ∙ ap (redone_state state) c.entry.view_is;
+      back = leads-back state after c.in-Ok.other it.layout it.pages (laid_of c.args.layout.now) (laid_of c.turn_made.new.layout) c.turn_made.new.pages.starts
+          redone.back c.requires.laid turned.laid turned.swaps turned.part turned.pages turned.can (turned.back ∙ c.requires.pages);
+      range = redone.range ∙ ap undone_range c.entry.view_is;
+      laid = turned.laid;
+      numbered = turned.numbered;
+      firsts = turned.firsts;
+      pages = turned.pages;
+      stanzas = c.redo_entry.ensures.stanzas;
+      same = tt;
+      handed_back = tt;
+      again = tt;
+    }
+
+pub returns-in-Err-turn_made : goal.returns-in-Err-turn_made
+returns-in-Err-turn_made c =
+    let state : State = state_of (text_of c.args.lines.now) c.args.records.now in
+    let now : State = state_of (text_of c.undo_in_room-text.new.lines) c.undo_in_room-text.new.records in
+    let other = c.in-Ok.other in
+    let back = c.undo_in_room-text.result in
+    let undone = c.undo_in_room-text.ensures in
+    let left = c.in-Err-turn_made.ensures in
+    let entry : EntryState = record { text = c.entry.inside.text; layout = c.entry.inside.layout; pages = c.entry.inside.pages } in
+    let can : CanRedo state entry = subst (CanRedo state) (sym c.entry.view_is) c.requires.can in
+    let same : now ≡ state = undone.state ∙ c.in-Ok.ensures.back.back in
+    let own = redone-undone state c.entry.inside.text other back can.text c.in-Ok.ensures.entry (subst (λ (s : State). IsTextUndone s other back) c.in-Ok.ensures.state undone.entry) in
+    record {
+      state = tt;
+      back = tt;
+      range = tt;
+      laid = left.same_layout ∙ c.requires.laid ∙ sym (ap laid_in same);
+      numbered = subst (IsNumberedOf now) (sym left.same_numbered) (subst (λ (s : State). IsNumberedOf s c.args.numbered.now) (sym same) c.requires.numbered);
+      firsts = tt;
+      pages = left.same ∙ c.requires.pages ∙ sym (ap pages_of same);
+      stanzas = undone.stanzas;
+      same = same;
+      handed_back = subst (λ (e : EntryState). IsSameTextEntry back e.text) c.entry.view_is own;
+      again = redo-again state (laid_of c.args.layout.now) (record { text = back; layout = c.in-Err-turn_made.field-0.layout; pages = c.in-Err-turn_made.field-0.pages }) entry c.requires.laid own
+          (record { can = left.again; same = left.leads_again }) left.handed_back can;
+    }
+
+pub returns-in-Err : goal.returns-in-Err
+returns-in-Err c =
+    let state : State = state_of (text_of c.args.lines.now) c.args.records.now in
+    let left = c.in-Err.ensures in
+    let entry : EntryState = record { text = c.entry.inside.text; layout = c.entry.inside.layout; pages = c.entry.inside.pages } in
+    let can : CanRedo state entry = subst (CanRedo state) (sym c.entry.view_is) c.requires.can in
+    let back : EntryState = record { text = c.in-Err.field-0.back; layout = entry.layout; pages = entry.pages } in
+    record {
+      state = tt;
+      back = tt;
+      range = tt;
+      laid = c.requires.laid ∙ sym (ap laid_in left.same);
+      numbered = subst (λ (s : State). IsNumberedOf s c.args.numbered.now) (sym left.same) c.requires.numbered;
+      firsts = tt;
+      pages = c.requires.pages ∙ sym (ap pages_of left.same);
+      stanzas = c.redo_entry.ensures.stanzas;
+      same = left.same;
+      handed_back = subst (λ (e : EntryState). IsSameTextEntry c.in-Err.field-0.back e.text) c.entry.view_is left.handed_back;
+      again = redo-again state (laid_in state) back entry refl left.handed_back (record { can = can.layout.can; same = refl }) refl can;
+    }

@@ -1,4 +1,4 @@
-use Rattle.std.proofs.Common.{◌≡◌, List, ap, sym, subst, ◌∙◌}
+use Rattle.std.proofs.Common.{◌≡◌, List, ap, sym, subst, ◌∙◌, refl, ap₂}
 use Rattle.spec_text.specs.Edits.{changed, replacement_of}
 use Rattle.spec_text.specs.Lines.{TextState, line_texts}
 use Rattle.spec_text.specs.Ranges.{range_of}
@@ -22,6 +22,7 @@ use Rattle.sp_state.specs.TextEntries.{TextEntryState}
 use Rattle.sp_state.proofs.CarriedLaws.{carried-here, edited-here, edited-whole, leads-back, whole-before, whole-carry}
 use Rattle.sp_state.proofs.EditedScripts.{edited-range}
 use Rattle.sp_state.proofs.RelaidLaws.{edit-of, was-laid}
+use Rattle.std.proofs.lemmas.Result.{err_from_is_err_and}
 use Rattle.sp_state.proofs.text_entry.edit_entry.Goals as goal
 
 pub relay_and_raise-requires-clause-was : goal.relay_and_raise-requires-clause-was
@@ -70,53 +71,102 @@ relay_and_raise-requires-clause-can g c =
     let back = displaced_of c.in_ok-displaced.displaced in
     whole-carry text back c.args.records.now (whole-before (text_of c.args.lines.now) text back c.args.records.now c.in_ok-displaced.ensures.leads c.requires.whole)
 
-pub returns-in-Ok-clause-whole : goal.returns-in-Ok-clause-whole
-returns-in-Ok-clause-whole g c =
-    let old = text_of c.args.lines.now in
-    let text = text_of c.change_text.new.lines in
-    let edit = edit_of c.args.edit in
+pub returns-in_err-displaced : goal.returns-in_err-displaced
+returns-in_err-displaced g c =
     let records = c.args.records.now in
-    let after = c.relay_and_raise.new.records in
-    let ensures = c.in_ok-displaced.ensures in
-    let is = ensures.text ∙ ap (λ (those : RecordsOf). changed old (replacement_of old.lines edit) those.round) c.records.view_is in
-    edited-whole old text records after edit ensures.refuses is c.len-changed.ensures.keeps c.requires.whole
-    (edited-here old text (displaced_of c.in_ok-displaced.displaced) records after edit ensures.refuses is ensures.leads ensures.displaced c.in-Ok.ensures.records)
-
-pub returns-in-Ok-clause-range : goal.returns-in-Ok-clause-range
-returns-in-Ok-clause-range g c =
-    let entry : TextEntryState = record { lines = c.in_ok-displaced.displaced; stanzas = c.in_ok-displaced.swapped; moved = c.in-Ok.field-0.moved.items; raised = c.in-Ok.field-0.raised.items } in
-    edited-range (text_of c.args.lines.now) (edit_of c.args.edit) entry c.in_ok-displaced.ensures.refuses c.in_ok-displaced.ensures.displaced
-
-pub returns-in-Ok-clause-reads : goal.returns-in-Ok-clause-reads
-returns-in-Ok-clause-reads g c =
+    let left = c.in_err-displaced.ensures in
     let old = text_of c.args.lines.now in
     let it = replacement_of old.lines (edit_of c.args.edit) in
-    subst (λ (r : RecordsOf). ReadsWindow (line_texts old.lines) (line_texts (changed old it r.round).lines) (range_of it) (g.S.Steps.reads c.args.steps.now) (g.S.Steps.reads c.change_text.new.steps))
-    c.records.view_is c.in_ok-displaced.ensures.reads
+    let p = err_from_is_err_and c.from_residual.result c.from_residual.ensures.1 in
+    rw (p.1, p.2) (record {
+      refuses = left.refuses;
+      state = tt;
+      whole = tt;
+      back = tt;
+      range = tt;
+      room = tt;
+      stanzas = c.change_text.ensures.stanzas;
+      laid = tt;
+      layout_back = tt;
+      swaps = tt;
+      layout_room = tt;
+      rows = tt;
+      firsts = tt;
+      same = ap (λ (t : TextState). state_of t records) left.same;
+      same_layout = refl;
+      reads = tt;
+      at_most = subst (λ (r : RecordsOf). ReadsAtMost (line_texts old.lines) (line_texts (changed old it r.round).lines) (range_of it) (g.S.Steps.reads c.args.steps.now) (g.S.Steps.reads c.change_text.new.steps))
+          c.records.view_is c.change_text.ensures.at_most;
+      unread = c.change_text.ensures.unread;
+      fills = c.change_text.ensures.fills;
+    })
 
-pub returns-in-Ok-clause-at_most : goal.returns-in-Ok-clause-at_most
-returns-in-Ok-clause-at_most g c =
-    let old = text_of c.args.lines.now in
-    let it = replacement_of old.lines (edit_of c.args.edit) in
-    subst (λ (r : RecordsOf). ReadsAtMost (line_texts old.lines) (line_texts (changed old it r.round).lines) (range_of it) (g.S.Steps.reads c.args.steps.now) (g.S.Steps.reads c.change_text.new.steps))
-    c.records.view_is c.in_ok-displaced.ensures.at_most
-
-pub returns-in-Ok-clause-rows : goal.returns-in-Ok-clause-rows
-returns-in-Ok-clause-rows g c =
+pub returns-in-Ok : goal.returns-in-Ok
+returns-in-Ok g c =
     let old = text_of c.args.lines.now in
     let new = text_of c.change_text.new.lines in
+    let records = c.args.records.now in
+    let after = c.relay_and_raise.new.records in
     let edit = edit_of c.args.edit in
     let it = replacement_of old.lines edit in
-    let ensures = c.in_ok-displaced.ensures in
-    let is = ensures.text ∙ ap (λ (records : RecordsOf). changed old it records.round) c.records.view_is in
-    subst (λ (t : TextState). IsExchangeOf (state_of t c.args.records.now) it c.in-Ok.field-0.rows) ensures.leads
-    (c.in-Ok.ensures.rows it
-    (subst (λ (t : TextState). IsOfEdit (state_of t c.args.records.now) it new.lines c.change_text.new.stanzas.stanzas c.in_ok-displaced.swapped) (sym ensures.leads)
-    (subst (λ (ss : List StanzaOf). IsOfEdit (state_of old c.args.records.now) it new.lines ss c.in_ok-displaced.swapped) (sym ensures.stanzas)
-    (edit-of old new c.args.records.now edit c.in_ok-displaced.swapped ensures.refuses is c.len-changed.ensures.keeps c.requires.whole ensures.window))))
-
-pub returns-in-Ok-clause-back : goal.returns-in-Ok-clause-back
-returns-in-Ok-clause-back g c =
+    let back = displaced_of c.in_ok-displaced.displaced in
     let entry : TextEntryState = record { lines = c.in_ok-displaced.displaced; stanzas = c.in_ok-displaced.swapped; moved = c.in-Ok.field-0.moved.items; raised = c.in-Ok.field-0.raised.items } in
     let ensures = c.in_ok-displaced.ensures in
-    leads-back (text_of c.args.lines.now) (text_of c.change_text.new.lines) c.args.records.now c.relay_and_raise.new.records entry ensures.can ensures.leads c.in-Ok.ensures.raised c.in-Ok.ensures.moved c.in-Ok.ensures.back
+    let relaid = c.in-Ok.ensures in
+    let is = ensures.text ∙ ap (λ (those : RecordsOf). changed old it those.round) c.records.view_is in
+    let led = edited-here old new back records after edit ensures.refuses is ensures.leads ensures.displaced relaid.records in
+    record {
+      refuses = ensures.refuses;
+      state = led;
+      whole = edited-whole old new records after edit ensures.refuses is c.len-changed.ensures.keeps c.requires.whole led;
+      back = leads-back old new records after entry ensures.can ensures.leads relaid.raised relaid.moved relaid.back;
+      range = edited-range old edit entry ensures.refuses ensures.displaced;
+      room = ensures.room;
+      stanzas = ensures.stanzas;
+      laid = relaid.laid;
+      layout_back = relaid.part;
+      swaps = relaid.swaps;
+      layout_room = relaid.room;
+      rows = subst (λ (t : TextState). IsExchangeOf (state_of t records) it c.in-Ok.field-0.rows) ensures.leads
+          (relaid.rows it
+          (subst (λ (t : TextState). IsOfEdit (state_of t records) it new.lines c.change_text.new.stanzas.stanzas c.in_ok-displaced.swapped) (sym ensures.leads)
+          (subst (λ (ss : List StanzaOf). IsOfEdit (state_of old records) it new.lines ss c.in_ok-displaced.swapped) (sym ensures.stanzas)
+          (edit-of old new records edit c.in_ok-displaced.swapped ensures.refuses is c.len-changed.ensures.keeps c.requires.whole ensures.window))));
+      firsts = relaid.firsts;
+      same = tt;
+      same_layout = tt;
+      reads = subst (λ (r : RecordsOf). ReadsWindow (line_texts old.lines) (line_texts (changed old it r.round).lines) (range_of it) (g.S.Steps.reads c.args.steps.now) (g.S.Steps.reads c.change_text.new.steps))
+          c.records.view_is ensures.reads;
+      at_most = subst (λ (r : RecordsOf). ReadsAtMost (line_texts old.lines) (line_texts (changed old it r.round).lines) (range_of it) (g.S.Steps.reads c.args.steps.now) (g.S.Steps.reads c.change_text.new.steps))
+          c.records.view_is ensures.at_most;
+      unread = ensures.unread;
+      fills = ensures.fills;
+    }
+
+pub returns-in-Err : goal.returns-in-Err
+returns-in-Err g c =
+    let old = text_of c.args.lines.now in
+    let it = replacement_of old.lines (edit_of c.args.edit) in
+    let ensures = c.in_ok-displaced.ensures in
+    record {
+      refuses = tt;
+      state = tt;
+      whole = tt;
+      back = tt;
+      range = tt;
+      room = tt;
+      stanzas = c.restore_in_room.ensures.stanzas;
+      laid = tt;
+      layout_back = tt;
+      swaps = tt;
+      layout_room = tt;
+      rows = tt;
+      firsts = tt;
+      same = ap₂ state_of (c.restore_in_room.ensures.text ∙ ensures.leads) c.in-Err.ensures.same;
+      same_layout = c.in-Err.ensures.same_layout;
+      reads = tt;
+      at_most = subst (λ (r : RecordsOf). ReadsAtMost (line_texts old.lines) (line_texts (changed old it r.round).lines) (range_of it) (g.S.Steps.reads c.args.steps.now) (g.S.Steps.reads c.change_text.new.steps))
+          c.records.view_is ensures.at_most;
+      unread = ensures.unread;
+      fills = ensures.fills;
+    }
