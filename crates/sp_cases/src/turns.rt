@@ -75,8 +75,26 @@ fn compare_print(
     faults.compare("wrote", &it.written, written)
 }
 
-/// Prints the script that a case leaves beside each shorter record file, where it says what is told then. Without the end of its
-/// line the file says what the whole one does.
+/// Prints a script beside each shorter record file, and beside the whole one. Without the end of its line the file says what the whole
+/// one does.
+fn compare_shorter(
+    alloc: Global,
+    print: &mut Case,
+    records: &[u8],
+    told: &str,
+    faults: &mut Faults,
+) -> Result<(), AllocError> {
+    print.records = records.to_vec(alloc)?;
+    let whole = ran(alloc, print)?.written;
+    let end = records.len().saturating_sub(1);
+    for place in 1..end {
+        compare_print(alloc, print, &records[..place], told, b"", faults)?;
+    }
+    compare_print(alloc, print, &records[..end], "0", &whole, faults)?;
+    compare_print(alloc, print, records, "0", &whole, faults)
+}
+
+/// Compares what is told over each shorter record file than the one that a case leaves, where it says so.
 pub fn compare_cuts(alloc: Global, case: &Case, faults: &mut Faults) -> Result<(), AllocError> {
     if case.cut.is_empty() {
         return Ok(());
@@ -88,21 +106,5 @@ pub fn compare_cuts(alloc: Global, case: &Case, faults: &mut Faults) -> Result<(
     }
     let mut print = case_of(alloc, "$print f")?;
     print.script = kept(alloc, &mut shelf, "f")?;
-    print.records = records.to_vec(alloc)?;
-    let whole = ran(alloc, &print)?.written;
-    let end = records.len().saturating_sub(1);
-    for place in 1..end {
-        compare_print(
-            alloc,
-            &mut print,
-            &records[..place],
-            case.cut.as_str(),
-            b"",
-            faults,
-        )?;
-    }
-    for place in end..=records.len() {
-        compare_print(alloc, &mut print, &records[..place], "0", &whole, faults)?;
-    }
-    Ok(())
+    compare_shorter(alloc, &mut print, &records, case.cut.as_str(), faults)
 }
