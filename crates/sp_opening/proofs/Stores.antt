@@ -1,11 +1,11 @@
 -- Two stores, and what they leave on a shelf.
 use Rattle.std.proofs.Common.{◌≡◌, ◌≢◌, ℕ, ◌⊎◌, inl, inr, List, length, Option, Some, None, refl, sym, ap, subst, arith, length-append}
-use Rattle.std.specs.Prelude.{codes}
+use Rattle.std.specs.Prelude.{codes, Ok, Err, OnErr}
+use Rattle.std.specs.declared.result.Result.{Result}
 use Rattle.spec_text.specs.Lines.{text_bytes}
 use Rattle.spec_records.specs.RecordFile.{written}
 use Rattle.spec_state.specs.State.{State}
 use Rattle.spec_state.specs.Keeping.{state_kept}
-use Rattle.spec_wire.specs.Replies.{shelf}
 use Rattle.sp_kit.specs.Causes.{Rose}
 use Rattle.sp_kit.specs.Files.{Files, ShelfState, KeepsOthers}
 use Rattle.sp_opening.specs.Records.{records_name}
@@ -79,8 +79,19 @@ left-others it old new left =
     changes-map old.files new.files (LeftBoth (Rose old.faults new.faults) it) (λ before now. KeepsAllBut before now it.name it.beside) (λ before now both. both.others) left.files
 
 -- The files of a state, by their parts.
-pub stored-as : (name : List ℕ) (state : State) (it : TwoFiles) (old new : ShelfState) → it.name ≡ name → it.bytes ≡ text_bytes state.lines → it.beside ≡ records_name name
-    → it.records ≡ written state.lines (state_kept state) → StoredBoth it old new → StoredBoth (files_of name state) old new
-stored-as name state it old new named text beside records stored =
-    let same : it ≡ files_of name state = λ i. record { name = named i; bytes = text i; beside = beside i; records = records i } in
-    subst (λ (them : TwoFiles). StoredBoth them old new) same stored
+pub files-as : (name : List ℕ) (state : State) (it : TwoFiles) → it.name ≡ name → it.bytes ≡ text_bytes state.lines → it.beside ≡ records_name name → it.records ≡ written state.lines (state_kept state)
+    → it ≡ files_of name state
+files-as name state it named text beside records = λ i. record { name = named i; bytes = text i; beside = beside i; records = records i }
+
+-- ---- before a store
+
+nothing-left : (it : TwoFiles) (same : ShelfState) → StoreLeft it same same
+nothing-left it same = record {
+  later = omega arith;
+  files = changes-none same.files same.files (LeftBoth (Rose same.faults same.faults) it) (λ files. record { first = inl refl; second = inl refl; others = λ name not-first not-second. refl }) refl;
+}
+
+-- Where nothing was stored, the shelf is as it was.
+pub unstored-left : {T E : Type 0} (result : Result T E) (it : TwoFiles) (same : ShelfState) → OnErr result (StoreLeft it same same)
+unstored-left (Ok value) it same = tt
+unstored-left (Err fault) it same = nothing-left it same
