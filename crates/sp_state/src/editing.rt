@@ -10,7 +10,7 @@ ghost use Rattle.sp_text.specs.Gap.{text_of};
 ghost use Rattle.sp_exchange.specs.Reads.{IsRefused};
 ghost use Rattle.sp_exchange.specs.Restoring.{text_stanzas};
 ghost use Rattle.sp_reflow.specs.Filling.{FilledAtMost};
-ghost use Rattle.sp_relay.specs.Kept.{laid_of};
+ghost use Rattle.sp_relay.specs.Kept.{CanSwap, HasPartRoom, laid_of, with_part};
 ghost use Rattle.sp_made.specs.Made.{IsLaidOf, IsMadeOf, IsNumberedOf, first_rows};
 ghost use Rattle.sp_state.specs.TextEntries.{CanRedoText, CanUndoText, HasTextRoom, IsTextRedone, IsTextUndone, redone_text, undone_text};
 ghost use Rattle.sp_state.specs.Entries.{CanRedo, CanUndo, IsSameEntry, LeadsBack, LeadsForth, done_range, redone_state, undone_range, undone_state};
@@ -25,12 +25,32 @@ use sp_kit::Steps;
 use sp_made::{Made, Numbered, keeps_headings, laid_firsts, lay, make, number};
 use sp_records::Records;
 use sp_reflow::Pages;
-use sp_relay::KeptLayout;
+use sp_relay::{KeptLayout, LayoutPart};
 use sp_reread::Stanzas;
 use sp_text::{Edit, EditFault, Lines};
 use spec_pages::Paper;
 use std::alloc::{AllocError, Global};
 use std::mem;
+
+/// The labels and the sheets of a state, by its layout and the first rows of its pages.
+fn numbered_by(
+    alloc: Global,
+    lines: &Lines,
+    stanzas: &Stanzas,
+    records: &Records,
+    layout: &KeptLayout,
+    pages: &Pages,
+) -> Result<Numbered, AllocError>
+    requires whole { IsWhole (state_of (text_of lines.now) records.now) }
+    requires stanzas { stanzas.now.stanzas ≡ text_stanzas (text_of lines.now) }
+    requires laid { IsLaidOf (state_of (text_of lines.now) records.now) (laid_of layout.now) }
+    requires pages { pages.now.starts ≡ pages_of (state_of (text_of lines.now) records.now) }
+    ensures { IfOk result (IsNumberedOf (state_of (text_of lines.now) records.now)) }
+{
+    let none: &[usize] = &[];
+    let firsts = laid_firsts(alloc, lines, records, layout, none)?;
+    number(alloc, lines, stanzas, records, layout, &firsts, pages)
+}
 
 /// What is made of a state, with the first rows of its pages.
 fn remade(
@@ -46,10 +66,17 @@ fn remade(
     ensures { IfOk result (IsMadeOf (state_of (text_of lines.now) records.now)) }
 {
     let layout = lay(alloc, lines, stanzas, records)?;
-    let none: &[usize] = &[];
-    let firsts = laid_firsts(alloc, lines, records, &layout, none)?;
-    let numbered = number(alloc, lines, stanzas, records, &layout, &firsts, pages)?;
+    let numbered = numbered_by(alloc, lines, stanzas, records, &layout, pages)?;
     Ok(Made { layout, numbered })
+}
+
+/// Puts what was made anew in the place of what was made before; first rows of page records are known no longer.
+pub(crate) fn put_made(made: &mut Made, firsts: &mut Option<Vec<usize>>, other: Made)
+    ensures made { made.new ≡ other }
+    ensures firsts { firsts.new ≡ None }
+{
+    *made = other;
+    *firsts = None;
 }
 
 /// Sets whether a cue says that its speaker goes on. It fills no page.
@@ -150,6 +177,28 @@ fn redo_in_room(
     }
 }
 
+/// Takes an edit back from its text and its layout where there is room.
+fn take_back(
+    lines: &mut Lines,
+    stanzas: &mut Stanzas,
+    records: &mut Records,
+    layout: &mut KeptLayout,
+    text: TextEntry,
+    part: LayoutPart,
+)
+    requires can { CanUndoText (state_of (text_of lines.old) records.old) text }
+    requires stanzas { stanzas.old.stanzas ≡ text_stanzas (text_of lines.old) }
+    requires room { HasTextRoom lines.old stanzas.old text }
+    requires swaps { CanSwap (laid_of layout.old) part.places (laid_of part.kept) }
+    requires layout_room { HasPartRoom layout.old part.places part.kept }
+    ensures state { state_of (text_of lines.new) records.new ≡ undone_text (state_of (text_of lines.old) records.old) text }
+    ensures stanzas { stanzas.new.stanzas ≡ text_stanzas (text_of lines.new) }
+    ensures layout { laid_of layout.new ≡ with_part (laid_of layout.old) part.places (laid_of part.kept) }
+{
+    let _part = swap_in_room(layout, part);
+    let _text = undo_in_room(lines, stanzas, records, text);
+}
+
 /// The first rows of page records: those that are known, or else those that are found. They are known no longer.
 fn firsts_before(
     alloc: Global,
@@ -242,8 +291,7 @@ pub(crate) fn edit_made<S: Steps>(
             })
         }
         Err(_) => {
-            let _other = swap_in_room(layout, part);
-            let _text = undo_in_room(lines, stanzas, records, text);
+            take_back(lines, stanzas, records, layout, text, part);
             Err(EditFault::NoMemory)
         }
     }

@@ -18,12 +18,14 @@ ghost use Rattle.spec_layout.specs.Shown.{shape_of};
 ghost use Rattle.spec_state.specs.StateSheets.{body_sheets, locked_starts, rows_in, sheets_of_state};
 ghost use Rattle.sp_reread.specs.Cache.{RisesWithin, counted_on};
 ghost use Rattle.sp_exchange.specs.Reads.{IsRefused};
+ghost use Rattle.sp_exchange.specs.Restoring.{text_stanzas};
+ghost use Rattle.sp_made.specs.Made.{IsMadeOf};
 ghost use Rattle.sp_state.specs.Openings.{IsOpening};
 ghost use Rattle.sp_state.specs.Reads.{EditReads, EditReadsAtMost};
 ghost use Rattle.sp_state.specs.Fills.{EditFills, EditFillsAtMost};
 ghost use Rattle.sp_state.specs.Entries.{CanRedo, CanUndo, IsSameEntry, LeadsBack, LeadsForth, done_range, redone_state, undone_range, undone_state};
 
-use crate::editing::{edit_made, made_on, made_with_speakers, redo_made, undo_made};
+use crate::editing::{edit_made, made_on, made_with_speakers, put_made, redo_made, undo_made};
 use crate::entry::{Entry, Unturned};
 use crate::fault::OpeningFault;
 use crate::locking::{lock_pages_made, lock_scenes_made, next_round_made};
@@ -71,6 +73,27 @@ impl Model for Script {
         × IfSome s.firsts (λ those. those.items ≡ first_rows (state_of (text_of s.lines) s.records)) };
 }
 
+/// The stanzas of lines, and what is made of them with these records. Each stanza is read once, and each page filled once.
+fn read_and_make<S: Steps>(
+    alloc: Global,
+    lines: &Lines,
+    records: &Records,
+    steps: &mut S,
+) -> Result<(Stanzas, Made, Pages), AllocError>
+    requires { IsWhole (state_of (text_of lines.now) records.now) }
+    ensures stanzas { IfOk result (λ it. it.0.stanzas ≡ text_stanzas (text_of lines.now)) }
+    ensures made { IfOk result (λ it. IsMadeOf (state_of (text_of lines.now) records.now) it.1) }
+    ensures pages { IfOk result (λ it. it.2.starts ≡ pages_of (state_of (text_of lines.now) records.now)) }
+    ensures reads { OnOk result (S.reads steps.new ≡ counted_on (length (stanzas_of (line_texts lines.now.lines))) (S.reads steps.old)) }
+    ensures at_most { RisesWithin (length (stanzas_of (line_texts lines.now.lines))) (S.reads steps.old) (S.reads steps.new) }
+    ensures fills { OnOk result (S.fills steps.new ≡ many_more (S.fills steps.old) (length (pages_of (state_of (text_of lines.now) records.now)))) }
+    ensures fills_at_most { FilledAtMost (S.fills steps.old) (S.fills steps.new) (length (pages_of (state_of (text_of lines.now) records.now))) }
+{
+    let stanzas = Stanzas::new(alloc, lines, steps)?;
+    let (made, pages) = make(alloc, lines, &stanzas, records, steps)?;
+    Ok((stanzas, made, pages))
+}
+
 impl Script {
     /// The script of lines that were just read, without records. Each stanza is read once, and each page of the body
     /// filled once. `AllocError` comes for want of memory alone.
@@ -102,8 +125,7 @@ impl Script {
         ensures fills { OnOk result (S.fills steps.new ≡ many_more (S.fills steps.old) (length (pages_of (state_of (text_of lines) records)))) }
         ensures fills_at_most { FilledAtMost (S.fills steps.old) (S.fills steps.new) (length (pages_of (state_of (text_of lines) records))) }
     {
-        let stanzas = Stanzas::new(alloc, &lines, steps)?;
-        let (made, pages) = make(alloc, &lines, &stanzas, &records, steps)?;
+        let (stanzas, made, pages) = read_and_make(alloc, &lines, &records, steps)?;
         Ok(Script {
             lines,
             stanzas,
@@ -288,8 +310,7 @@ impl Script {
             &self.pages,
             on,
         )?;
-        self.made = made;
-        self.firsts = None;
+        put_made(&mut self.made, &mut self.firsts, made);
         Ok(())
     }
 
@@ -315,9 +336,8 @@ impl Script {
             paper,
             steps,
         )?;
-        self.made = made;
+        put_made(&mut self.made, &mut self.firsts, made);
         self.pages = pages;
-        self.firsts = None;
         Ok(())
     }
 

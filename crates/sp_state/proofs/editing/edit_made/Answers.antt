@@ -25,7 +25,7 @@ use Rattle.sp_state.proofs.EntryLaws.{leads-back}
 use Rattle.sp_exchange.specs.Reads.{IsRefused}
 use Rattle.sp_state.proofs.editing.edit_made.Goals as goal
 
--- What isn't known any longer is anything.
+-- Nothing is asked of what isn't known.
 none-known : {V : Type 0} (known : Option V) (P : V → Type 0) → known ≡ None → IfSome known P
 none-known None P is = tt
 none-known (Some those) P is = absurd (let bad : ⊥ = cc in bad)
@@ -122,24 +122,24 @@ pub returns : goal.returns
 returns g c =
     let old : State = state_of (text_of c.args.lines.now) c.args.records.now in
     let new : State = state_of (text_of c.edit_entry.new.lines) c.edit_entry.new.records in
-    let now : State = state_of (text_of c.undo_in_room-text.new.lines) c.undo_in_room-text.new.records in
+    let now : State = state_of (text_of c.take_back.new.lines) c.take_back.new.records in
     let it : Replacement = replacement_of c.args.lines.now.lines (edit_of c.args.edit) in
     let edit : Exchange = record { first = c.rows.inside.first; old = c.rows.inside.old; new = c.rows.inside.new } in
     let done = c.in_ok-text.ensures in
     let left = c.in-Err.ensures in
     let found : IsExchangeOf old it edit = subst (IsExchangeOf old it) (sym c.rows.view_is) done.rows in
-    let same : now ≡ old = c.undo_in_room-text.ensures.state ∙ done.back.back in
+    let same : now ≡ old = c.take_back.ensures.state ∙ done.back.back in
     record {
       refuses = tt;
       state = tt;
       whole = tt;
       back = tt;
       range = tt;
-      laid = c.swap_in_room-other.ensures.layout ∙ done.layout_back ∙ c.requires.laid ∙ sym (ap laid_in same);
+      laid = c.take_back.ensures.layout ∙ done.layout_back ∙ c.requires.laid ∙ sym (ap laid_in same);
       numbered = subst (IsNumberedOf now) (sym left.same_numbered) (subst (λ (s : State). IsNumberedOf s c.args.numbered.now) (sym same) c.requires.numbered);
       firsts = none-known c.firsts_before.new.known (λ those. those.items ≡ first_rows now) c.firsts_before.ensures.forgotten;
       pages = left.same ∙ c.requires.pages ∙ sym (ap pages_of same);
-      stanzas = c.undo_in_room-text.ensures.stanzas;
+      stanzas = c.take_back.ensures.stanzas;
       same = same;
       reads = tt;
       at_most = subst (EditReadsAtMost old it (g.S.Steps.reads c.args.steps.now)) (sym c.refilled.ensures.reads) c.edit_entry.ensures.at_most;

@@ -1,4 +1,5 @@
-use Rattle.std.proofs.Common.{List, ap, sym, subst, ◌∙◌}
+use Rattle.std.proofs.Common.{List, refl, ap, sym, subst, ◌∙◌}
+use Rattle.std.proofs.lemmas.Result.{err_from_is_err_and}
 use Rattle.spec_text.specs.Edits.{restored}
 use Rattle.spec_pages.specs.Rows.{ElementOf}
 use Rattle.spec_records.specs.Kept.{RecordsOf}
@@ -63,20 +64,65 @@ exchanged_rows-rows-requires c =
       };
     }
 
-pub returns-in-Ok-clause-rows : goal.returns-in-Ok-clause-rows
-returns-in-Ok-clause-rows c = λ it edit.
+pub returns-in_err-part : goal.returns-in_err-part
+returns-in_err-part c =
+    let p = err_from_is_err_and c.from_residual.result c.from_residual.ensures.1 in
+    rw p.1 (record {
+      laid = tt;
+      part = tt;
+      swaps = tt;
+      room = tt;
+      rows = λ it edit. tt;
+      records = tt;
+      raised = tt;
+      moved = tt;
+      back = tt;
+      firsts = tt;
+      same = refl;
+      same_layout = c.in_err-part.ensures.same;
+    })
+
+pub returns-in-Ok : goal.returns-in-Ok
+returns-in-Ok c =
     let text = text_of c.args.lines.now in
     let back = displaced_of c.args.displaced.now in
     let before : State = state_before text back c.args.records.now in
+    let relaid = c.in_ok-part.ensures in
+    let carried = c.in-Ok.ensures in
     let was = ap (λ (l : LayoutOf). l.body.elements) (ap laid_of c.layout.view_is ∙ c.requires.was.was) in
-    let laid = ap laid_of c.layout-2.view_is ∙ c.in_ok-part.ensures.layout ∙ ap (λ (r : RecordsOf). keyed c.args.lines.now.lines (layout_of r.speakers c.args.lines.now.lines)) c.records.view_is in
+    let speakers = ap (λ (r : RecordsOf). keyed c.args.lines.now.lines (layout_of r.speakers c.args.lines.now.lines)) c.records.view_is in
+    let laid = ap laid_of c.layout-2.view_is ∙ relaid.layout ∙ speakers in
     record {
-      is = λ a b window. c.exchanged_rows-rows.ensures.found before it a b edit
-          (subst (λ (es : List ElementOf). AreAhead c.args.stanzas.now.stanzas c.args.swapped.now es c.rows_ahead-ahead.result) was c.rows_ahead-ahead.ensures)
-          (body-now text back c.args.records.now it c.args.stanzas.now.stanzas c.args.swapped.now _ edit laid) window;
+      laid = subst (λ (r : RecordsOf). IsLaidOf (state_of text r) (laid_of c.relay_edit.new.kept)) (sym carried.records) (relaid.layout ∙ speakers);
+      part = relaid.back;
+      swaps = relaid.again;
+      room = relaid.returns;
+      rows = λ it edit. record {
+        is = λ a b window. c.exchanged_rows-rows.ensures.found before it a b edit
+            (subst (λ (es : List ElementOf). AreAhead c.args.stanzas.now.stanzas c.args.swapped.now es c.rows_ahead-ahead.result) was c.rows_ahead-ahead.ensures)
+            (body-now text back c.args.records.now it c.args.stanzas.now.stanzas c.args.swapped.now _ edit laid) window;
+      };
+      records = carried.records;
+      raised = carried.raised;
+      moved = carried.moved;
+      back = carried.back;
+      firsts = carried.firsts;
+      same = tt;
+      same_layout = tt;
     }
 
-pub returns-in-Ok-clause-laid : goal.returns-in-Ok-clause-laid
-returns-in-Ok-clause-laid c =
-    subst (λ (r : RecordsOf). IsLaidOf (state_of (text_of c.args.lines.now) r) (laid_of c.relay_edit.new.kept)) (sym c.in-Ok.ensures.records)
-    (c.in_ok-part.ensures.layout ∙ ap (λ (r : RecordsOf). keyed c.args.lines.now.lines (layout_of r.speakers c.args.lines.now.lines)) c.records.view_is)
+pub returns-in-Err : goal.returns-in-Err
+returns-in-Err c = record {
+  laid = tt;
+  part = tt;
+  swaps = tt;
+  room = tt;
+  rows = λ it edit. tt;
+  records = tt;
+  raised = tt;
+  moved = tt;
+  back = tt;
+  firsts = tt;
+  same = c.in-Err.ensures.same;
+  same_layout = c.swap_in_room-other.ensures.layout ∙ c.in_ok-part.ensures.back;
+}
