@@ -24,15 +24,30 @@ fn segment_end(starts: &[usize], place: usize, rows: usize) -> usize
     }
 }
 
+/// How many rows a text had before a change, and has after it.
+#[derive(Clone, Copy)]
+struct RowCounts {
+    before: usize,
+    after: usize,
+}
+
 /// Whether a segment's rows before a change are the same as after it.
-fn same_segment(texts: &BothTexts<'_>, before: &[usize], after: &[usize], place: usize) -> bool
+fn same_segment(
+    texts: &BothTexts<'_>,
+    rows: RowCounts,
+    before: &[usize],
+    after: &[usize],
+    place: usize,
+) -> bool
+    requires rows_before { rows.before ≡ row_count texts.now.olds }
+    requires rows_after { rows.after ≡ row_count texts.now.news }
     requires before { AreSegments (row_count texts.now.olds) (length before.now) before.now }
     requires after { AreSegments (row_count texts.now.news) (length before.now) after.now }
     requires inside { place < length before.now }
     ensures { (olds news : Option (List LabelOf)) → result ≡ same_rows (slice_range (shown_rows texts.now.old olds texts.now.olds) (slice_index before.now place) (slice_index_or before.now (place + 1) (row_count texts.now.olds))) (slice_range (shown_rows texts.now.new news texts.now.news) (slice_index after.now place) (slice_index_or after.now (place + 1) (row_count texts.now.news))) }
 {
-    let to = segment_end(before, place, texts.rows_before());
-    let end = segment_end(after, place, texts.rows_after());
+    let to = segment_end(before, place, rows.before);
+    let end = segment_end(after, place, rows.after);
     texts.same_rows(before[place], to, after[place], end)
 }
 
@@ -49,9 +64,13 @@ pub(crate) fn raises(
     requires after { AreSegments (row_count texts.now.news) (length records.now) after.now }
     ensures { IfOk result (λ moved. (olds news : Option (List LabelOf)) → moved.items ≡ raises round 0 (segment_rows (shown_rows texts.now.old olds texts.now.olds) before.now) (segment_rows (shown_rows texts.now.new news texts.now.news) after.now) records.now) }
 {
+    let rows = RowCounts {
+        before: texts.rows_before(),
+        after: texts.rows_after(),
+    };
     let mut moved = Vec::new(alloc);
     for (index, record) in records.iter().enumerate() {
-        if !same_segment(texts, before, after, index) {
+        if !same_segment(texts, rows, before, after, index) {
             moved.push(Moved {
                 index: index as u64,
                 line: record.line,
