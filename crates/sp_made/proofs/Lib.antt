@@ -12,3 +12,4 @@ mod LinesOfHeadings
 mod OpenedHeadings
 mod SameHeadings
 pub mod LaidHeadings
+mod LockedSheets

@@ -1,8 +1,9 @@
--- The sheets of pages that aren't locked, by the marks of rows alone.
-use Rattle.std.specs.Prelude.{◌≡◌, ℕ, ◌+◌, ◌<◌, ◌≤◌, max, false, List, [], ◌∷◌, length, take, drop, fold, slice_range, slice_index_or}
+-- The sheets of pages that aren't locked, by the marks of rows alone, and sheets of locked pages that stay but for their rounds.
+use Rattle.std.specs.Prelude.{◌≡◌, ℕ, ◌+◌, ◌<◌, ◌≤◌, max, false, List, [], ◌∷◌, length, map, take, drop, fold, slice_range, slice_index_or}
 use Rattle.spec_labels.specs.Labels.{plain_label}
-use Rattle.spec_labels.specs.PageRecords.{SheetOf}
+use Rattle.spec_labels.specs.PageRecords.{PageRecordOf, SheetOf, Covers, sheets_of_records}
 use Rattle.spec_layout.specs.Shown.{Shown}
+use Rattle.spec_state.specs.StateLabels.{page_label_of}
 
 abbrev pub mark_of : Shown → ℕ
 mark_of it = it.mark
@@ -32,3 +33,11 @@ pub record AreSameOutside (sheets others : List SheetOf) (from to : ℕ) : Type 
   pub within : from ≤ length sheets
   pub before : take from sheets ≡ take from others
   pub behind : to < length sheets → drop to sheets ≡ drop to others
+
+-- They are the sheets of page records with the labels of these, with these first rows, on these pages.
+pub record AreLockedSheets (records : List PageRecordOf) (firsts pages : List ℕ) (sheets : List SheetOf) : Type 0 where
+  pub rows : ℕ
+  pub olds : List PageRecordOf
+  pub labels : map page_label_of olds ≡ map page_label_of records
+  pub are : sheets ≡ sheets_of_records rows olds firsts pages
+  pub cover : Covers 0 sheets rows

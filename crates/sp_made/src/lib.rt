@@ -3,6 +3,7 @@
 
 mod heading_rows;
 mod headings;
+mod locked;
 mod made;
 mod numbered;
 mod stops;

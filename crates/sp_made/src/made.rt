@@ -18,9 +18,10 @@ ghost use Rattle.sp_reflow.specs.Filling.{FilledAtMost};
 ghost use Rattle.sp_reflow.specs.Updates.{with_taken, CanPutBack};
 ghost use Rattle.sp_relay.specs.Kept.{laid_of};
 ghost use Rattle.sp_made.specs.Made.{AreStopsOf, AskedOfPages, IsLaidOf, IsMadeOf, IsNumberedOf, first_rows, key_starts, marked_or_locked};
-ghost use Rattle.sp_made.specs.Numbered.{marked_sheets, AreSameOutside, AreUnmarked};
+ghost use Rattle.sp_made.specs.Numbered.{marked_sheets, AreLockedSheets, AreSameOutside, AreUnmarked};
 
 use crate::headings::heading_lines;
+use crate::locked::renew_locked;
 use crate::numbered::{renew_sheets, stale_places};
 use crate::stops::merged_stops;
 use sp_kit::{Counter, Steps};
@@ -165,7 +166,8 @@ pub fn made_starts(
 }
 
 /// Makes sheets those of a body's pages: those of its page records where pages are locked, else numbered ones, of which those
-/// outside the stale places stay. On an error there was no memory, and they are as they were.
+/// outside the stale places stay. Where records with the same labels had the same first rows and pages, locked sheets may be kept but
+/// for their rounds. On an error there was no memory, and they are as they were.
 fn renew_sheets_of_pages(
     alloc: Global,
     body: &Body,
@@ -174,8 +176,10 @@ fn renew_sheets_of_pages(
     starts: &[usize],
     pages: &[usize],
     stale: Range<usize>,
+    keeps_pages: bool,
     sheets: &mut Vec<Sheet>,
 ) -> Result<(), AllocError>
+    requires kept { IsTrue keeps_pages → IfSome records.now (λ those. AreLockedSheets those.items starts.now pages.now sheets.old.items) }
     requires stale { AreSameOutside sheets.old.items (marked_sheets (marks_in body.now.elements) 1 pages.now) stale.start stale.end }
     requires asked { AskedOfPages (λ those. those.items) body.now.elements records.now starts.now pages.now }
     requires unmarked { round ≡ 0 → All (λ mark. mark ≡ 0) (marks_in body.now.elements) }
@@ -185,14 +189,15 @@ fn renew_sheets_of_pages(
     match records {
         None => renew_sheets(alloc, body.marks(), round > 0, pages, stale, sheets),
         Some(records) => {
-            *sheets = sp_locks::sheets(alloc, records, starts, pages, body.rows())?;
-            Ok(())
+            let rows = body.rows();
+            renew_locked(alloc, records, starts, pages, rows, keeps_pages, sheets)
         }
     }
 }
 
 /// Makes sheets those of a body laid out, on these pages, by the first rows of page records. Where pages aren't locked, those
-/// outside the stale places stay. On an error there was no memory, and they are as they were.
+/// outside the stale places stay; locked ones may be kept but for their rounds, where pages and first rows stayed. On an error there was
+/// no memory, and they are as they were.
 fn renew_body_sheets(
     alloc: Global,
     lines: &Lines,
@@ -201,8 +206,10 @@ fn renew_body_sheets(
     firsts: &[usize],
     pages: &[usize],
     stale: Range<usize>,
+    keeps_pages: bool,
     sheets: &mut Vec<Sheet>,
 ) -> Result<(), AllocError>
+    requires kept { IsTrue keeps_pages → IfSome (records.now).pages (λ those. AreLockedSheets those firsts.now pages.now sheets.old.items) }
     requires stale { AreSameOutside sheets.old.items (marked_sheets (marks_in (laid_of layout.now).body.elements) 1 pages.now) stale.start stale.end }
     requires whole { IsWhole (state_of (text_of lines.now) records.now) }
     requires laid { IsLaidOf (state_of (text_of lines.now) records.now) (laid_of layout.now) }
@@ -219,6 +226,7 @@ fn renew_body_sheets(
         firsts,
         pages,
         stale,
+        keeps_pages,
         sheets,
     )
 }
@@ -308,6 +316,7 @@ pub fn number(
         firsts,
         pages.starts(),
         0..0,
+        false,
         &mut sheets,
     )?;
     Ok(Numbered {
@@ -328,8 +337,9 @@ fn renews_all(records: &Records) -> bool
 /// Makes the labels and the sheets those of a state after an edit whose text is laid out, by the first rows of its page records
 /// and of its pages, and by what would make the page starts those before. It fills no page of the body. Labels that are those of
 /// the state already may be kept: then no stanza is looked at. Where pages aren't locked and the round is 0, sheets before the
-/// exchanged pages, but for the one before them, stay as they are, and those behind them where no row or page comes or goes. On
-/// an error there was no memory, and nothing is changed.
+/// exchanged pages, but for the one before them, stay as they are, and those behind them where no row or page comes or goes. Where
+/// pages are locked and first rows and pages stayed, sheets may be kept but for their rounds. On an error there was no memory, and
+/// nothing is changed.
 pub fn renumber(
     alloc: Global,
     lines: &Lines,
@@ -340,6 +350,7 @@ pub fn renumber(
     pages: &Pages,
     swapped: &SwappedPages,
     keeps_labels: bool,
+    keeps_pages: bool,
     numbered: &mut Numbered,
 ) -> Result<(), AllocError>
     requires whole { IsWhole (state_of (text_of lines.now) records.now) }
@@ -350,6 +361,7 @@ pub fn renumber(
     requires can { CanPutBack pages.now.starts swapped.now }
     requires sheets { (records.now).pages ≡ None → (records.now).round ≡ 0 → AreUnmarked numbered.old.sheets (with_taken pages.now.starts swapped.now) }
     requires labels { IsTrue keeps_labels → numbered.old.labels ≡ heading_labels lines.now.lines records.now.scenes }
+    requires kept { IsTrue keeps_pages → IfSome (records.now).pages (λ those. AreLockedSheets those firsts.now pages.now.starts numbered.old.sheets) }
     ensures numbered { OnOk result (IsNumberedOf (state_of (text_of lines.now) records.now) numbered.new) }
     ensures same { OnErr result (numbered.new ≡ numbered.old) }
 {
@@ -359,10 +371,30 @@ pub fn renumber(
     let stale = stale_places(&numbered.sheets, marks, renews_all(records), swapped);
     let sheets = &mut numbered.sheets;
     if keeps_labels {
-        renew_body_sheets(alloc, lines, records, layout, firsts, starts, stale, sheets)?;
+        renew_body_sheets(
+            alloc,
+            lines,
+            records,
+            layout,
+            firsts,
+            starts,
+            stale,
+            keeps_pages,
+            sheets,
+        )?;
     } else {
         let labels = made_labels(alloc, lines, stanzas, records)?;
-        renew_body_sheets(alloc, lines, records, layout, firsts, starts, stale, sheets)?;
+        renew_body_sheets(
+            alloc,
+            lines,
+            records,
+            layout,
+            firsts,
+            starts,
+            stale,
+            keeps_pages,
+            sheets,
+        )?;
         numbered.labels = labels;
     }
     numbered.title_pages = title_pages;

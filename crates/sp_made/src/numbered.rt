@@ -101,7 +101,7 @@ pub(crate) fn page_behind(pages: &[usize], place: usize, rows: usize) -> usize
 }
 
 /// Whether the last sheet ends at this row; false where there is none.
-fn ends_at(sheets: &[Sheet], row: usize) -> bool
+pub(crate) fn ends_at(sheets: &[Sheet], row: usize) -> bool
     ensures { OnTrue result ((other : SheetOf) → (slice_index_or sheets.now (length sheets.now - 1) other).end ≡ row) }
 {
     match sheets.last() {

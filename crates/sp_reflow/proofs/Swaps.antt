@@ -1,5 +1,5 @@
 -- An exchange that moves no later start.
-use Rattle.std.proofs.Common.{◌≡◌, ℕ, suc, ◌+◌, List, [], ◌∷◌, ◌++◌, take, drop, map, All, refl, ap, ap₂, arith}
+use Rattle.std.proofs.Common.{◌≡◌, ℕ, suc, ◌+◌, List, [], ◌∷◌, ◌++◌, take, drop, map, All, refl, sym, ap, ap₂, ◌∙◌, drop-drop, take-append-drop, arith}
 use Rattle.sp_reflow.specs.Starts.{shifted, exchanged, CanShift, CanExchange}
 
 -- Starts that get as much off as on stay.
@@ -15,3 +15,12 @@ pub exchanged-still : (starts items : List ℕ) (place stands less more : ℕ) �
     → exchanged starts place stands items less more ≡ take place starts ++ (items ++ drop (place + stands) starts)
 exchanged-still starts items place stands less more can same =
     ap (λ ys. take place starts ++ (items ++ ys)) (map-still less more (drop (place + stands) starts) same can.later)
+
+-- And where the same ones stand in the place of those that come in, all stay.
+pub exchanged-same : (starts items : List ℕ) (place stands less more : ℕ) → CanExchange starts place stands less more → less ≡ more → items ≡ take stands (drop place starts)
+    → exchanged starts place stands items less more ≡ starts
+exchanged-same starts items place stands less more can same is =
+    exchanged-still starts items place stands less more can same
+    ∙ ap₂ (λ ones others. take place starts ++ (ones ++ others)) is (sym (drop-drop stands place starts))
+    ∙ ap (λ behind. take place starts ++ behind) (take-append-drop stands (drop place starts))
+    ∙ take-append-drop place starts

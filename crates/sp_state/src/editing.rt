@@ -267,6 +267,7 @@ pub(crate) fn edit_made<S: Steps>(
         firsts: after,
     } = edit_entry(alloc, lines, stanzas, records, layout, &before, edit, steps)?;
     let keeps_labels = keeps_headings(layout, &part);
+    let keeps_firsts = before.as_slice() == after.as_slice();
     match refilled(
         alloc,
         lines,
@@ -277,6 +278,7 @@ pub(crate) fn edit_made<S: Steps>(
         pages,
         numbered,
         keeps_labels,
+        keeps_firsts,
         rows.first,
         rows.old,
         rows.new,

@@ -1,5 +1,6 @@
 //! The layout and the first rows of pages after an edit, and after it is undone or done again.
-ghost use Rattle.std.specs.Prelude.{◌≡◌, ℕ, ◌+◌, ◌-◌, ◌≤◌, List, None, length, map, IfErr, IfOk, IsTrue, OnErr, OnOk};
+ghost use Rattle.std.specs.Prelude.{◌≡◌, ℕ, ◌+◌, ◌-◌, ◌≤◌, List, None, length, map, IfErr, IfOk, IfSome, IsTrue, OnErr, OnOk};
+ghost use Rattle.std.specs.Bool.{OnTrue};
 ghost use Rattle.spec_pages.specs.Pages.{rows_on};
 ghost use Rattle.spec_layout.specs.Shown.{shape_of};
 ghost use Rattle.spec_state.specs.Headings.{heading_labels};
@@ -14,7 +15,7 @@ ghost use Rattle.sp_reflow.specs.Filling.{FilledAtMost};
 ghost use Rattle.sp_reflow.specs.Updates.{AreStale, CanPutBack, taken_back, taken_of, with_taken};
 ghost use Rattle.sp_relay.specs.Kept.{CanSwap, HasPartRoom, laid_of, with_part};
 ghost use Rattle.sp_made.specs.HeadingIds.{laid_labels};
-ghost use Rattle.sp_made.specs.Numbered.{AreUnmarked};
+ghost use Rattle.sp_made.specs.Numbered.{AreLockedSheets, AreUnmarked};
 ghost use Rattle.sp_made.specs.Made.{AreStopsOf, IsLaidOf, IsNumberedOf, first_rows};
 
 use sp_kit::Steps;
@@ -94,9 +95,19 @@ fn update_pages<S: Steps>(
     )
 }
 
+/// Whether the first rows of page records and those of pages stayed, where putting these back would make the latter those before.
+fn keep_pages(keeps_firsts: bool, pages: &Pages, swapped: &SwappedPages) -> bool
+    requires { CanPutBack pages.now.starts swapped.now }
+    ensures firsts { OnTrue result (IsTrue keeps_firsts) }
+    ensures pages { OnTrue result (with_taken pages.now.starts swapped.now ≡ pages.now.starts) }
+{
+    keeps_firsts && swapped.leaves(pages.starts())
+}
+
 /// Makes page starts, labels and sheets those of a state after an edit, whose text is laid out, by the first rows of its page
 /// records: the pages of the page window are filled again, where `old` rows from `first` on were exchanged for `new` ones. Labels
-/// that are those of the state already may be kept. On an error there was no memory, and nothing is changed.
+/// that are those of the state already may be kept, and where the first rows stayed, the sheets of locked pages but for their rounds, if
+/// pages stay too. On an error there was no memory, and nothing is changed.
 pub(crate) fn refilled<S: Steps>(
     alloc: Global,
     lines: &Lines,
@@ -107,6 +118,7 @@ pub(crate) fn refilled<S: Steps>(
     pages: &mut Pages,
     numbered: &mut Numbered,
     keeps_labels: bool,
+    keeps_firsts: bool,
     first: usize,
     old: usize,
     new: usize,
@@ -119,6 +131,7 @@ pub(crate) fn refilled<S: Steps>(
     requires stale { (stops : List ℕ) → AreStopsOf (state_of (text_of lines.now) records.now) stops → AreStale (rows_on (records.now).paper) (record { first = first; old = old; new = new }) pages.old.starts (map shape_of (rows_in (state_of (text_of lines.now) records.now))) stops }
     requires labels { IsTrue keeps_labels → numbered.old.labels ≡ heading_labels lines.now.lines records.now.scenes }
     requires sheets { (records.now).pages ≡ None → (records.now).round ≡ 0 → AreUnmarked numbered.old.sheets pages.old.starts }
+    requires kept { IsTrue keeps_firsts → IfSome (records.now).pages (λ those. AreLockedSheets those firsts.now pages.old.starts numbered.old.sheets) }
     ensures pages { OnOk result (pages.new.starts ≡ pages_of (state_of (text_of lines.now) records.now)) }
     ensures back { IfOk result (λ it. with_taken pages.new.starts it ≡ pages.old.starts) }
     ensures can { IfOk result (λ it. CanPutBack pages.new.starts it) }
@@ -132,6 +145,7 @@ pub(crate) fn refilled<S: Steps>(
     let swapped = update_pages(
         alloc, lines, records, layout, firsts, pages, first, old, new, steps,
     )?;
+    let keeps_pages = keep_pages(keeps_firsts, pages, &swapped);
     match renumber(
         alloc,
         lines,
@@ -142,6 +156,7 @@ pub(crate) fn refilled<S: Steps>(
         pages,
         &swapped,
         keeps_labels,
+        keeps_pages,
         numbered,
     ) {
         Ok(()) => Ok(swapped),
@@ -210,6 +225,7 @@ fn turned_pages(
         pages,
         &other,
         keeps_labels,
+        false,
         numbered,
     ) {
         Ok(()) => Ok(TurnedPages {

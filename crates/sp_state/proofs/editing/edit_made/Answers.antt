@@ -1,6 +1,8 @@
 use Rattle.std.proofs.Common.{None, Some, ◌≡◌, ℕ, List, Option, ap, sym, subst, ◌∙◌}
 use Rattle.std.specs.Prelude.{IfSome}
 use Rattle.spec_labels.specs.PageRecords.{PageRecordOf}
+use Rattle.std.proofs.lemmas.Bool.Decides.{Decides-eqb}
+use Rattle.std.proofs.lemmas.Slice.Eq.{slice_eq-Decides}
 use Rattle.spec_text.specs.Edits.{Replacement, replacement_of}
 use Rattle.spec_text.specs.Ranges.{range_of}
 use Rattle.spec_state.specs.State.{State}
@@ -14,11 +16,12 @@ use Rattle.sp_layout.specs.LaidOut.{LayoutOf}
 use Rattle.sp_relay.specs.Kept.{CanSwap, laid_of, with_part}
 use Rattle.sp_reflow.specs.Updates.{CanPutBack, with_taken}
 use Rattle.sp_made.specs.Made.{IsNumberedOf, first_rows, laid_in}
+use Rattle.sp_made.specs.Numbered.{AreLockedSheets}
 use Rattle.sp_state.specs.Fills.{EditFills, EditFillsAtMost, IsExchangeOf}
 use Rattle.sp_state.proofs.FillLaws.{fills-edited, fills-within, none-filled}
 use Rattle.sp_state.proofs.LabelLaws.{labels-after}
 use Rattle.sp_state.proofs.RefilledLaws.{can-edit, stale-edited}
-use Rattle.sp_state.proofs.SheetLaws.{edited-unlocked, sheets-before}
+use Rattle.sp_state.proofs.SheetLaws.{edited-unlocked, locked-before, sheets-before}
 use Rattle.std.proofs.lemmas.Result.{err_from_is_err_and}
 use Rattle.sp_state.specs.Reads.{EditReads, EditReadsAtMost}
 use Rattle.sp_state.proofs.EntryLaws.{leads-back}
@@ -56,6 +59,15 @@ refilled-requires-clause-sheets g c none first =
     sheets-before old c.args.numbered.now.sheets c.args.pages.now.starts c.requires.whole
     (edited-unlocked old it (sym (ap (λ (s : State). s.pages) led) ∙ none)) (sym (ap (λ (s : State). s.round) led) ∙ first)
     c.requires.numbered.sheets c.requires.pages
+
+pub refilled-requires-clause-kept : goal.refilled-requires-clause-kept
+refilled-requires-clause-kept g c keeps =
+    let old : State = state_of (text_of c.args.lines.now) c.args.records.now in
+    let it : Replacement = replacement_of c.args.lines.now.lines (edit_of c.args.edit) in
+    let same = (slice_eq-Decides Decides-eqb c.as_slice.result.now c.as_slice-2.result.now c.eq-keeps_firsts.result c.eq-keeps_firsts.ensures).0 keeps in
+    let first : c.deref-2.result.now ≡ first_rows old = c.deref-2.ensures.value ∙ sym c.as_slice-2.ensures.value ∙ sym same ∙ c.as_slice.ensures.value ∙ c.in_ok-before.ensures.found in
+    subst (λ (s : State). IfSome s.pages (λ those. AreLockedSheets those c.deref-2.result.now c.args.pages.now.starts c.args.numbered.now.sheets)) (sym c.in_ok-text.ensures.state)
+    (locked-before old it c.deref-2.result.now c.args.pages.now.starts c.args.numbered.now.sheets c.requires.whole first c.requires.pages c.requires.numbered.sheets)
 
 pub returns-in_err-text : goal.returns-in_err-text
 returns-in_err-text g c =
