@@ -1,33 +1,63 @@
-use Rattle.std.proofs.Common.{◌≡◌, ap, ◌∙◌, subst}
-use Rattle.spec_text.specs.Edits.{replacement_of}
+use Rattle.std.proofs.Common.{◌≡◌, None, Err, ap, ◌∙◌, subst}
+use Rattle.std.proofs.lemmas.Result.{err_from_is_err_and}
+use Rattle.spec_text.specs.Edits.{refusal_of, replacement_of}
 use Rattle.spec_text.specs.Ranges.{range_of}
-use Rattle.spec_state.specs.State.{State}
+use Rattle.spec_state.specs.State.{State, text_of as state_text}
 use Rattle.spec_state.specs.Changes.{edited_state}
-use Rattle.spec_state.specs.Keeping.{state_of}
-use Rattle.sp_text.specs.Changing.{edit_of}
+use Rattle.spec_state.specs.Keeping.{IsWhole, state_of}
+use Rattle.sp_text.specs.Changing.{Refuses, edit_of}
 use Rattle.sp_text.specs.Gap.{text_of}
-use Rattle.sp_state.specs.declared.script.Script.TheInside.{Inside}
+use Rattle.sp_exchange.specs.Reads.{IsRefused}
+use Rattle.sp_state.specs.Entries.{EntryState, LeadsBack}
 use Rattle.sp_state.specs.Fills.{EditFills, EditFillsAtMost}
+use Rattle.sp_state.specs.Reads.{EditReads, EditReadsAtMost}
+use Rattle.sp_state.proofs.EditedScripts.{before-is}
 use Rattle.sp_state.proofs.script.Script.edit.Goals as goal
 
--- The state before the edit.
-before-is : {parts own : Inside} {state : State} → parts ≡ own → state_of (text_of own.lines) own.records ≡ state → state_of (text_of parts.lines) parts.records ≡ state
-before-is same is = ap (λ (inside : Inside). state_of (text_of inside.lines) inside.records) same ∙ is
+pub returns-in_err-entry : goal.returns-in_err-entry
+returns-in_err-entry g c =
+    let edit = edit_of c.args.edit in
+    let reads = g.S.Steps.reads c.args.steps.now in
+    let fills = g.S.Steps.fills c.args.steps.now in
+    let left = c.in_err-entry.ensures in
+    let made = c.edit_made.ensures in
+    let before = before-is c.self-inside.view_is c.self.view_is in
+    let p = err_from_is_err_and c.from_residual.result c.from_residual.ensures.1 in
+    rw (p.1, p.2) (record {
+      whole = subst IsWhole c.self.view_is c.self.invariant.0;
+      refuses = subst (λ (state : State). Refuses {T = EntryState} (refusal_of (state_text state) edit) (Err c.in_err-entry.field-0.0)) before left.refuses;
+      state = tt;
+      back = tt;
+      range = tt;
+      same = left.same ∙ before;
+      reads = tt;
+      at_most = subst (λ (state : State). EditReadsAtMost state (replacement_of state.lines edit) reads (g.S.Steps.reads c.edit_made.new.steps)) before made.at_most;
+      unread = subst (λ (state : State). IsRefused (refusal_of (state_text state) edit) → g.S.Steps.reads c.edit_made.new.steps ≡ reads) before made.unread;
+      fills = tt;
+      fills_at_most = subst (λ (state : State). EditFillsAtMost state (replacement_of state.lines edit) fills (g.S.Steps.fills c.edit_made.new.steps)) before made.fills_at_most;
+      unfilled = subst (λ (state : State). IsRefused (refusal_of (state_text state) edit) → g.S.Steps.fills c.edit_made.new.steps ≡ fills) before made.unfilled;
+    })
 
-pub returns-clause-state : goal.returns-clause-state
-returns-clause-state g c = c.in_ok-entry.ensures.state ∙ ap (λ (state : State). edited_state state (replacement_of state.lines (edit_of c.args.edit))) (before-is c.self-inside.view_is c.self.view_is)
-
-pub returns-in_err-entry-clause-fills_at_most : goal.returns-in_err-entry-clause-fills_at_most
-returns-in_err-entry-clause-fills_at_most g c =
-    subst (λ (state : State). EditFillsAtMost state (replacement_of state.lines (edit_of c.args.edit)) (g.S.Steps.fills c.args.steps.now) (g.S.Steps.fills c.edit_made.new.steps)) (before-is c.self-inside.view_is c.self.view_is) c.edit_made.ensures.fills_at_most
-
-pub returns-clause-fills : goal.returns-clause-fills
-returns-clause-fills g c =
-    subst (λ (state : State). EditFills state (replacement_of state.lines (edit_of c.args.edit)) (g.S.Steps.fills c.args.steps.now) (g.S.Steps.fills c.edit_made.new.steps)) (before-is c.self-inside.view_is c.self.view_is) c.in_ok-entry.ensures.fills
-
-pub returns-clause-fills_at_most : goal.returns-clause-fills_at_most
-returns-clause-fills_at_most g c =
-    subst (λ (state : State). EditFillsAtMost state (replacement_of state.lines (edit_of c.args.edit)) (g.S.Steps.fills c.args.steps.now) (g.S.Steps.fills c.edit_made.new.steps)) (before-is c.self-inside.view_is c.self.view_is) c.edit_made.ensures.fills_at_most
-
-pub returns-clause-range : goal.returns-clause-range
-returns-clause-range g c = c.in_ok-entry.ensures.range ∙ ap (λ (state : State). range_of (replacement_of state.lines (edit_of c.args.edit))) (before-is c.self-inside.view_is c.self.view_is)
+pub returns : goal.returns
+returns g c =
+    let new : State = state_of (text_of c.edit_made.new.lines) c.edit_made.new.records in
+    let edit = edit_of c.args.edit in
+    let reads = g.S.Steps.reads c.args.steps.now in
+    let fills = g.S.Steps.fills c.args.steps.now in
+    let done = c.in_ok-entry.ensures in
+    let made = c.edit_made.ensures in
+    let before = before-is c.self-inside.view_is c.self.view_is in
+    record {
+      whole = subst IsWhole c.self.view_is c.self.invariant.0;
+      refuses = subst (λ (state : State). refusal_of (state_text state) edit ≡ None) before done.refuses;
+      state = done.state ∙ ap (λ (state : State). edited_state state (replacement_of state.lines edit)) before;
+      back = subst (λ (state : State). LeadsBack state new c.in_ok-entry.entry) before done.back;
+      range = done.range ∙ ap (λ (state : State). range_of (replacement_of state.lines edit)) before;
+      same = tt;
+      reads = subst (λ (state : State). EditReads state (replacement_of state.lines edit) reads (g.S.Steps.reads c.edit_made.new.steps)) before done.reads;
+      at_most = subst (λ (state : State). EditReadsAtMost state (replacement_of state.lines edit) reads (g.S.Steps.reads c.edit_made.new.steps)) before made.at_most;
+      unread = subst (λ (state : State). IsRefused (refusal_of (state_text state) edit) → g.S.Steps.reads c.edit_made.new.steps ≡ reads) before made.unread;
+      fills = subst (λ (state : State). EditFills state (replacement_of state.lines edit) fills (g.S.Steps.fills c.edit_made.new.steps)) before done.fills;
+      fills_at_most = subst (λ (state : State). EditFillsAtMost state (replacement_of state.lines edit) fills (g.S.Steps.fills c.edit_made.new.steps)) before made.fills_at_most;
+      unfilled = subst (λ (state : State). IsRefused (refusal_of (state_text state) edit) → g.S.Steps.fills c.edit_made.new.steps ≡ fills) before made.unfilled;
+    }
