@@ -1,5 +1,5 @@
 -- One more heading, record, block or row.
-use Rattle.std.proofs.Common.{◌≡◌, ℕ, ◌+◌, ◌<◌, ◌==◌, ◌||◌, Bool, true, false, cond, Option, Some, List, [], ◌∷◌, ◌++◌, length, map, filter, take, drop, get_or, nat_lt, nat_cmp, Less, Equal, Greater, refl, sym, ap, ◌∙◌, ⊎_elim, ne_eqb, ltb-true, arith, add-one, drop-cons}
+use Rattle.std.proofs.Common.{◌≡◌, ℕ, ◌+◌, ◌<◌, ◌==◌, ◌||◌, Bool, true, false, cond, Option, Some, List, [], ◌∷◌, ◌++◌, length, map, filter, take, drop, get_or, nat_lt, nat_cmp, Less, Equal, Greater, refl, sym, ap, ap₂, ◌∙◌, ⊎_elim, ne_eqb, ltb-true, arith, add-one, append_assoc, drop-cons}
 use Rattle.std.specs.Prelude.{is_some}
 use Rattle.std.specs.List.{list_any}
 use Rattle.std.specs.Ordering.{is_eq}
@@ -11,6 +11,7 @@ use Rattle.spec_script.specs.Stanzas.{PlacedBlock}
 use Rattle.spec_labels.specs.Labels.{LabelOf}
 use Rattle.spec_labels.specs.Scenes.{HeadingOf, SceneRecordOf}
 use Rattle.spec_layout.specs.Speakers.{cue_text, name_in}
+use Rattle.spec_outline.specs.Outline.{EntryOf}
 use Rattle.spec_state.specs.Headings.{is_heading_block}
 use Rattle.spec_machine.specs.Outlines.{Scenes, begins_heading, heading_rows, is_gone, is_speech_block, speaker_names, block_entries, entries_from, headings_behind}
 use Rattle.sp_entries.specs.Gone.{has_line, gone_among}
@@ -107,6 +108,14 @@ rows-step shapes row d old new b inside before test is =
     ∙ ap (λ (t : Bool). heading_rows 0 (take row shapes) ++ cond t (row ∷ []) []) test
     ∙ sym (rows-more shapes row d inside)
 
+pub names-step : (texts : List (List ℕ)) (blocks : List PlacedBlock) (i : ℕ) (placed : PlacedBlock) (old new : List (List ℕ)) (b : Bool) → i < length blocks → placed ≡ get_or blocks i placed
+    → old ≡ speaker_names texts (take i blocks) → b ≡ is_speech_block placed → new ≡ old ++ cond b (name_in (cue_text texts placed) ∷ []) [] → new ≡ speaker_names texts (take (i + 1) blocks)
+names-step texts blocks i placed old new b inside same before test is =
+    is
+    ∙ ap₂ (λ (those : List (List ℕ)) (t : Bool). those ++ cond t (name_in (cue_text texts placed) ∷ []) []) before test
+    ∙ ap (λ (it : PlacedBlock). speaker_names texts (take i blocks) ++ cond (is_speech_block it) (name_in (cue_text texts it) ∷ []) []) same
+    ∙ sym (names-more texts blocks i placed inside)
+
 -- ---- entries
 
 front : (blocks : List PlacedBlock) (i : ℕ) (d : PlacedBlock) → i < length blocks → drop i blocks ≡ get_or blocks i d ∷ drop (i + 1) blocks
@@ -115,6 +124,18 @@ front blocks i d inside = rw (add-one, drop-cons blocks i d) refl
 pub entries-next : (scenes : Scenes) (texts : List (List ℕ)) (headings : ℕ) (blocks : List PlacedBlock) (i : ℕ) (d : PlacedBlock) → i < length blocks
     → entries_from scenes texts headings (drop i blocks) ≡ block_entries scenes texts headings (get_or blocks i d) ++ entries_from scenes texts (headings_behind headings (get_or blocks i d)) (drop (i + 1) blocks)
 entries-next scenes texts headings blocks i d inside = ap (entries_from scenes texts headings) (front blocks i d inside)
+
+-- The entries at a block, and those at the blocks behind it.
+pub entries-step : (scenes : Scenes) (texts : List (List ℕ)) (blocks : List PlacedBlock) (i : ℕ) (placed : PlacedBlock) (h next : ℕ) (old new all : List EntryOf) → i < length blocks
+    → placed ≡ get_or blocks i placed → new ≡ old ++ block_entries scenes texts h placed → next ≡ headings_behind h placed → old ++ entries_from scenes texts h (drop i blocks) ≡ all
+    → new ++ entries_from scenes texts next (drop (i + 1) blocks) ≡ all
+entries-step scenes texts blocks i placed h next old new all inside same added behind so_far =
+    let rest = drop (i + 1) blocks in
+    ap₂ (λ (those : List EntryOf) (n : ℕ). those ++ entries_from scenes texts n rest) added behind
+    ∙ append_assoc old (block_entries scenes texts h placed) (entries_from scenes texts (headings_behind h placed) rest)
+    ∙ ap (λ (it : PlacedBlock). old ++ (block_entries scenes texts h it ++ entries_from scenes texts (headings_behind h it) rest)) same
+    ∙ sym (ap (λ (those : List EntryOf). old ++ those) (entries-next scenes texts h blocks i placed inside))
+    ∙ so_far
 
 -- So many headings stand from a block on.
 pub headings-next : (blocks : List PlacedBlock) (i h : ℕ) (d : PlacedBlock) → i < length blocks
