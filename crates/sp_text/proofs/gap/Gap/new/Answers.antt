@@ -1,4 +1,4 @@
-use Rattle.std.proofs.Common.{◌≡◌, ◌≢◌, ℕ, ◌++◌, List, AllPairs, length, reverse, sym, ap, ap₂, ◌∙◌, subst, arith, append-nil}
+use Rattle.std.proofs.Common.{◌≢◌, ℕ, ◌++◌, List, AllPairs, length, reverse, sym, ap, ap₂, ◌∙◌, subst, arith, append-nil}
 use Rattle.spec_text.specs.Lines.{LineState}
 use Rattle.spec_text.specs.Edits.{line_ids}
 use Rattle.sp_text.specs.Index.{Indexes}
