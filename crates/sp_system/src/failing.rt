@@ -134,6 +134,11 @@ fn failed(kind: Option<ErrorKind>) -> io::Result<()> {
     }
 }
 
+/// What a shelf asks of no system.
+fn not_asked<T>() -> io::Result<T> {
+    Err(io::Error::from(ErrorKind::Unsupported))
+}
+
 impl<'a, R: Files> Files for FailingFiles<'a, R> {
     type File = Failing<R::File>;
 
@@ -144,20 +149,20 @@ impl<'a, R: Files> Files for FailingFiles<'a, R> {
         Ok(Failing::new(self.system.open_file(how, path)?, self.plan))
     }
 
-    fn open_dir(&self, path: &str) -> io::Result<R::Dir> {
-        self.system.open_dir(path)
+    fn open_dir(&self, _path: &str) -> io::Result<R::Dir> {
+        not_asked()
     }
 
-    fn metadata(&self, path: &str) -> io::Result<Metadata> {
-        self.system.metadata(path)
+    fn metadata(&self, _path: &str) -> io::Result<Metadata> {
+        not_asked()
     }
 
-    fn symlink_metadata(&self, path: &str) -> io::Result<Metadata> {
-        self.system.symlink_metadata(path)
+    fn symlink_metadata(&self, _path: &str) -> io::Result<Metadata> {
+        not_asked()
     }
 
-    fn copy(&self, from: &str, to: &str) -> io::Result<u64> {
-        self.system.copy(from, to)
+    fn copy(&self, _from: &str, _to: &str) -> io::Result<u64> {
+        not_asked()
     }
 
     fn rename(&self, from: &str, to: &str) -> io::Result<()> {
@@ -169,19 +174,47 @@ impl<'a, R: Files> Files for FailingFiles<'a, R> {
         self.system.remove_file(path)
     }
 
-    fn create_dir(&self, path: &str) -> io::Result<()> {
-        self.system.create_dir(path)
+    fn create_dir(&self, _path: &str) -> io::Result<()> {
+        not_asked()
     }
 
-    fn remove_dir(&self, path: &str) -> io::Result<()> {
-        self.system.remove_dir(path)
+    fn remove_dir(&self, _path: &str) -> io::Result<()> {
+        not_asked()
     }
 
-    fn remove_dir_all<B: Allocator>(&self, alloc: B, path: &str) -> io::Result<()> {
-        self.system.remove_dir_all(alloc, path)
+    fn remove_dir_all<B: Allocator>(&self, _alloc: B, _path: &str) -> io::Result<()> {
+        not_asked()
     }
 
     fn canonicalize<B: Allocator>(&self, alloc: B, path: &str) -> io::Result<PathBuf<B>> {
         self.system.canonicalize(alloc, path)
+    }
+
+    fn read_link<B: Allocator>(&self, _alloc: B, _path: &str) -> io::Result<PathBuf<B>> {
+        not_asked()
+    }
+
+    fn hard_link(&self, _original: &str, _link: &str) -> io::Result<()> {
+        not_asked()
+    }
+
+    fn set_permissions(&self, _path: &str, _perm: Permissions) -> io::Result<()> {
+        not_asked()
+    }
+
+    fn symlink(&self, _original: &str, _link: &str) -> io::Result<()> {
+        not_asked()
+    }
+
+    fn chown(&self, _path: &str, _uid: Option<u32>, _gid: Option<u32>) -> io::Result<()> {
+        not_asked()
+    }
+
+    fn lchown(&self, _path: &str, _uid: Option<u32>, _gid: Option<u32>) -> io::Result<()> {
+        not_asked()
+    }
+
+    fn create_dir_with_mode(&self, _path: &str, _mode: u32) -> io::Result<()> {
+        not_asked()
     }
 }
