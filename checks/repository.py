@@ -11,8 +11,8 @@ from report import tell
 TOP = pathlib.Path(__file__).resolve().parent.parent
 CRATES = TOP / "crates"
 MOST_LINES = 800
-# Crates that are tests alone.
-NO_EDITS = ("sp_case", "sp_cases")
+# Crates that are tests alone, or types without a function.
+NO_EDITS = ("sp_case", "sp_cases", "sp_commands")
 
 
 def sources(*endings):

@@ -14,10 +14,10 @@ ghost use Rattle.sp_answers.specs.Numbers.{parts_text};
 ghost use Rattle.sp_answers.specs.Pairs.{is_second, opens_pair};
 
 use sp_blocks::{BlockLine, Kind};
+use sp_commands::BlockReply;
 use sp_layout::{PlacedBlock, placed_blocks};
 use sp_reread::Stanzas;
 use sp_text::Lines;
-use sp_wire::BlockReply;
 use spec_script::Run;
 use spec_text::Span;
 use std::alloc::{AllocError, Global};

@@ -2,14 +2,14 @@
 ghost use Rattle.std.specs.Prelude.{◌≡◌, string_bytes, IfOk};
 ghost use Rattle.spec_machine.specs.Outlines.{outline_of};
 ghost use Rattle.spec_wire.specs.Replies as replies;
-ghost use Rattle.sp_wire.specs.Values.{reply_of};
+ghost use Rattle.sp_commands.specs.Values.{reply_of};
 
 use crate::scenes::scenes_of;
+use sp_commands::Reply;
 use sp_entries::{entries_of, speaker_names};
 use sp_layout::placed_blocks;
 use sp_outline::cast;
 use sp_state::Script;
-use sp_wire::Reply;
 use std::alloc::{AllocError, Global};
 
 /// The outline of a script with its cast, as text (docs/RULES.md, "Outline"). Time grows with the script and its records,

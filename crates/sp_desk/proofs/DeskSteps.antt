@@ -30,9 +30,9 @@ use Rattle.spec_locked_pages.proofs.ChainLaws.{opened-linked, step-linked}
 use Rattle.spec_locked_pages.proofs.PageLaws.{command-keeps, unchanged-keeps}
 use Rattle.spec_machine.proofs.RefusalLaws.{free-scenes, free-pages, free-round}
 use Rattle.sp_state.specs.Entries.{EntryState, undone_state, redone_state, done_range, undone_range, CanUndo, CanRedo, LeadsBack, LeadsForth}
-use Rattle.sp_wire.specs.declared.reply.Reply.{Reply}
-use Rattle.sp_wire.specs.Values.{reply_of}
-use Rattle.sp_wire.specs.Values as values
+use Rattle.sp_commands.specs.declared.reply.Reply.{Reply}
+use Rattle.sp_commands.specs.Values.{reply_of}
+use Rattle.sp_commands.specs.Values as values
 use Rattle.sp_desk.specs.declared.fault.DeskFault.{DeskFault}
 use Rattle.sp_desk.specs.declared.fault.DeskFault.TheVariants.{Refused, NoMemory}
 use Rattle.sp_desk.specs.Memories.{entries_by, CanTurnAll, memory_by, IsDesk}

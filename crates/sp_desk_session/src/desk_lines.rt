@@ -3,17 +3,18 @@ ghost use Rattle.std.specs.Prelude.{◌≡◌, IfOk, OnOk, OnErr};
 ghost use Rattle.std.specs.declared.result.Result.TheVariants.{Ok};
 ghost use Rattle.spec_wire.specs.Lines.{command_of_line};
 ghost use Rattle.spec_machine.specs.LabelPromises.{LosesNone};
-ghost use Rattle.sp_wire.specs.Values.{command_of, reply_of};
+ghost use Rattle.sp_commands.specs.Values.{command_of, reply_of};
 ghost use Rattle.spec_session.specs.Runs.{counts_of};
 ghost use Rattle.sp_desk_session.specs.Counted.{LineCounts, LineCountsAtMost};
 ghost use Rattle.sp_desk_session.specs.DeskLines.{RepliesTo, StopsAt, is_packet, is_save, packet_reply, desk_at};
 
 use crate::saving::save_desk;
+use sp_commands::{Command, Refusal, Reply};
 use sp_desk::{Desk, DeskFault};
 use sp_kit::{Shelf, Steps};
 use sp_packet::{PacketFault, packet};
 use sp_session::Responder;
-use sp_wire::{Command, Refusal, Reply, WireFault, read_command, write_reply};
+use sp_wire::{WireFault, read_command, write_reply};
 use std::alloc::{AllocError, Global};
 use std::marker::Model;
 

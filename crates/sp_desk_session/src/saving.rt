@@ -1,12 +1,12 @@
 //! A desk, saved (docs/RULES.md, "Sessions").
 ghost use Rattle.std.specs.Prelude.{IfOk, OnErr};
-ghost use Rattle.sp_wire.specs.Values.{reply_of};
+ghost use Rattle.sp_commands.specs.Values.{reply_of};
 ghost use Rattle.sp_opening.specs.Saving.{RepliesToSave, StoreLeft, files_of};
 
+use sp_commands::Reply;
 use sp_desk::Desk;
 use sp_kit::Shelf;
 use sp_opening::save;
-use sp_wire::Reply;
 use std::alloc::{AllocError, Global};
 
 /// Stores the present state of a desk, and answers the digest of its text, or that a store failed.

@@ -2,14 +2,15 @@
 ghost use Rattle.std.specs.Prelude.{◌≢◌, IfOk, OnErr};
 ghost use Rattle.spec_state.specs.Keeping.{IsWhole, state_of};
 ghost use Rattle.sp_text.specs.Gap.{text_of};
-ghost use Rattle.sp_wire.specs.Values.{reply_of};
+ghost use Rattle.sp_commands.specs.Values.{reply_of};
 ghost use Rattle.sp_opening.specs.Saving.{RepliesToSave, StoreLeft, StoresBoth, files_of};
 
 use crate::opening::records_name;
+use sp_commands::{Refusal, Reply};
 use sp_kit::{Shelf, ShelfFault};
-use sp_records::{Records, digest, encode};
+use sp_record_file::{digest, encode};
+use sp_records::Records;
 use sp_text::Lines;
-use sp_wire::{Refusal, Reply};
 use std::alloc::{AllocError, Global};
 
 /// Stores the text under the name and the record file beside it, and answers the digest of the text; where a store fails

@@ -20,8 +20,8 @@ use Rattle.spec_room.proofs.MachineSteps as machine
 use Rattle.spec_room.proofs.RoomLaws.{holds_after, last_of-put, but_last-put}
 use Rattle.spec_room.proofs.CommandLaws.{unrefused-step, taken_step, refused_step}
 use Rattle.spec_room.proofs.StepLaws.{unrefused-taken, refused-same, taken-seen, taken-stands}
-use Rattle.sp_wire.specs.declared.reply.Reply.{Reply}
-use Rattle.sp_wire.specs.Values.{reply_of, refusal_of}
+use Rattle.sp_commands.specs.declared.reply.Reply.{Reply}
+use Rattle.sp_commands.specs.Values.{reply_of, refusal_of}
 use Rattle.sp_desk.specs.declared.fault.DeskFault.{DeskFault}
 use Rattle.sp_desk.specs.declared.fault.DeskFault.TheVariants.{Refused, NoMemory}
 use Rattle.sp_desk.specs.Answers.{step_to, IsAnswer}

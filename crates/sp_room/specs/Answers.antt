@@ -5,8 +5,8 @@ use Rattle.std.specs.declared.result.Result.TheVariants.{Ok, Err}
 use Rattle.spec_wire.specs.Commands.{CommandOf, RoomLineOf}
 use Rattle.spec_wire.specs.Replies.{refused}
 use Rattle.spec_room.specs.Rooms.{RoomState, room_step_to, room_step_of}
-use Rattle.sp_wire.specs.declared.reply.Reply.{Reply}
-use Rattle.sp_wire.specs.Values.{reply_of, refusal_of}
+use Rattle.sp_commands.specs.declared.reply.Reply.{Reply}
+use Rattle.sp_commands.specs.Values.{reply_of, refusal_of}
 use Rattle.sp_desk.specs.declared.fault.DeskFault.{DeskFault}
 use Rattle.sp_desk.specs.declared.fault.DeskFault.TheVariants.{Refused, NoMemory}
 

@@ -5,8 +5,8 @@ use Rattle.std.specs.declared.result.Result.TheVariants.{Ok, Err}
 use Rattle.spec_text.specs.Ranges.{RangeOf}
 use Rattle.spec_wire.specs.Replies.{RefusalOf}
 use Rattle.spec_room.specs.Kinds.{Kind, edits, forgets, looks}
-use Rattle.sp_wire.specs.declared.reply.Refusal.{Refusal}
-use Rattle.sp_wire.specs.Values.{refusal_of}
+use Rattle.sp_commands.specs.declared.reply.Refusal.{Refusal}
+use Rattle.sp_commands.specs.Values.{refusal_of}
 
 -- The room asks an edit of its desk at this place, or refuses it.
 abbrev pub IsPlace : Result Kind RefusalOf → RangeOf → Result ℕ Refusal → Type 0

@@ -3,12 +3,12 @@ ghost use Rattle.std.specs.Prelude.{◌≡◌};
 ghost use Rattle.spec_room.specs.Changes.{turned};
 ghost use Rattle.spec_room.specs.Kinds.{edit_range, edit_moved, kind_of};
 ghost use Rattle.sp_text.specs.Changing.{edit_of};
-ghost use Rattle.sp_wire.specs.Values.{command_of};
+ghost use Rattle.sp_commands.specs.Values.{command_of};
 ghost use Rattle.sp_room.specs.Changes.{range_of};
 ghost use Rattle.sp_room.specs.Asking.{is_forgetting};
 
+use sp_commands::Command;
 use sp_text::Edit;
-use sp_wire::Command;
 
 /// What an accepted edit, undo or redo changed: at the line `first`, `taken` lines made way for `put` others.
 #[derive(Clone, Copy, PartialEq, Eq, Drop)]

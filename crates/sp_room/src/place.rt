@@ -8,7 +8,7 @@ ghost use Rattle.sp_room.specs.Changes.{range_of, ranges};
 ghost use Rattle.sp_room.specs.Asking.{IsPlace};
 
 use crate::change::Change;
-use sp_wire::Refusal;
+use sp_commands::Refusal;
 use std::collections::VecDeque;
 
 /// How many changes a room remembers.

@@ -23,8 +23,8 @@ use Rattle.spec_room.specs.Rooms.{RoomState, RoomStep, asked_of, room_after, roo
 use Rattle.spec_room.specs.Sessions.{Session, Takes, goes, versions_after}
 use Rattle.spec_room.proofs.SessionLaws.{session_seen}
 use Rattle.spec_session.specs.Runs.{AtShelf}
-use Rattle.sp_wire.specs.declared.reply.Reply.{Reply}
-use Rattle.sp_wire.specs.Values.{reply_of}
+use Rattle.sp_commands.specs.declared.reply.Reply.{Reply}
+use Rattle.sp_commands.specs.Values.{reply_of}
 use Rattle.sp_desk.specs.declared.fault.DeskFault.{DeskFault}
 use Rattle.sp_room.specs.Answers.{IsRoomAnswer}
 use Rattle.sp_desk_session.specs.DeskLines.{Leaves, asks_save, is_packet, is_save}

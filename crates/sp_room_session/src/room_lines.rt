@@ -3,7 +3,7 @@ ghost use Rattle.std.specs.Prelude.{◌≡◌, ℕ, ◌+◌, ◌-◌, ◌^◌, �
 ghost use Rattle.std.specs.declared.result.Result.TheVariants.{Ok};
 ghost use Rattle.spec_wire.specs.Lines.{room_line_of_line};
 ghost use Rattle.spec_wire.specs.Commands.{RoomLineOf};
-ghost use Rattle.sp_wire.specs.Values.{room_line_of, reply_of};
+ghost use Rattle.sp_commands.specs.Values.{room_line_of, reply_of};
 ghost use Rattle.sp_room.specs.Answers.{IsRoomAnswer};
 ghost use Rattle.spec_session.specs.Runs.{counts_of};
 ghost use Rattle.sp_room.specs.Counts.{RoomReads, RoomFills};
@@ -11,12 +11,13 @@ ghost use Rattle.sp_room_session.specs.SeatCounted.{SeatCounts, SeatCountsAtMost
 ghost use Rattle.sp_desk_session.specs.Promises.{Follows};
 ghost use Rattle.sp_room_session.specs.RoomLines.{SeatReplies, SeatStops, room_at};
 
+use sp_commands::{Refusal, Reply, RoomLine};
 use sp_desk::DeskFault;
 use sp_desk_session::{is_packet, is_save, packet_reply, save_desk};
 use sp_kit::{Shelf, Steps};
 use sp_room::Room;
 use sp_session::Responder;
-use sp_wire::{Refusal, Reply, RoomLine, WireFault, read_room_command, write_room_reply};
+use sp_wire::{WireFault, read_room_command, write_room_reply};
 use std::alloc::{AllocError, Global};
 use std::marker::Model;
 

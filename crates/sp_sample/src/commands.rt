@@ -3,10 +3,10 @@ ghost use Rattle.std.specs.Prelude.{◌≡◌, ◌+◌, ◌-◌, ◌*◌, ◌<�
 ghost use Rattle.spec_sample.specs.Sample.{added_lines, edits_down, lamp_line, sample_commands, told_more};
 ghost use Rattle.spec_text.specs.Edits.{replace, splice};
 ghost use Rattle.sp_text.specs.Changing.{edit_of};
-ghost use Rattle.sp_wire.specs.Values.{command_of};
+ghost use Rattle.sp_commands.specs.Values.{command_of};
 
+use sp_commands::Command;
 use sp_text::Edit;
-use sp_wire::Command;
 use std::alloc::{AllocError, Global};
 
 /// The commands of the session of a sample of so many rooms, in order (docs/RULES.md, "The sample"). `AllocError` comes for

@@ -10,9 +10,9 @@ ghost use Rattle.spec_sample.specs.Sample.{state_line};
 use crate::numbers::add_numbered;
 use sha2::{Digest, Sha256};
 use sp_answers::sheet_reply;
+use sp_commands::Reply;
 use sp_print::PageView;
 use sp_state::Script;
-use sp_wire::Reply;
 use std::alloc::{AllocError, Global};
 
 /// The line that tells of the script behind the session of a sample of so many rooms.

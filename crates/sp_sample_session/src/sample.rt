@@ -4,18 +4,18 @@ ghost use Rattle.spec_script.specs.Stanzas.{stanzas_of};
 ghost use Rattle.spec_machine.specs.Machine.{opened_memory};
 ghost use Rattle.spec_locked_pages.specs.Segments.{pages_of};
 ghost use Rattle.spec_sample.specs.Sample.{sample_lines, sample_opened, sample_output, stepped};
-ghost use Rattle.sp_wire.specs.Values.{command_of};
+ghost use Rattle.sp_commands.specs.Values.{command_of};
 ghost use Rattle.sp_reread.specs.Cache.{RisesWithin, counted_on};
 ghost use Rattle.sp_reflow.specs.Filling.{FilledAtMost};
 ghost use Rattle.sp_reflow.specs.Starts.{many_more};
 ghost use Rattle.sp_desk.specs.Outcomes.{FillsAtMost, FillsOf, ReadsAtMost, ReadsOf};
 ghost use Rattle.sp_sample_session.specs.SampleCounts.{CountsAlong, CountsUpTo, SampleFills, SampleFillsAtMost, SampleReads, SampleReadsAtMost};
 
+use sp_commands::Command;
 use sp_desk::{Desk, DeskFault};
 use sp_kit::Steps;
 use sp_sample::{sample_commands, sample_script, state_line};
 use sp_text::{Lines, TextFault};
-use sp_wire::Command;
 use std::alloc::{AllocError, Global};
 
 /// The line that tells of a sample of up to 2,000 rooms: its script is opened, and each command of its session answered; a

@@ -2,8 +2,8 @@ use Rattle.std.proofs.Common.{Ok, ap, sym}
 use Rattle.spec_machine.specs.Answers.{Step}
 use Rattle.spec_machine.proofs.MachineLaws.{all-stay}
 use Rattle.spec_session.specs.Runs.{counts_of}
-use Rattle.sp_wire.specs.declared.reply.Reply.{Reply}
-use Rattle.sp_wire.specs.Values.{command_of, refusal_of}
+use Rattle.sp_commands.specs.declared.reply.Reply.{Reply}
+use Rattle.sp_commands.specs.Values.{command_of, refusal_of}
 use Rattle.sp_desk.specs.declared.fault.DeskFault.{DeskFault}
 use Rattle.sp_desk_session.proofs.CountLaws.{lacking-counts, line-undone, packet-counts, refused-counts, save-counts, taken-counts}
 use Rattle.sp_desk_session.proofs.Replies.{on-err, on-ok}

@@ -4,7 +4,7 @@ use Rattle.spec_text.specs.Lines.{TextState}
 use Rattle.spec_records.specs.Kept.{RecordsOf}
 use Rattle.spec_state.specs.State.{State, text_of}
 use Rattle.spec_state.specs.Keeping.{IsWhole, records_of, state_of}
-use Rattle.sp_wire.specs.Values.{reply_of}
+use Rattle.sp_commands.specs.Values.{reply_of}
 use Rattle.sp_opening.specs.Saving.{RepliesToSave, StoreLeft, files_of}
 use Rattle.sp_desk_session.proofs.saving.save_desk.Goals as goal
 

@@ -1,6 +1,6 @@
 use Rattle.std.proofs.Common.{map}
 use Rattle.spec_sample.proofs.SampleSteps.{edits-more}
-use Rattle.sp_wire.specs.Values.{command_of}
+use Rattle.sp_commands.specs.Values.{command_of}
 use Rattle.sp_sample.proofs.commands.sample_commands.Goals as goal
 
 pub loop-behind-preserved : goal.loop-behind-preserved

@@ -1,7 +1,7 @@
 use Rattle.std.proofs.Common.{ap}
 use Rattle.spec_machine.specs.Answers.{Step}
-use Rattle.sp_wire.specs.declared.reply.Reply.{Reply}
-use Rattle.sp_wire.specs.Values.{command_of}
+use Rattle.sp_commands.specs.declared.reply.Reply.{Reply}
+use Rattle.sp_commands.specs.Values.{command_of}
 use Rattle.sp_desk.specs.declared.fault.DeskFault.{DeskFault}
 use Rattle.sp_desk.proofs.OutcomeLaws.{lacking-fills, lacking-reads, refused-fills, refused-reads, taken-fills, taken-reads}
 use Rattle.sp_sample_session.proofs.sample.answer.Goals as goal

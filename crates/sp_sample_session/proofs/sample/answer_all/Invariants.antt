@@ -2,7 +2,7 @@ use Rattle.std.proofs.Common.{◌≡◌, ℕ, map}
 use Rattle.std.specs.Prelude.{fold}
 use Rattle.std.specs.Vec.Iter.{into_iter_items}
 use Rattle.spec_sample.specs.Sample.{stepped}
-use Rattle.sp_wire.specs.Values.{command_of}
+use Rattle.sp_commands.specs.Values.{command_of}
 use Rattle.sp_desk.specs.Outcomes.{FillsAtMost, FillsOf, ReadsAtMost, ReadsOf}
 use Rattle.sp_sample_session.specs.SampleCounts.{CountsAlong, CountsUpTo}
 use Rattle.sp_sample_session.proofs.sample.answer_all.Given as goal

@@ -1,7 +1,7 @@
 use Rattle.std.proofs.Common.{◌≡◌}
 use Rattle.std.proofs.lemmas.Result.{IfOk-weaker}
 use Rattle.spec_wire.specs.Replies.{reply_line}
-use Rattle.sp_wire.specs.Values.{reply_of}
+use Rattle.sp_commands.specs.Values.{reply_of}
 use Rattle.sp_desk_session.proofs.CountLaws.{line-at-most}
 use Rattle.sp_desk_session.proofs.Replies.{on-err, replied-stops}
 use Rattle.sp_desk_session.proofs.desk_lines.DeskLinesResponder.answer.Goals as goal

@@ -3,8 +3,8 @@ use Rattle.spec_wire.specs.Commands.{CommandOf, edit}
 use Rattle.spec_room.specs.Kinds.{edits}
 use Rattle.spec_room.specs.Rooms.{RoomState, kept_changes, last_of, asked_edit, room_step_of}
 use Rattle.sp_text.specs.Changing.{edit_of}
-use Rattle.sp_wire.specs.Values.{reply_of}
-use Rattle.sp_wire.specs.declared.reply.Reply.{Reply}
+use Rattle.sp_commands.specs.Values.{reply_of}
+use Rattle.sp_commands.specs.declared.reply.Reply.{Reply}
 use Rattle.sp_desk.specs.declared.fault.DeskFault.{DeskFault}
 use Rattle.sp_desk.specs.declared.fault.DeskFault.TheVariants.{NoMemory, Refused}
 use Rattle.sp_desk.specs.Reads.{CommandReads}
