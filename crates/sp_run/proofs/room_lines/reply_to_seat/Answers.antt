@@ -5,10 +5,10 @@ use Rattle.spec_session.specs.Runs.{counts_of}
 use Rattle.sp_commands.specs.declared.reply.Reply.{Reply}
 use Rattle.sp_commands.specs.Values.{refusal_of, room_line_of}
 use Rattle.sp_desk.specs.declared.fault.DeskFault.{DeskFault}
-use Rattle.sp_room_session.proofs.SeatLaws.{seat-lacking, seat-packet, seat-refused, seat-save, seat-taken, seat-undone}
+use Rattle.sp_run.proofs.SeatLaws.{seat-lacking, seat-packet, seat-refused, seat-save, seat-taken, seat-undone}
 use Rattle.sp_desk_session.proofs.Replies.{on-err, on-ok}
-use Rattle.sp_room_session.proofs.Seats.{same-follows}
-use Rattle.sp_room_session.proofs.room_lines.reply_to_seat.Goals as goal
+use Rattle.sp_run.proofs.Seats.{same-follows}
+use Rattle.sp_run.proofs.room_lines.reply_to_seat.Goals as goal
 
 pub returns-then-is_save-clause-follows : goal.returns-then-is_save-clause-follows
 returns-then-is_save-clause-follows g c =

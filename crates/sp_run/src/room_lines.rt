@@ -7,9 +7,9 @@ ghost use Rattle.sp_commands.specs.Values.{room_line_of, reply_of};
 ghost use Rattle.sp_room.specs.Answers.{IsRoomAnswer};
 ghost use Rattle.spec_session.specs.Runs.{counts_of};
 ghost use Rattle.sp_room.specs.Counts.{RoomReads, RoomFills};
-ghost use Rattle.sp_room_session.specs.SeatCounted.{SeatCounts, SeatCountsAtMost};
+ghost use Rattle.sp_run.specs.SeatCounted.{SeatCounts, SeatCountsAtMost};
 ghost use Rattle.sp_desk_session.specs.Promises.{Follows};
-ghost use Rattle.sp_room_session.specs.RoomLines.{SeatReplies, SeatStops, room_at};
+ghost use Rattle.sp_run.specs.RoomLines.{SeatReplies, SeatStops, room_at};
 
 use sp_commands::{Refusal, Reply, RoomLine};
 use sp_desk::DeskFault;
@@ -30,7 +30,7 @@ pub struct RoomLines<'a> {
 }
 
 impl<'a> Model for RoomLines<'a> {
-    ghost use Rattle.sp_room_session.specs.RoomLines.{NamedRoom};
+    ghost use Rattle.sp_run.specs.RoomLines.{NamedRoom};
 
     ghost Value = { NamedRoom };
 
@@ -119,7 +119,7 @@ fn reply_to_room_line<F: Shelf, S: Steps>(
 
 impl<'a> Responder for RoomLines<'a> {
     ghost use Rattle.std.specs.Prelude.{◌-◌, ◌^◌};
-    ghost use Rattle.sp_room_session.specs.RoomLines.{AnswersRoomLine, StopsAtRoomLine};
+    ghost use Rattle.sp_run.specs.RoomLines.{AnswersRoomLine, StopsAtRoomLine};
 
     ghost answers = { AnswersRoomLine };
 

@@ -30,15 +30,15 @@ use Rattle.sp_opening.specs.Records.{records_name}
 use Rattle.sp_opening.specs.Saving.{Changes, KeepsAllBut}
 use Rattle.sp_opening.specs.Counted.{OpeningCounts}
 use Rattle.sp_desk_session.specs.DeskLines.{asks_save}
-use Rattle.sp_room_session.specs.RoomLines.{NamedRoom, AnswersRoomLine, SeatReplies, StopsAtRoomLine, answered_room_line, answered_room_lines, desk_in, desk_of_room, other_room, room_at, room_line_step_by, saved_room, seat_saves, seatless, step_line}
-use Rattle.sp_room_session.specs.Seats.{AreTakenSeen}
+use Rattle.sp_run.specs.RoomLines.{NamedRoom, AnswersRoomLine, SeatReplies, StopsAtRoomLine, answered_room_line, answered_room_lines, desk_in, desk_of_room, other_room, room_at, room_line_step_by, saved_room, seat_saves, seatless, step_line}
+use Rattle.sp_run.specs.Seats.{AreTakenSeen}
 use Rattle.sp_opening.specs.Unopened.{Outside}
-use Rattle.sp_room_session.specs.RoomEnding.{RoomAnsweredAll, RoomAnsweredCalmly, HeldRoom}
+use Rattle.sp_run.specs.RoomEnding.{RoomAnsweredAll, RoomAnsweredCalmly, HeldRoom}
 use Rattle.sp_desk_session.specs.DeskEnding.{CountsUnsaved, OpensDesk, AnswersDesk}
 use Rattle.sp_opening.proofs.Held.{not-risen}
 use Rattle.sp_desk_session.proofs.DeskAnswers.{session-answers}
 use Rattle.sp_desk_session.proofs.DeskSessions.{same-shelf}
-use Rattle.sp_room_session.proofs.Seats.{Goes, goes-on, stays-on}
+use Rattle.sp_run.proofs.Seats.{Goes, goes-on, stays-on}
 use Rattle.sp_desk_session.proofs.Touches.{Touches, Halts, Way, unsaved_line, other-line, session-counted, runs-promised, runs-last, runs-calm, session-others}
 use Rattle.spec_session.proofs.EndLaws.{ends-settle}
 use Rattle.sp_words.specs.Statuses.{status_of_end}

@@ -5,10 +5,10 @@ use Rattle.spec_wire.specs.Lines.{room_line_of_line}
 use Rattle.spec_machine.specs.KeptMemories.{IsWholeMemory}
 use Rattle.spec_locked_pages.specs.Chains.{AreLinked}
 use Rattle.spec_session.specs.Runs.{counts_of}
-use Rattle.sp_room_session.specs.SeatCounted.{SeatCounts, SeatCountsAtMost}
-use Rattle.sp_room_session.proofs.SeatLaws.{seat-undone, seat-unread}
-use Rattle.sp_room_session.proofs.Seats.{same-follows}
-use Rattle.sp_room_session.proofs.room_lines.reply_to_room_line.Goals as goal
+use Rattle.sp_run.specs.SeatCounted.{SeatCounts, SeatCountsAtMost}
+use Rattle.sp_run.proofs.SeatLaws.{seat-undone, seat-unread}
+use Rattle.sp_run.proofs.Seats.{same-follows}
+use Rattle.sp_run.proofs.room_lines.reply_to_room_line.Goals as goal
 
 pub returns-in-Err-BadJson-clause-follows : goal.returns-in-Err-BadJson-clause-follows
 returns-in-Err-BadJson-clause-follows g c =

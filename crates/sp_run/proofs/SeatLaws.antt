@@ -12,7 +12,7 @@ use Rattle.sp_room.proofs.Counting.{of-any}
 use Rattle.sp_desk_session.specs.Counted.{CommandCounts, CommandCountsAtMost}
 use Rattle.sp_desk_session.specs.DeskLines.{is_save, is_packet}
 use Rattle.sp_desk_session.proofs.CountLaws.{counts-at-most, lacking-counts, none-counts, refused-counts, taken-counts}
-use Rattle.sp_room_session.specs.SeatCounted.{SeatCounts, SeatCountsAtMost}
+use Rattle.sp_run.specs.SeatCounted.{SeatCounts, SeatCountsAtMost}
 
 -- Where neither count rose they are the same.
 same-counts : (from to : Counts) → to.reads ≡ from.reads → to.fills ≡ from.fills → to ≡ from

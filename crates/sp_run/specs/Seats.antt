@@ -9,7 +9,7 @@ use Rattle.spec_room.specs.Changes.{Text}
 use Rattle.spec_room.specs.Kinds.{Kind, edits, kind_of}
 use Rattle.spec_room.specs.Rooms.{RoomState}
 use Rattle.spec_room.specs.Sessions.{Takes, TakesSeen, versions_after}
-use Rattle.sp_room_session.specs.RoomLines.{NamedRoom}
+use Rattle.sp_run.specs.RoomLines.{NamedRoom}
 
 -- An edit took away or changed just the lines that its seat saw, in the text at the version `seen`.
 abbrev pub IsSeen : RoomState → List Text → ℕ → Kind → RoomState → Type 0

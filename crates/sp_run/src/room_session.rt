@@ -4,7 +4,7 @@ ghost use Rattle.sp_opening.specs.Records.{records_name};
 ghost use Rattle.sp_opening.specs.Saving.{Changes, KeepsAllBut};
 ghost use Rattle.sp_opening.specs.Unopened.{outside};
 ghost use Rattle.spec_session.specs.Runs.{counts_of};
-ghost use Rattle.sp_room_session.specs.RoomEnding.{RoomEnds};
+ghost use Rattle.sp_run.specs.RoomEnding.{RoomEnds};
 
 use crate::room_lines::RoomLines;
 use sp_desk_session::open_desk;

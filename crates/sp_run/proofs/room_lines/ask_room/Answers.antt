@@ -1,8 +1,8 @@
 use Rattle.std.proofs.Common.{subst}
 use Rattle.spec_machine.specs.KeptMemories.{IsWholeMemory}
 use Rattle.spec_locked_pages.specs.Chains.{AreLinked}
-use Rattle.sp_room_session.proofs.Seats.{answer-follows}
-use Rattle.sp_room_session.proofs.room_lines.ask_room.Goals as goal
+use Rattle.sp_run.proofs.Seats.{answer-follows}
+use Rattle.sp_run.proofs.room_lines.ask_room.Goals as goal
 
 pub returns-clause-follows : goal.returns-clause-follows
 returns-clause-follows g c =

@@ -28,12 +28,12 @@ use Rattle.sp_commands.specs.Values.{reply_of}
 use Rattle.sp_desk.specs.declared.fault.DeskFault.{DeskFault}
 use Rattle.sp_room.specs.Answers.{IsRoomAnswer}
 use Rattle.sp_desk_session.specs.DeskLines.{Leaves, asks_save, is_packet, is_save}
-use Rattle.sp_room_session.specs.RoomLines.{NamedRoom, SeatReplies, SeatStops, desk_of_room, other_room, packet_room, room_line_step_by, saved_room, seatless}
+use Rattle.sp_run.specs.RoomLines.{NamedRoom, SeatReplies, SeatStops, desk_of_room, other_room, packet_room, room_line_step_by, saved_room, seatless}
 use Rattle.sp_opening.specs.Saving.{files_of}
 use Rattle.sp_opening.proofs.Stores.{failed-left, names-differ}
 use Rattle.sp_desk_session.proofs.Replies.{stored-leaves}
 use Rattle.sp_desk_session.specs.Promises.{Follows}
-use Rattle.sp_room_session.specs.Seats.{IsSeen, IsTakenSeen}
+use Rattle.sp_run.specs.Seats.{IsSeen, IsTakenSeen}
 
 -- ---- one step
 

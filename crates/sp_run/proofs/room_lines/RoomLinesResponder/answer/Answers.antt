@@ -1,9 +1,9 @@
 use Rattle.spec_wire.specs.Lines.{room_line_of_line}
 use Rattle.spec_session.specs.Runs.{counts_of}
-use Rattle.sp_room_session.proofs.SeatLaws.{seat-at-most}
+use Rattle.sp_run.proofs.SeatLaws.{seat-at-most}
 use Rattle.sp_desk_session.proofs.Replies.{on-err}
-use Rattle.sp_room_session.proofs.Seats.{seat-stops}
-use Rattle.sp_room_session.proofs.room_lines.RoomLinesResponder.answer.Goals as goal
+use Rattle.sp_run.proofs.Seats.{seat-stops}
+use Rattle.sp_run.proofs.room_lines.RoomLinesResponder.answer.Goals as goal
 
 pub returns-clause-no_memory : goal.returns-clause-no_memory
 returns-clause-no_memory g c =

@@ -11,8 +11,8 @@ use Rattle.sp_words.specs.declared.status.Status.{Status}
 use Rattle.spec_room.specs.Rooms.{opened_room}
 use Rattle.sp_opening.specs.Counted.{OpeningCounts}
 use Rattle.sp_desk_session.specs.DeskLines.{memories_of, shelf_behind}
-use Rattle.sp_room_session.specs.RoomLines.{AnswersRoomLine, NamedRoom, StopsAtRoomLine, answered_room_lines, desk_in, room_at, seat_saves}
-use Rattle.sp_room_session.specs.Seats.{AreTakenSeen}
+use Rattle.sp_run.specs.RoomLines.{AnswersRoomLine, NamedRoom, StopsAtRoomLine, answered_room_lines, desk_in, room_at, seat_saves}
+use Rattle.sp_run.specs.Seats.{AreTakenSeen}
 use Rattle.sp_desk_session.specs.Promises.{ArePromised}
 use Rattle.sp_opening.specs.Opening.{HasState}
 use Rattle.sp_opening.specs.Unopened.{Outside}

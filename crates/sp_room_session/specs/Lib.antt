@@ -1,4 +1,0 @@
-pub mod SeatCounted
-pub mod RoomLines
-pub mod Seats
-pub mod RoomEnding
