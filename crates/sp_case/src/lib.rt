@@ -1,8 +1,13 @@
-//! A case as text: what the program is run on, and what has to come of it; and what is told where something else comes of it.
+//! A case as text: what a program is run on, and what has to come of it; and what is told where something else comes of it.
 #![tactic(auto)]
 
 mod case;
+mod compare;
 mod faults;
+mod packets;
+mod ran;
+mod turns;
 
-pub use case::{Case, MOST, case_of};
-pub use faults::{Faults, shown};
+pub use compare::faults_of;
+pub use faults::shown;
+pub use ran::Program;

@@ -3,31 +3,43 @@
 //! that one, and ends with status 1.
 #![tactic(auto)]
 
-mod packets;
-mod ran;
-mod turns;
-
-use crate::packets::compare_packet;
-use crate::ran::compare_run;
-use crate::turns::{compare_cuts, compare_turns};
-use sp_case::{Faults, case_of};
+use sp_case::{Program, faults_of, shown};
+use sp_kit::{Counter, MemoryShelf, MemorySink, MemorySource};
+use sp_run::{Status, fault_line, run};
 use std::alloc::{AllocError, Global};
 use std::process::ExitCode;
 use std::rt::{Env, Files};
 use std::{env, fs, io};
 
-/// What came of a case in place of what it says.
-fn faults_of(alloc: Global, text: &str) -> Result<String, AllocError> {
-    let mut faults = Faults::new(alloc);
-    let case = case_of(alloc, text)?;
-    if case.command.is_empty() {
-        compare_run(alloc, &case, &mut faults)?;
-    } else {
-        compare_packet(alloc, &case, &mut faults)?;
+/// The program.
+struct Fountain;
+
+/// The number of a status and its line.
+fn told(alloc: Global, status: &Status) -> Result<String, AllocError> {
+    let mut sink = MemorySink::new(alloc, 4096, 4096, Vec::new(alloc))?;
+    if fault_line(status, &mut sink).is_err() {
+        return String::from_str(alloc, "its line fails");
     }
-    compare_turns(alloc, text, &case, &mut faults)?;
-    compare_cuts(alloc, &case, &mut faults)?;
-    Ok(faults.told)
+    let line = shown(alloc, sink.taken())?;
+    let code = status.code();
+    if line.is_empty() {
+        return format!(in alloc; "{code}");
+    }
+    format!(in alloc; "{code} {line}")
+}
+
+impl Program for Fountain {
+    fn run(
+        &self,
+        alloc: Global,
+        words: &[String],
+        input: &mut MemorySource,
+        output: &mut MemorySink,
+        shelf: &mut MemoryShelf,
+        steps: &mut Counter,
+    ) -> Result<String, AllocError> {
+        told(alloc, &run(alloc, words, input, output, shelf, steps))
+    }
 }
 
 /// Runs cases between which stand empty lines, and tells of them. Answers whether each came out.
@@ -35,7 +47,7 @@ fn come_out<R: Print + AllocGlobal>(rt: &R, name: &str, cases: &str) -> io::Resu
     let mut count: u64 = 0;
     let mut failed = false;
     for text in cases.split("\n\n") {
-        let faults = faults_of(rt.alloc(), text)?;
+        let faults = faults_of(&Fountain, rt.alloc(), text)?;
         if faults.is_empty() {
             count = count.saturating_add(1);
         } else {

@@ -1,6 +1,7 @@
 //! Cases that are run again and again: with each call failing in turn, and over record files that are cut.
-use crate::ran::{kept, ran};
-use sp_case::{Case, Faults, case_of};
+use crate::case::{Case, case_of};
+use crate::faults::Faults;
+use crate::ran::{Program, kept, ran};
 use std::alloc::{AllocError, Global};
 
 /// The calls that fail of a case: of the source, of the sink or of the shelf.
@@ -14,7 +15,8 @@ fn fails_of<'a>(case: &'a mut Case, kind: &str) -> &'a mut Vec<u64> {
 
 /// Runs a case with each call of a kind failing in turn, until it comes out as if none had. Each run before has to end with the
 /// status, and to write what begins what the case says. Answers how many there were.
-fn fail_in_turn(
+fn fail_in_turn<P: Program>(
+    program: &P,
     alloc: Global,
     text: &str,
     kind: &str,
@@ -25,7 +27,7 @@ fn fail_in_turn(
     for call in 0..1000 {
         let mut case = case_of(alloc, text)?;
         fails_of(&mut case, kind).push(call)?;
-        let it = ran(alloc, &case)?;
+        let it = ran(program, alloc, &case)?;
         if it.told == case.status {
             faults.compare("wrote", &it.written, &case.written)?;
             break;
@@ -42,7 +44,8 @@ fn fail_in_turn(
 }
 
 /// Lets calls of a case fail in turn, where it says so.
-pub fn compare_turns(
+pub fn compare_turns<P: Program>(
+    program: &P,
     alloc: Global,
     text: &str,
     case: &Case,
@@ -51,7 +54,7 @@ pub fn compare_turns(
     for turn in &case.turns {
         let (kind, rest) = turn.split_once(' ').unwrap_or((turn.as_str(), ""));
         let (status, least) = rest.split_once(' ').unwrap_or((rest, ""));
-        let calls = fail_in_turn(alloc, text, kind, status, faults)?;
+        let calls = fail_in_turn(program, alloc, text, kind, status, faults)?;
         if calls < least.parse().unwrap_or(u64::MAX) {
             let calls = format!(in alloc; "{calls}")?;
             faults.tell("calls that fail", calls.as_bytes(), least.as_bytes())?;
@@ -61,7 +64,8 @@ pub fn compare_turns(
 }
 
 /// Prints a script beside a record file, and compares what comes of it.
-fn compare_print(
+fn compare_print<P: Program>(
+    program: &P,
     alloc: Global,
     print: &mut Case,
     records: &[u8],
@@ -70,14 +74,15 @@ fn compare_print(
     faults: &mut Faults,
 ) -> Result<(), AllocError> {
     print.records = records.to_vec(alloc)?;
-    let it = ran(alloc, print)?;
+    let it = ran(program, alloc, print)?;
     faults.compare("told", it.told.as_bytes(), told.as_bytes())?;
     faults.compare("wrote", &it.written, written)
 }
 
 /// Prints a script beside each shorter record file, and beside the whole one. Without the end of its line the file says what the whole
 /// one does.
-fn compare_shorter(
+fn compare_shorter<P: Program>(
+    program: &P,
     alloc: Global,
     print: &mut Case,
     records: &[u8],
@@ -85,26 +90,38 @@ fn compare_shorter(
     faults: &mut Faults,
 ) -> Result<(), AllocError> {
     print.records = records.to_vec(alloc)?;
-    let whole = ran(alloc, print)?.written;
+    let whole = ran(program, alloc, print)?.written;
     let end = records.len().saturating_sub(1);
     for place in 1..end {
-        compare_print(alloc, print, &records[..place], told, b"", faults)?;
+        compare_print(program, alloc, print, &records[..place], told, b"", faults)?;
     }
-    compare_print(alloc, print, &records[..end], "0", &whole, faults)?;
-    compare_print(alloc, print, records, "0", &whole, faults)
+    compare_print(program, alloc, print, &records[..end], "0", &whole, faults)?;
+    compare_print(program, alloc, print, records, "0", &whole, faults)
 }
 
 /// Compares what is told over each shorter record file than the one that a case leaves, where it says so.
-pub fn compare_cuts(alloc: Global, case: &Case, faults: &mut Faults) -> Result<(), AllocError> {
+pub fn compare_cuts<P: Program>(
+    program: &P,
+    alloc: Global,
+    case: &Case,
+    faults: &mut Faults,
+) -> Result<(), AllocError> {
     if case.cut.is_empty() {
         return Ok(());
     }
-    let mut shelf = ran(alloc, case)?.shelf;
+    let mut shelf = ran(program, alloc, case)?.shelf;
     let records = kept(alloc, &mut shelf, "f.desk")?;
     if records.is_empty() {
         faults.tell("f.desk", b"", b"a record file")?;
     }
     let mut print = case_of(alloc, "$print f")?;
     print.script = kept(alloc, &mut shelf, "f")?;
-    compare_shorter(alloc, &mut print, &records, case.cut.as_str(), faults)
+    compare_shorter(
+        program,
+        alloc,
+        &mut print,
+        &records,
+        case.cut.as_str(),
+        faults,
+    )
 }

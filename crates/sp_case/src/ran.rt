@@ -1,21 +1,21 @@
 //! A case that is run.
-use sp_case::{Case, Faults, MOST, shown};
+use crate::case::{Case, MOST};
+use crate::faults::Faults;
 use sp_kit::{Counter, Fetched, MemoryShelf, MemorySink, MemorySource, Shelf};
-use sp_run::{Status, fault_line, run};
 use std::alloc::{AllocError, Global};
 
-/// The number of a status and its line.
-fn told(alloc: Global, status: &Status) -> Result<String, AllocError> {
-    let mut sink = MemorySink::new(alloc, 4096, MOST, Vec::new(alloc))?;
-    if fault_line(status, &mut sink).is_err() {
-        return String::from_str(alloc, "its line fails");
-    }
-    let line = shown(alloc, sink.taken())?;
-    let code = status.code();
-    if line.is_empty() {
-        return format!(in alloc; "{code}");
-    }
-    format!(in alloc; "{code} {line}")
+/// What is run on cases.
+pub trait Program {
+    /// Runs by words over objects in memory. Answers the number of the status, and behind a space its line, where it has one.
+    fn run(
+        &self,
+        alloc: Global,
+        words: &[String],
+        input: &mut MemorySource,
+        output: &mut MemorySink,
+        shelf: &mut MemoryShelf,
+        steps: &mut Counter,
+    ) -> Result<String, AllocError>;
 }
 
 /// Stores bytes that a run may ask for.
@@ -58,7 +58,8 @@ pub struct Outcome {
 
 /// Runs the program on a case, over a shelf that stands already, and answers what it told, what it wrote and what it
 /// counted.
-pub fn ran_over(
+pub fn ran_over<P: Program>(
+    program: &P,
     alloc: Global,
     case: &Case,
     shelf: &mut MemoryShelf,
@@ -76,22 +77,22 @@ pub fn ran_over(
         case.output_fails.to_vec(alloc)?,
     )?;
     let mut steps = Counter::new();
-    let status = run(
+    let told = program.run(
         alloc,
         &case.words,
         &mut input,
         &mut output,
         shelf,
         &mut steps,
-    );
+    )?;
     let counts = format!(in alloc; "{} {}", steps.reads(), steps.fills())?;
-    Ok((told(alloc, &status)?, output.taken().to_vec(alloc)?, counts))
+    Ok((told, output.taken().to_vec(alloc)?, counts))
 }
 
 /// Runs the program on a case.
-pub fn ran(alloc: Global, case: &Case) -> Result<Outcome, AllocError> {
+pub fn ran<P: Program>(program: &P, alloc: Global, case: &Case) -> Result<Outcome, AllocError> {
     let mut shelf = shelf_of(alloc, case)?;
-    let (told, written, counts) = ran_over(alloc, case, &mut shelf)?;
+    let (told, written, counts) = ran_over(program, alloc, case, &mut shelf)?;
     Ok(Outcome {
         told,
         written,
@@ -109,8 +110,13 @@ pub fn kept(alloc: Global, shelf: &mut MemoryShelf, name: &str) -> Result<Vec<u8
 }
 
 /// Runs the program on a case, and compares what comes of it with what has to.
-pub fn compare_run(alloc: Global, case: &Case, faults: &mut Faults) -> Result<(), AllocError> {
-    let mut it = ran(alloc, case)?;
+pub fn compare_run<P: Program>(
+    program: &P,
+    alloc: Global,
+    case: &Case,
+    faults: &mut Faults,
+) -> Result<(), AllocError> {
+    let mut it = ran(program, alloc, case)?;
     if !it.told.starts_with(case.status.as_str()) {
         faults.tell("told", it.told.as_bytes(), case.status.as_bytes())?;
     }
