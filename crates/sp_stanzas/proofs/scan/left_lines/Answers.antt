@@ -4,9 +4,9 @@ use Rattle.std.proofs.lemmas.List.{drop_more, reverse-append}
 use Rattle.spec_script.specs.declared.Sort.{Sort}
 use Rattle.spec_script.specs.declared.Sort.TheVariants as sorts
 use Rattle.spec_script.specs.Left.{Cleaned, Left, left_before, left_from}
-use Rattle.sp_blocks.specs.Scanned.{Scanned, all_go_through, clean, clean_each, goes_through, left_of, noted_parts}
-use Rattle.sp_blocks.proofs.scan.left_lines.Goals.{in-Some+in_ok-push, in_default}
-use Rattle.sp_blocks.proofs.scan.left_lines.Goals as goal
+use Rattle.sp_stanzas.specs.Scanned.{Scanned, all_go_through, clean, clean_each, goes_through, left_of, noted_parts}
+use Rattle.sp_stanzas.proofs.scan.left_lines.Goals.{in-Some+in_ok-push, in_default}
+use Rattle.sp_stanzas.proofs.scan.left_lines.Goals as goal
 
 before-append : (place : ℕ) (sort : Sort) (line : Cleaned) (rest : List Left) → left_before place sort line rest ≡ left_before place sort line [] ++ rest
 before-append place sorts.Empty line rest = refl
