@@ -1,7 +1,7 @@
 use Rattle.std.proofs.Common.{◌≡◌, ℕ, ◌+◌, ◌<◌, List, ◌∷◌, ◌++◌, length, get_or, drop, sym, ap, ap₂, ◌∙◌, append_assoc}
 use Rattle.std.proofs.lemmas.List.{drop_more, get_or_default}
 use Rattle.spec_text.specs.Parts.{SpanOf}
-use Rattle.sp_blocks.specs.Scanned.{between, later, outside}
+use Rattle.sp_blocks.specs.Outside.{between, later, outside}
 use Rattle.sp_blocks.proofs.spans.outside.Goals as goal
 
 -- What is outside in one span more.
