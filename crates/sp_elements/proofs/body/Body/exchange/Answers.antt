@@ -1,4 +1,5 @@
 use Rattle.std.proofs.Common.{◌≡◌, ◌+◌, ◌-◌, ◌≤◌, ◌++◌, List, length, map, take, drop, slice_range, All, sym, ap, ap₂, subst, ◌∙◌, arith}
+use Rattle.std.proofs.lemmas.Grind.{common_steps}
 use Rattle.spec_pages.specs.Rows.{ElementOf}
 use Rattle.spec_labels.specs.declared.RowKey.{RowKey}
 use Rattle.spec_layout.specs.Shown.{heading_count}
@@ -551,3 +552,33 @@ returns-clause-elements c =
     (moved-behind old.elements others.elements c.exchange.new.list.items c.move_elements.new.elements.items a.from a.to c.len-count.result a.less a.more c.requires.order within count c.exchange.ensures.list c.move_elements.ensures.elements)
     (c.exchange_rows.ensures.keys.0 ∙ ap₂ (λ n m. exchanged old.keys n m others.keys) row end)
     ∙ ap₂ (λ (b o : BodyOf). with_run (keyed_elements b) a.from a.to (keyed_elements o) a.less a.more) c.self.view_is c.other.view_is
+
+pub exchange-requires-clause-within : goal.exchange-requires-clause-within
+exchange-requires-clause-within c = grind (arith, common_steps)
+
+pub exchange-requires-clause-room : goal.exchange-requires-clause-room
+exchange-requires-clause-room c = grind (arith, common_steps)
+
+pub exchange-requires-clause-items_room : goal.exchange-requires-clause-items_room
+exchange-requires-clause-items_room c = grind (arith, common_steps)
+
+pub exchange_places-requires-clause-items_room : goal.exchange_places-requires-clause-items_room
+exchange_places-requires-clause-items_room c = grind (arith, common_steps)
+
+pub exchange_places-requires-2-clause-items_room : goal.exchange_places-requires-2-clause-items_room
+exchange_places-requires-2-clause-items_room c = grind (arith, common_steps)
+
+pub move_elements-requires-clause-within : goal.move_elements-requires-clause-within
+move_elements-requires-clause-within c = grind (arith, common_steps)
+
+pub overflow_add-from : goal.overflow_add-from
+overflow_add-from c = grind (arith, common_steps)
+
+pub returns-clause-back_room : goal.returns-clause-back_room
+returns-clause-back_room c = grind (arith, common_steps)
+
+pub returns-clause-room : goal.returns-clause-room
+returns-clause-room c = grind (arith, common_steps)
+
+pub returns-clause-taken : goal.returns-clause-taken
+returns-clause-taken c = grind (arith, common_steps)

@@ -1,4 +1,5 @@
 use Rattle.std.proofs.Common.{◌≡◌, ℕ, ◌+◌, List, ◌∷◌, [], ◌++◌, length, map, ◌∙◌, ap, ap₂, arith}
+use Rattle.std.proofs.lemmas.Grind.{common_steps}
 use Rattle.spec_pages.specs.declared.Shape.{Shape}
 use Rattle.spec_pages.specs.Rows.{Row, ElementOf, placed_rows}
 use Rattle.spec_labels.specs.declared.RowKey.{RowKey}
@@ -37,3 +38,18 @@ invariant_of-self-2 c =
       heading_starts = c.push_reserved-2.ensures.items ∙ ap (λ (those : List ℕ). those ++ c.self.inside.headings ∷ []) next.heading_starts;
       headings = ap (λ (n : ℕ). c.self.inside.headings + n) c.headings_of.ensures.value;
     })
+
+pub add_rows-requires-clause-keys : goal.add_rows-requires-clause-keys
+add_rows-requires-clause-keys c = grind (arith, common_steps)
+
+pub add_rows-requires-clause-marks : goal.add_rows-requires-clause-marks
+add_rows-requires-clause-marks c = grind (arith, common_steps)
+
+pub add_rows-requires-clause-shapes : goal.add_rows-requires-clause-shapes
+add_rows-requires-clause-shapes c = grind (arith, common_steps)
+
+pub returns-clause-err : goal.returns-clause-err
+returns-clause-err c = grind (arith, common_steps)
+
+pub returns-clause-ok : goal.returns-clause-ok
+returns-clause-ok c = grind (arith, common_steps)
