@@ -6,8 +6,7 @@ ghost use Rattle.spec_pages.specs.Rows.{Row as RowValue, shifted_row};
 ghost use Rattle.sp_elements.specs.Bodies.{keyed_elements, row_count};
 ghost use Rattle.sp_elements.specs.Exchanges.{CanMove, moved_element, with_run};
 
-use sp_elements::Row;
-use sp_elements::Body;
+use sp_elements::{Body, Row};
 use spec_labels::RowKey;
 use std::marker::Model;
 
