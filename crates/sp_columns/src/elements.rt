@@ -8,8 +8,8 @@ ghost use Rattle.spec_pages.specs.Rows.{block_alone, blocks_beside, dual_rows, h
 use crate::columns::{first_lead, has_rows};
 use crate::lines::block_rows;
 use crate::speakers::tell_speakers;
-use crate::values::{Cell, Row};
 use sp_blocks::Block;
+use sp_elements::{Cell, Row};
 use sp_text::Lines;
 use spec_pages::{NUMBER_BEFORE, NUMBER_BEHIND, RowKind, Shape, Side};
 use spec_script::{Kind, Run};

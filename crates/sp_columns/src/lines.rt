@@ -9,8 +9,8 @@ ghost use Rattle.spec_pages.specs.Rows.{block_rows, line_context, line_row, own_
 
 use crate::columns::{column_of, row_kind, width_of};
 use crate::sentences::ends_sentence;
-use crate::values::{Cell, Row};
 use sp_blocks::{Block, BlockLine};
+use sp_elements::{Cell, Row};
 use sp_measure::{WrapRow, wrap};
 use sp_text::Lines;
 use spec_pages::{RowKind, Shape, Side};

@@ -10,9 +10,9 @@ use Rattle.spec_layout.specs.Layout.{placed_in}
 use Rattle.spec_state.specs.SameRows.{BareRow}
 use Rattle.sp_splice.specs.Moves.{shifted}
 use Rattle.sp_splice.specs.Runs.{exchanged}
-use Rattle.sp_layout.specs.Bodies.{KeyedElements, StandsIn, row_count}
-use Rattle.sp_layout.specs.Exchanges.{CanMove, moved_element, with_run}
-use Rattle.sp_layout.proofs.BodyExchanges.{count-append, count-moved}
+use Rattle.sp_elements.specs.Bodies.{KeyedElements, StandsIn, row_count}
+use Rattle.sp_elements.specs.Exchanges.{CanMove, moved_element, with_run}
+use Rattle.sp_elements.proofs.BodyExchanges.{count-append, count-moved}
 use Rattle.sp_compare.specs.BareRows.{AreSameAround, StayOutside, bare_row, bare_rows}
 use Rattle.sp_compare.proofs.RowLists.{map-slice}
 use Rattle.sp_compare.proofs.RowPlaces.{placed_in-append, row-there}

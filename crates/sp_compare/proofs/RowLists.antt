@@ -11,7 +11,7 @@ use Rattle.spec_layout.specs.Cells.{ShownCell}
 use Rattle.spec_layout.specs.Layout.{placed_in}
 use Rattle.spec_layout.specs.Shown.{element_cue, heading_label, labels_behind, row_key, shown_of, shown_rows}
 use Rattle.spec_state.specs.SameRows.{BareRow, bare_of, same_cells, same_key, same_list, same_row, same_shape}
-use Rattle.sp_layout.specs.Bodies.{KeyedElements, row_count}
+use Rattle.sp_elements.specs.Bodies.{KeyedElements, row_count}
 use Rattle.sp_compare.specs.BareRows.{AreLaid, bare_cells, bare_row, bare_rows}
 
 -- ---- rows, as an edit sees them

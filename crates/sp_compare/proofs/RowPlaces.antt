@@ -4,7 +4,7 @@ use Rattle.std.proofs.lemmas.List.{get_or-map, length-map, take_more}
 use Rattle.std.proofs.lemmas.List.Concat.{get_or-flat_map}
 use Rattle.spec_pages.specs.Rows.{Row, ElementOf, placed_rows, shifted_row}
 use Rattle.spec_layout.specs.Layout.{placed_in}
-use Rattle.sp_layout.specs.Bodies.{StandsIn, row_count}
+use Rattle.sp_elements.specs.Bodies.{StandsIn, row_count}
 
 pub placed_in-append : (elements others : List ElementOf) → placed_in (elements ++ others) ≡ placed_in elements ++ placed_in others
 placed_in-append [] others = refl

@@ -12,7 +12,7 @@ use Rattle.spec_relayout.proofs.RowMoves.{cell_to, row_to}
 use Rattle.spec_relayout.proofs.ItemMoves.{shown-moved}
 use Rattle.spec_relay.proofs.RowShifts.{rows-moved}
 use Rattle.sp_splice.specs.Moves.{shifted}
-use Rattle.sp_layout.specs.Exchanges.{CanMove, moved_element}
+use Rattle.sp_elements.specs.Exchanges.{CanMove, moved_element}
 use Rattle.sp_compare.specs.BareRows.{StayOutside, bare_row}
 
 -- The line at a place of the one text, moved, is that at the place of the other.

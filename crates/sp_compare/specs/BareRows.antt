@@ -7,8 +7,8 @@ use Rattle.spec_layout.specs.Cells.{RowShows, ShownCell, continued, shown_cell, 
 use Rattle.spec_layout.specs.Layout.{placed_in}
 use Rattle.spec_layout.specs.Shown.{row_key}
 use Rattle.spec_state.specs.SameRows.{BareRow}
-use Rattle.sp_layout.specs.Bodies.{KeyedElements, row_count}
-use Rattle.sp_layout.specs.Exchanges.{moved_element}
+use Rattle.sp_elements.specs.Bodies.{KeyedElements, row_count}
+use Rattle.sp_elements.specs.Exchanges.{moved_element}
 
 -- Cells of an element that begins at a line, without a written number.
 abbrev pub bare_cells : List (List ℕ) → ℕ → List Cell → List ShownCell

@@ -5,15 +5,15 @@ ghost use Rattle.spec_labels.specs.Labels.{LabelOf};
 ghost use Rattle.spec_layout.specs.Layout.{placed_in};
 ghost use Rattle.spec_layout.specs.Shown.{no_row, shown_rows};
 ghost use Rattle.spec_state.specs.SameRows.{same_list, same_row, same_rows};
-ghost use Rattle.sp_layout.specs.Bodies.{keyed_elements, row_count};
-ghost use Rattle.sp_layout.specs.Exchanges.{CanMove, with_run};
+ghost use Rattle.sp_elements.specs.Bodies.{keyed_elements, row_count};
+ghost use Rattle.sp_elements.specs.Exchanges.{CanMove, with_run};
 ghost use Rattle.sp_compare.specs.BareRows.{AreLaid, StayOutside, bare_row, bare_rows};
 
 use crate::cells::same_cells;
 use crate::old_lines::OldLines;
 use crate::old_rows::{OldRows, row_at};
 use crate::shapes::{same_key, same_shape};
-use sp_layout::Body;
+use sp_elements::Body;
 use sp_text::Lines;
 use std::marker::Model;
 
@@ -31,7 +31,7 @@ pub struct BothTexts<'a> {
 }
 
 impl<'a> Model for BothTexts<'a> {
-    ghost use Rattle.sp_layout.specs.Bodies.{keyed_elements};
+    ghost use Rattle.sp_elements.specs.Bodies.{keyed_elements};
     ghost use Rattle.sp_compare.specs.BareRows.{AreLaid, AreSameAround, Both};
 
     ghost Value = { Both };

@@ -9,7 +9,7 @@ ghost use Rattle.spec_state.specs.SameRows.{same_cell, same_cells, same_part, sa
 ghost use Rattle.sp_compare.specs.BareRows.{bare_cells, own_runs, own_text};
 
 use crate::old_lines::{OldLines, line_text};
-use sp_columns::Cell;
+use sp_elements::Cell;
 use sp_text::Lines;
 use spec_script::Run;
 

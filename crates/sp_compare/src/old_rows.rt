@@ -3,11 +3,10 @@ ghost use Rattle.std.specs.Prelude.{◌≡◌, ◌+◌, ◌<◌, ◌≤◌, All,
 ghost use Rattle.spec_labels.specs.declared.RowKey.{RowKey as RowKeyValue};
 ghost use Rattle.spec_layout.specs.Layout.{placed_in};
 ghost use Rattle.spec_pages.specs.Rows.{Row as RowValue, shifted_row};
-ghost use Rattle.sp_layout.specs.Bodies.{keyed_elements, row_count};
-ghost use Rattle.sp_layout.specs.Exchanges.{CanMove, moved_element, with_run};
+ghost use Rattle.sp_elements.specs.Bodies.{keyed_elements, row_count};
+ghost use Rattle.sp_elements.specs.Exchanges.{CanMove, moved_element, with_run};
 
-use sp_columns::Row;
-use sp_layout::Body;
+use sp_elements::{Body, Row};
 use spec_labels::RowKey;
 use std::marker::Model;
 
@@ -69,8 +68,8 @@ pub struct OldRows<'a> {
 
 impl<'a> Model for OldRows<'a> {
     ghost use Rattle.std.specs.Prelude.{◌≤◌, All, drop, length};
-    ghost use Rattle.sp_layout.specs.Bodies.{KeyedElements, keyed_elements, row_count};
-    ghost use Rattle.sp_layout.specs.Exchanges.{CanMove, with_run};
+    ghost use Rattle.sp_elements.specs.Bodies.{KeyedElements, keyed_elements, row_count};
+    ghost use Rattle.sp_elements.specs.Exchanges.{CanMove, with_run};
 
     ghost Value = { KeyedElements };
 

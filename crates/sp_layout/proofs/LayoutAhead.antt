@@ -10,9 +10,9 @@ use Rattle.spec_labels.specs.declared.RowKey.{RowKey}
 use Rattle.spec_layout.specs.Speakers.{Spoken}
 use Rattle.spec_layout.specs.Layout.{laid_out, kind_of, is_title_element, in_body, is_page_break, breaks_from, layout_in, placed_in}
 use Rattle.spec_layout.specs.Shown.{row_key}
-use Rattle.sp_layout.specs.Bodies.{KeyedElements, with_element, row_count}
+use Rattle.sp_elements.specs.Bodies.{KeyedElements, with_element, row_count}
 use Rattle.sp_layout.specs.LaidOut.{LayoutOf, no_layout, keyed, with_laid}
-use Rattle.sp_layout.proofs.BodyLaws.{placed_in-push}
+use Rattle.sp_elements.proofs.BodyLaws.{placed_in-push}
 
 -- A body, with elements behind it.
 abbrev pub with_elements : List LineState → KeyedElements → List ElementOf → KeyedElements

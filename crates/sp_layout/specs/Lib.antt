@@ -1,5 +1,2 @@
 pub mod Speaking
-pub mod Places
-pub mod Bodies
 pub mod LaidOut
-pub mod Exchanges

@@ -9,10 +9,10 @@ ghost use Rattle.sp_text.specs.Gap.{text_of};
 ghost use Rattle.sp_layout.specs.LaidOut.{AddsElement, IsLayoutOf, layout_behind, no_layout, spoken_beside, spoken_block, with_laid};
 ghost use Rattle.sp_layout.specs.Speaking.{speakers_before};
 
-use crate::body::Body;
 use crate::placed::{PlacedBlock, placed_blocks};
 use crate::speakers::Speakers;
-use sp_columns::{Element, dual_rows, single_rows};
+use sp_columns::{dual_rows, single_rows};
+use sp_elements::{Body, Element};
 use sp_reread::Stanzas;
 use sp_text::Lines;
 use spec_pages::Side;
@@ -30,7 +30,7 @@ pub struct Layout {
 }
 
 impl Model for Layout {
-    ghost use Rattle.sp_layout.specs.Bodies.{keyed_elements};
+    ghost use Rattle.sp_elements.specs.Bodies.{keyed_elements};
     ghost use Rattle.sp_layout.specs.LaidOut.{LayoutOf};
 
     ghost Value = { LayoutOf };

@@ -15,10 +15,10 @@ use Rattle.spec_state.specs.State.{State, text_of}
 use Rattle.spec_state.specs.Headings.{heading_labels}
 use Rattle.spec_state.specs.StateSheets.{layout_in}
 use Rattle.sp_splice.proofs.RunLaws.{in-three}
-use Rattle.sp_layout.specs.Bodies.{KeyedElements, row_count, shapes_in}
-use Rattle.sp_layout.specs.Exchanges.{moved_element, run_of, with_run}
+use Rattle.sp_elements.specs.Bodies.{KeyedElements, row_count, shapes_in}
+use Rattle.sp_elements.specs.Exchanges.{moved_element, run_of, with_run}
 use Rattle.sp_layout.specs.LaidOut.{LayoutOf}
-use Rattle.sp_layout.proofs.BodyExchanges.{count-append, till-is}
+use Rattle.sp_elements.proofs.BodyExchanges.{count-append, till-is}
 use Rattle.sp_scenes.specs.LineLabels.{line_labels}
 use Rattle.sp_made.specs.Made.{laid_in}
 use Rattle.sp_made.specs.HeadingIds.{body_headings, heading_ids, is_heading_start, laid_headings, laid_labels}

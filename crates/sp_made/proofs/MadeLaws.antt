@@ -24,7 +24,7 @@ use Rattle.spec_locked_pages.specs.Segments.{pages_of}
 use Rattle.spec_state.specs.Keeping.{IsWhole, records_of, state_of}
 use Rattle.spec_state.proofs.OpenedLaws.{opening-whole}
 use Rattle.spec_state.proofs.StateLaws.{state-AreKeptPages, state-ArePageRecords, state-AreAnchored, state-AreStarts, state-ArePages, state-few, rising-few}
-use Rattle.sp_layout.specs.Bodies.{row_count, shapes_in, marks_in}
+use Rattle.sp_elements.specs.Bodies.{row_count, shapes_in, marks_in}
 use Rattle.sp_made.specs.Made.{AreFewPages, AskedOfPages, LockedSheets, key_starts, marked_or_locked}
 use Rattle.sp_made.proofs.MarkedLaws.{marked_sheets-numbered}
 

@@ -14,7 +14,7 @@ use Rattle.spec_state.specs.StateSheets.{greatest_mark, layout_in, numbered_shee
 use Rattle.spec_state.specs.Keeping.{IsWhole}
 use Rattle.spec_state.proofs.RowMarks.{rows-marks}
 use Rattle.spec_state.proofs.StateLaws.{whole-kept}
-use Rattle.sp_layout.specs.Bodies.{marks_in}
+use Rattle.sp_elements.specs.Bodies.{marks_in}
 use Rattle.sp_made.specs.Numbered.{mark_of, marked_sheet, marked_sheets}
 
 fold-marks : (mark : ℕ) (rows : List Shown) → fold max mark (map mark_of rows) ≡ fold (λ mark (it : Shown). max mark it.mark) mark rows

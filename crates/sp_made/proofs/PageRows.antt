@@ -9,7 +9,7 @@ use Rattle.spec_layout.specs.Cells.{RowShows}
 use Rattle.spec_layout.specs.Layout.{placed_in}
 use Rattle.spec_layout.specs.Shown.{shown_rows, labels_past}
 use Rattle.spec_layout.proofs.ShownLaws.{shown_rows-slice}
-use Rattle.sp_layout.specs.Bodies.{IsPageOf, PageOf, row_count}
+use Rattle.sp_elements.specs.Bodies.{IsPageOf, PageOf, row_count}
 
 placed-append : (ones others : List ElementOf) → placed_in (ones ++ others) ≡ placed_in ones ++ placed_in others
 placed-append [] others = refl

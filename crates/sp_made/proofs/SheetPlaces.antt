@@ -24,7 +24,7 @@ use Rattle.spec_state.specs.StateSheets.{greatest_mark, title_sheet, numbered_sh
 use Rattle.spec_state.proofs.SheetGets.{length-sheets, sheets-title, sheets-body}
 use Rattle.spec_state.proofs.StateKeys.{state-row_keys}
 use Rattle.spec_state.proofs.StateLaws.{state-Cover}
-use Rattle.sp_layout.specs.Bodies.{row_count, marks_in}
+use Rattle.sp_elements.specs.Bodies.{row_count, marks_in}
 use Rattle.sp_layout.specs.LaidOut.{LayoutOf}
 use Rattle.sp_made.specs.Made.{MadeOf, IsMadeOf}
 use Rattle.sp_made.specs.Places.{HasPlaces, title_at, sheet_shown}

@@ -16,7 +16,7 @@ use Rattle.spec_locked_pages.specs.Segments.{pages_of}
 use Rattle.spec_reflow.specs.Windows.{AreStops}
 use Rattle.spec_refill.specs.Exchanges.{stops_in}
 use Rattle.spec_refill.proofs.SortedStops.{in-order}
-use Rattle.sp_layout.specs.Bodies.{row_count}
+use Rattle.sp_elements.specs.Bodies.{row_count}
 use Rattle.sp_reflow.specs.Starts.{many_more}
 use Rattle.sp_reflow.specs.Filling.{FilledAtMost}
 use Rattle.sp_made.specs.Made.{AreStopsOf}

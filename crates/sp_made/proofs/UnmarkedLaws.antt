@@ -7,7 +7,7 @@ use Rattle.spec_state.specs.Headings.{heading_labels}
 use Rattle.spec_state.specs.Keeping.{IsWhole}
 use Rattle.spec_layout.proofs.ShownLaws.{shown_rows-marks}
 use Rattle.spec_locked_pages.specs.Segments.{pages_of}
-use Rattle.sp_layout.specs.Bodies.{marks_in}
+use Rattle.sp_elements.specs.Bodies.{marks_in}
 use Rattle.sp_made.specs.Numbered.{mark_of, numbered_sheet, marked_sheets, unmarked_sheets, AreUnmarked}
 use Rattle.sp_made.proofs.MarkedLaws.{marked_sheets-numbered, rows-unmarked}
 use Rattle.sp_made.proofs.SheetMoves.{greatest-none}

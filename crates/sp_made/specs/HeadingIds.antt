@@ -5,7 +5,7 @@ use Rattle.spec_pages.specs.Pages.{is_heading}
 use Rattle.spec_labels.specs.declared.RowKey.{RowKey}
 use Rattle.spec_labels.specs.Labels.{LabelOf}
 use Rattle.spec_labels.specs.Scenes.{SceneRecordOf}
-use Rattle.sp_layout.specs.Bodies.{KeyedElements, shapes_in}
+use Rattle.sp_elements.specs.Bodies.{KeyedElements, shapes_in}
 use Rattle.sp_layout.specs.LaidOut.{LayoutOf}
 use Rattle.sp_scenes.specs.LineLabels.{line_labels}
 

@@ -6,7 +6,7 @@ use Rattle.spec_labels.specs.declared.RowKey.{RowKey}
 use Rattle.spec_labels.specs.Labels.{LabelOf}
 use Rattle.spec_labels.specs.PageRecords.{PageRecordOf, SheetOf, ArePageRecords, ArePages, AreStarts, record_starts, sheets_of_records}
 use Rattle.spec_state.specs.State.{State}
-use Rattle.sp_layout.specs.Bodies.{row_count, marks_in}
+use Rattle.sp_elements.specs.Bodies.{row_count, marks_in}
 use Rattle.sp_layout.specs.LaidOut.{LayoutOf, keyed}
 use Rattle.sp_made.specs.Numbered.{marked_sheets}
 use Rattle.spec_state.specs.Headings.{heading_labels}

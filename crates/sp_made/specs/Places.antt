@@ -7,7 +7,7 @@ use Rattle.spec_layout.specs.Layout.{placed_in}
 use Rattle.spec_layout.specs.Shown.{shown_rows}
 use Rattle.spec_print.specs.Sheets.{Sheet}
 use Rattle.spec_state.specs.StateSheets.{shown_sheet, title_sheet}
-use Rattle.sp_layout.specs.Bodies.{row_count}
+use Rattle.sp_elements.specs.Bodies.{row_count}
 use Rattle.sp_made.specs.Made.{MadeOf}
 
 -- The sheets lie in the rows of the elements, and these show parts of the lines.

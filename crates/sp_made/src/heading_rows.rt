@@ -1,11 +1,11 @@
 //! The headings among rows that are laid out.
 ghost use Rattle.std.specs.Prelude.{◌≡◌, ℕ, ◌≤◌, ◌↔◌, IsTrue, length, take};
-ghost use Rattle.sp_layout.specs.Bodies.{keyed_elements, row_count};
-ghost use Rattle.sp_layout.specs.Exchanges.{with_run};
+ghost use Rattle.sp_elements.specs.Bodies.{keyed_elements, row_count};
+ghost use Rattle.sp_elements.specs.Exchanges.{with_run};
 ghost use Rattle.sp_relay.specs.Kept.{CanSwap, laid_of, with_part};
 ghost use Rattle.sp_made.specs.HeadingIds.{IsHeadingFrom, body_headings, heading_ids, is_heading_start, laid_headings};
 
-use sp_layout::Body;
+use sp_elements::Body;
 use sp_relay::{KeptLayout, LayoutPart};
 use spec_labels::RowKey;
 use spec_pages::{RowKind, Shape};

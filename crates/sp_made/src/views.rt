@@ -8,14 +8,14 @@ ghost use Rattle.spec_layout.specs.Layout.{placed_in};
 ghost use Rattle.spec_layout.specs.Shown.{labels_past, shown_rows};
 ghost use Rattle.spec_print.specs.PageRows.{page_body};
 ghost use Rattle.spec_state.specs.StateSheets.{shown_sheet, title_sheet};
-ghost use Rattle.sp_layout.specs.Bodies.{row_count, shapes_in};
+ghost use Rattle.sp_elements.specs.Bodies.{row_count, shapes_in};
 ghost use Rattle.sp_print.specs.Views.{label_of};
 ghost use Rattle.sp_made.specs.Places.{HasPlaces, sheet_shown, title_at};
 
 use crate::made::Made;
 use crate::numbered::{greatest, page_behind};
+use sp_elements::Body;
 use sp_labels::Label;
-use sp_layout::Body;
 use sp_locks::Sheet;
 use sp_print::{PageView, SheetLabel};
 use sp_text::Lines;

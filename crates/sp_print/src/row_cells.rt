@@ -5,7 +5,7 @@ ghost use Rattle.spec_layout.specs.Cells.{RowShows, ShowsParts, shown_cell, text
 ghost use Rattle.sp_print.specs.Views.{IsSlice, cell_views, cells_views, kept_cells, part_count, runs_views, view_of};
 
 use crate::views::{CONTINUED, CellText, CellView};
-use sp_columns::{Cell, Row};
+use sp_elements::{Cell, Row};
 use sp_text::Lines;
 use std::marker::Model;
 

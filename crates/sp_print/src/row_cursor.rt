@@ -7,7 +7,7 @@ ghost use Rattle.spec_layout.specs.Layout.{placed_in};
 ghost use Rattle.spec_layout.specs.Shown.{heading_label, is_heading_element, labels_behind, shown_rows};
 
 use crate::text_row::{TextRow, opens_heading};
-use sp_columns::Element;
+use sp_elements::Element;
 use sp_labels::Label;
 use sp_text::Lines;
 use std::marker::Model;

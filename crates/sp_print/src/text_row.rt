@@ -8,7 +8,7 @@ use crate::cue::repeated_cue;
 use crate::row_cells::row_cells;
 use crate::row_view::RowView;
 use crate::views::{CellText, lone_cell};
-use sp_columns::{Element, Row, RowKind, Shape};
+use sp_elements::{Element, Row, RowKind, Shape};
 use sp_labels::Label;
 use sp_text::Lines;
 use spec_pages::{NUMBER_BEFORE, NUMBER_BEHIND};

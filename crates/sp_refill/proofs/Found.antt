@@ -33,7 +33,7 @@ use Rattle.spec_refill.specs.Exchanges.{count_rows, blocks_round, elements_befor
 use Rattle.spec_refill.proofs.ElementMarks.{count-marks}
 use Rattle.spec_refill.proofs.EditExchange.{state-rows, around, olds-are, news-are, sound, rows-parted}
 use Rattle.sp_reread.specs.Cache.{SwappedState}
-use Rattle.sp_layout.specs.Bodies.{row_count}
+use Rattle.sp_elements.specs.Bodies.{row_count}
 use Rattle.sp_refill.specs.Edits.{AreAhead, IsBehindSomeEdit, IsOfEdit, IsOfSomeEdit, RowsAheadOf}
 use Rattle.sp_refill.specs.Neighbours.{nearer, first_in, last_in, relays_front, parts_rest, relays_before, parts_behind}
 use Rattle.sp_refill.specs.Counts.{RowsBefore, RowsUpTo}

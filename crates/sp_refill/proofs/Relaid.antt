@@ -29,8 +29,8 @@ use Rattle.spec_refill.specs.Exchanges.{body_rows, count_rows, begins_before, re
 use Rattle.spec_refill.proofs.Marks.{rows, shapes-moved}
 use Rattle.spec_refill.proofs.ElementMarks.{marks_of, count-marks}
 use Rattle.spec_refill.proofs.MovedMarks.{all-moved}
-use Rattle.sp_layout.specs.Bodies.{row_count}
-use Rattle.sp_layout.specs.Places.{CountsBefore}
+use Rattle.sp_elements.specs.Bodies.{row_count}
+use Rattle.sp_elements.specs.Places.{CountsBefore}
 use Rattle.sp_refill.specs.Counts.{RowsBefore, RowsUpTo}
 use Rattle.sp_refill.proofs.NextBlocks.{block_by, last-there, last-append, joins-pair, rest_parted}
 use Rattle.sp_refill.proofs.Groups.{Begins, all-begin, PartedElements, parted-elements, first-element, joined-last}

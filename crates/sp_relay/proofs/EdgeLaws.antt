@@ -21,10 +21,10 @@ use Rattle.spec_relay.proofs.LayoutParts.{laid_of, laid-append, rows_in, breaks-
 use Rattle.spec_relay.proofs.PlacedElements.{element_first, spoken-firsts, laid-firsts, breaks-low, breaks-high}
 use Rattle.spec_relay.proofs.RelaidStanzas.{front-stands}
 use Rattle.spec_relay.proofs.StanzaBlocks.{lines-append, blocks-past, opens-apart}
-use Rattle.sp_layout.specs.Bodies.{row_count}
+use Rattle.sp_elements.specs.Bodies.{row_count}
 use Rattle.sp_layout.specs.LaidOut.{LayoutOf, keyed}
-use Rattle.sp_layout.specs.Places.{CountsBefore}
-use Rattle.sp_layout.proofs.ElementCounts.{counts-one, counts-parts}
+use Rattle.sp_elements.specs.Places.{CountsBefore}
+use Rattle.sp_elements.proofs.ElementCounts.{counts-one, counts-parts}
 use Rattle.sp_relay.specs.declared.edges.PartEdge.{PartEdge}
 use Rattle.sp_relay.specs.Kept.{rows_to}
 use Rattle.sp_relay.specs.Edges.{CanPart, IsEdge, IsPartStart, IsPartEnd, last_edge, settled_by}

@@ -9,7 +9,7 @@ use Rattle.spec_relayout.specs.RowLines.{RowAt}
 use Rattle.spec_relay.proofs.LayoutParts.{laid_of, laid-three, still-laid, still-place}
 use Rattle.spec_relay.proofs.StayingRows.{Stood, laid-stood}
 use Rattle.sp_splice.specs.Moves.{shifted}
-use Rattle.sp_layout.specs.Exchanges.{moved_element}
+use Rattle.sp_elements.specs.Exchanges.{moved_element}
 use Rattle.sp_layout.specs.LaidOut.{LayoutOf, layout_behind}
 use Rattle.sp_layout.specs.Speaking.{SpeakersOf}
 use Rattle.sp_relay.specs.declared.kept.PartPlaces.{PartPlaces}

@@ -14,11 +14,11 @@ use Rattle.spec_relay.specs.Moved.{moved_group}
 use Rattle.spec_relay.proofs.MovedElements.{GroupStays}
 use Rattle.spec_relay.proofs.LayoutParts.{laid_of, laid-three, rows_in, breaks-append, breaks-shifted, laid-moved, keys-moved, breaks-moved, still-groups, still-laid}
 use Rattle.sp_splice.specs.Moves.{shifted}
-use Rattle.sp_layout.specs.Bodies.{KeyedElements, body_of, row_count}
-use Rattle.sp_layout.specs.Exchanges.{moved_element, with_run}
+use Rattle.sp_elements.specs.Bodies.{KeyedElements, body_of, row_count}
+use Rattle.sp_elements.specs.Exchanges.{moved_element, with_run}
 use Rattle.sp_layout.specs.Speaking.{SpeakersOf}
 use Rattle.sp_layout.specs.LaidOut.{LayoutOf, keyed, layout_behind}
-use Rattle.sp_layout.proofs.BodyExchanges.{count-append}
+use Rattle.sp_elements.proofs.BodyExchanges.{count-append}
 use Rattle.sp_relay.specs.declared.kept.PartPlaces.{PartPlaces}
 use Rattle.sp_relay.specs.Runs.{with_breaks}
 use Rattle.sp_relay.specs.Kept.{with_part}

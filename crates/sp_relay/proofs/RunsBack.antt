@@ -8,9 +8,9 @@ use Rattle.spec_labels.specs.declared.RowKey.{RowKey}
 use Rattle.sp_splice.specs.Runs.{exchanged}
 use Rattle.sp_splice.specs.Moves.{shifted, CanShift}
 use Rattle.sp_splice.proofs.RunLaws.{in-three}
-use Rattle.sp_layout.specs.Bodies.{KeyedElements, row_count}
-use Rattle.sp_layout.specs.Exchanges.{moved_element, CanMove, run_of, with_run}
-use Rattle.sp_layout.proofs.BodyExchanges.{count-append, count-moved, till-is}
+use Rattle.sp_elements.specs.Bodies.{KeyedElements, row_count}
+use Rattle.sp_elements.specs.Exchanges.{moved_element, CanMove, run_of, with_run}
+use Rattle.sp_elements.proofs.BodyExchanges.{count-append, count-moved, till-is}
 use Rattle.sp_relay.specs.Runs.{MovesBack, ElementMoves, CanExchange, with_breaks, breaks_in, CanExchangeBreaks}
 
 pub later-can : (less more : ℕ) (elements : List ElementOf) → All (ElementMoves less more) elements → All (CanMove less more) elements

@@ -15,7 +15,7 @@ use Rattle.spec_relay.specs.Moved.{moved_place, moved_group}
 use Rattle.spec_relay.proofs.MovedElements.{GroupStays}
 use Rattle.spec_relay.proofs.LayoutParts.{laid_of, laid-three, rows_in, rows-append, breaks-append}
 use Rattle.spec_relay.proofs.PlacedElements.{element_first, spoken-firsts, laid-firsts, breaks-low, breaks-high}
-use Rattle.sp_layout.specs.Bodies.{KeyedElements, row_count}
+use Rattle.sp_elements.specs.Bodies.{KeyedElements, row_count}
 use Rattle.sp_layout.specs.LaidOut.{LayoutOf, keyed, layout_behind}
 use Rattle.sp_layout.specs.Speaking.{SpeakersOf}
 use Rattle.sp_relay.specs.declared.kept.PartPlaces.{PartPlaces}

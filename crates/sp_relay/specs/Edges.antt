@@ -5,7 +5,7 @@ use Rattle.spec_script.specs.BlockValues.{StanzaOf}
 use Rattle.spec_reread.specs.Windows.{stanza_lines_in}
 use Rattle.spec_relay.specs.Moved.{moved_place}
 use Rattle.spec_relay.specs.RelaidStanzas.{OpensApart, stanza_settles}
-use Rattle.sp_layout.specs.Places.{ArePartedAt, CountsBefore, CountsBelow}
+use Rattle.sp_elements.specs.Places.{ArePartedAt, CountsBefore, CountsBelow}
 use Rattle.sp_layout.specs.LaidOut.{LayoutOf}
 use Rattle.sp_relay.specs.declared.edges.PartEdge.{PartEdge}
 use Rattle.sp_relay.specs.declared.kept.PartPlaces.{PartPlaces}

@@ -1,7 +1,7 @@
 -- A text laid out that is kept, and parts of it that are exchanged (docs/RULES.md, "Windows").
 use Rattle.std.specs.Prelude.{ℕ, ◌+◌, ◌-◌, ◌≤◌, List, length, take}
-use Rattle.sp_layout.specs.Bodies.{BodyOf, keyed_elements, row_count}
-use Rattle.sp_layout.specs.Exchanges.{with_run}
+use Rattle.sp_elements.specs.Bodies.{BodyOf, keyed_elements, row_count}
+use Rattle.sp_elements.specs.Exchanges.{with_run}
 use Rattle.sp_layout.specs.LaidOut.{LayoutOf}
 use Rattle.sp_relay.specs.declared.kept.PartPlaces.{PartPlaces}
 use Rattle.sp_relay.specs.Runs.{CanExchange, CanExchangeBreaks, HasRoom, with_breaks}

@@ -2,7 +2,7 @@
 use Rattle.std.specs.Prelude.{ℕ, ◌+◌, ◌-◌, ◌<◌, ◌≤◌, ◌^◌, List, ◌++◌, length, map, take, drop, slice_range, All}
 use Rattle.spec_pages.specs.Rows.{ElementOf}
 use Rattle.sp_splice.specs.Moves.{shifted, CanShift}
-use Rattle.sp_layout.specs.Bodies.{KeyedElements, BodyOf, row_count}
+use Rattle.sp_elements.specs.Bodies.{KeyedElements, BodyOf, row_count}
 
 -- A place that can be moved, and back again.
 pub record MovesBack (less more place : ℕ) : Type 0 where

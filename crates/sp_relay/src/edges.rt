@@ -8,7 +8,7 @@ ghost use Rattle.sp_relay.specs.Kept.{laid_of};
 
 use crate::KeptLayout;
 use sp_blocks::{Block, Stanza};
-use sp_layout::{count_below, elements_before};
+use sp_elements::{count_below, elements_before};
 use sp_reread::Stanzas;
 use spec_script::Kind;
 

@@ -4,7 +4,8 @@ ghost use Rattle.sp_layout.specs.LaidOut.{LayoutOf};
 ghost use Rattle.sp_relay.specs.Kept.{CanSwap, HasPartRoom, KeepsRoom, laid_of, places_back, with_part};
 
 use crate::runs::{exchange_breaks, exchange_run, make_break_room, make_run_room};
-use sp_layout::{Body, Layout};
+use sp_elements::Body;
+use sp_layout::Layout;
 use std::alloc::AllocError;
 use std::marker::Model;
 

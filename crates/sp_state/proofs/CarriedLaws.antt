@@ -37,7 +37,7 @@ use Rattle.spec_machine.proofs.PageKeeps.{edited-pages}
 use Rattle.spec_machine.proofs.WholeStates.{edit-whole}
 use Rattle.spec_state.proofs.StateKeys.{state-row_keys}
 use Rattle.spec_state.proofs.StateLaws.{state-AreAnchored, state-AreStarts}
-use Rattle.sp_layout.specs.Bodies.{KeyedElements, row_count}
+use Rattle.sp_elements.specs.Bodies.{KeyedElements, row_count}
 use Rattle.sp_compare.specs.BareRows.{AreLaid, Both}
 use Rattle.sp_exchange.specs.Restoring.{CanRestoreText}
 use Rattle.sp_state.specs.TextEntries.{TextEntryState, FitRecords, LeadsTextBack, displaced, undone_records, with_text}

@@ -27,7 +27,7 @@ use Rattle.spec_machine.specs.Refusals.{are_more, scenes_refusal, pages_refusal,
 use Rattle.spec_machine.proofs.RefusalLaws.{below-is, or-left, or-right, pages-free, pages-full, round-free, round-full, scenes-free}
 use Rattle.spec_machine.proofs.WholeStates.{lock_scenes-whole, lock_pages-whole, round-whole}
 use Rattle.spec_machine.proofs.LabelLaw.{state-sheets}
-use Rattle.sp_layout.specs.Bodies.{row_count, shapes_in}
+use Rattle.sp_elements.specs.Bodies.{row_count, shapes_in}
 use Rattle.sp_made.specs.Made.{MadeOf, IsMadeOf, key_starts, marked_or_locked}
 use Rattle.sp_state.specs.declared.fault.OpeningFault.{OpeningFault}
 use Rattle.sp_labels.specs.declared.fault.LockFault.{LockFault}

@@ -5,7 +5,7 @@ use Rattle.spec_text.specs.Edits.{Replacement}
 use Rattle.spec_script.specs.BlockValues.{StanzaOf}
 use Rattle.spec_state.specs.State.{State}
 use Rattle.sp_reread.specs.Cache.{SwappedState}
-use Rattle.sp_layout.specs.Bodies.{KeyedElements}
+use Rattle.sp_elements.specs.Bodies.{KeyedElements}
 use Rattle.sp_layout.specs.LaidOut.{LayoutOf}
 use Rattle.sp_refill.specs.Edits.{IsOfEdit}
 use Rattle.sp_relay.specs.Kept.{PartOf, laid_of, with_part}

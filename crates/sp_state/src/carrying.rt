@@ -10,7 +10,7 @@ ghost use Rattle.spec_state.specs.Keeping.{IsWhole, state_of};
 ghost use Rattle.sp_text.specs.DisplacedLines.{displaced_of};
 ghost use Rattle.sp_text.specs.Gap.{text_of};
 ghost use Rattle.sp_compare.specs.BareRows.{AreLaid};
-ghost use Rattle.sp_layout.specs.Bodies.{row_count};
+ghost use Rattle.sp_elements.specs.Bodies.{row_count};
 ghost use Rattle.sp_relay.specs.Kept.{CanSwap, laid_of, with_part};
 ghost use Rattle.sp_relay.specs.Outside.{StaysOutside};
 ghost use Rattle.sp_made.specs.Made.{IsLaidOf, first_rows};

@@ -4,7 +4,7 @@ ghost use Rattle.spec_labels.specs.Labels.{LabelOf};
 ghost use Rattle.spec_layout.specs.Shown.{shown_rows};
 ghost use Rattle.spec_state.specs.Changes.{segment_rows};
 ghost use Rattle.spec_state.specs.SameRows.{same_rows};
-ghost use Rattle.sp_layout.specs.Bodies.{row_count};
+ghost use Rattle.sp_elements.specs.Bodies.{row_count};
 ghost use Rattle.sp_state.specs.Raised.{AreSegments, raises};
 
 use sp_compare::BothTexts;

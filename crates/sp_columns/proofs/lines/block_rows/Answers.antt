@@ -1,6 +1,7 @@
 use Rattle.std.proofs.Common.{◌≡◌, ℕ, ◌+◌, ◌<◌, List, ◌∷◌, ◌++◌, length, get_or, drop, sym, ap, subst, ◌∙◌, append_assoc, arith}
 use Rattle.std.specs.List.{flat_map}
 use Rattle.std.proofs.lemmas.List.{drop_more}
+use Rattle.std.proofs.lemmas.Grind.{common_steps}
 use Rattle.spec_script.specs.BlockValues.{BlockOf}
 use Rattle.spec_pages.specs.Rows.{LineContext, line_rows, text_rows}
 use Rattle.sp_columns.proofs.lines.block_rows.Goals as goal
@@ -22,3 +23,24 @@ loop-line-preserved c =
       items = rows-more (rows c.args.block.now.kind) _ _ _ line _ _ _ _ c.loop-line-test.true c.line-item.is same told added.items c.loop-line.invariant.items;
       few = omega (arith, added.few, c.loop-line.invariant.few);
     }
+
+pub add_rows-requires-clause-fits : goal.add_rows-requires-clause-fits
+add_rows-requires-clause-fits c = grind (arith, common_steps)
+
+pub add_rows-requires-clause-parts : goal.add_rows-requires-clause-parts
+add_rows-requires-clause-parts c = grind (arith, common_steps)
+
+pub add_rows-requires-clause-short : goal.add_rows-requires-clause-short
+add_rows-requires-clause-short c = grind (arith, common_steps)
+
+pub line_context-context-requires-clause-lies : goal.line_context-context-requires-clause-lies
+line_context-context-requires-clause-lies c = grind (arith, common_steps)
+
+pub loop-line-init : goal.loop-line-init
+loop-line-init c = grind (arith, common_steps)
+
+pub returns-clause-rows : goal.returns-clause-rows
+returns-clause-rows c = grind (arith, common_steps)
+
+pub returns-clause-few : goal.returns-clause-few
+returns-clause-few c = grind (arith, common_steps)

@@ -1,7 +1,7 @@
 use Rattle.std.proofs.Common.{◌≡◌, ◌+◌, ◌-◌, List, take, get_or, ap, sym, subst, ◌∙◌, arith}
 use Rattle.spec_pages.specs.Rows.{ElementOf}
-use Rattle.sp_layout.specs.Bodies.{StandsIn, row_count}
-use Rattle.sp_layout.specs.Exchanges.{CanMove}
+use Rattle.sp_elements.specs.Bodies.{StandsIn, row_count}
+use Rattle.sp_elements.specs.Exchanges.{CanMove}
 use Rattle.sp_compare.proofs.OldRowLaws.{moves-here, row-behind}
 use Rattle.sp_compare.proofs.old_rows.row_behind.Goals as goal
 

@@ -1,4 +1,5 @@
-use Rattle.std.proofs.Common.{◌+◌, ◌<◌, List, length, sym, subst}
+use Rattle.std.proofs.Common.{◌+◌, ◌<◌, List, length, sym, subst, arith}
+use Rattle.std.proofs.lemmas.Grind.{common_steps}
 use Rattle.std.specs.Prelude.{All}
 use Rattle.spec_text.specs.Lines.{line_texts}
 use Rattle.spec_script.specs.Elements.{PlacedLies}
@@ -19,3 +20,9 @@ push-requires-2-clause-inside c =
     let first = c.placed.inside.first in
     let lies = subst (PlacedLies (line_texts lines)) (sym c.placed.view_is) c.requires in
     subst (λ (rows : List Row). All (λ (row : Row). first + row.line < length lines) rows) (sym c.in_ok-single_rows.ensures) (single_rows-inside lines first c.placed.inside.block.now c.args.continued lies)
+
+pub returns : goal.returns
+returns c = grind (arith, common_steps)
+
+pub returns-then-is_title : goal.returns-then-is_title
+returns-then-is_title c = grind (arith, common_steps)

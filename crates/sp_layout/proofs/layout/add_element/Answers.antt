@@ -1,4 +1,5 @@
 use Rattle.std.proofs.Common.{◌≡◌, ℕ, ◌+◌, ◌<◌, true, false, List, ◌∷◌, length, drop, get_or, sym, ap, ◌∙◌, arith}
+use Rattle.std.proofs.lemmas.Grind.{common_steps}
 use Rattle.std.proofs.lemmas.Option.{slice_get-get_or}
 use Rattle.spec_text.specs.Lines.{line_texts}
 use Rattle.spec_script.specs.Stanzas.{PlacedBlock}
@@ -78,3 +79,15 @@ returns c =
       past = omega arith;
       within = omega (arith, c.requires.inside);
     }
+
+pub add_pair-requires-clause-left : goal.add_pair-requires-clause-left
+add_pair-requires-clause-left c = grind (arith, common_steps)
+
+pub add_pair-requires-clause-right : goal.add_pair-requires-clause-right
+add_pair-requires-clause-right c = grind (arith, common_steps)
+
+pub add_pair-requires-clause-dual : goal.add_pair-requires-clause-dual
+add_pair-requires-clause-dual c = grind (arith, common_steps)
+
+pub add_block-requires : goal.add_block-requires
+add_block-requires c = grind (arith, common_steps)

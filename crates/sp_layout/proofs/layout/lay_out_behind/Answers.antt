@@ -1,4 +1,5 @@
-use Rattle.std.proofs.Common.{drop, sym, ap, ◌∙◌}
+use Rattle.std.proofs.Common.{drop, sym, ap, ◌∙◌, arith}
+use Rattle.std.proofs.lemmas.Grind.{common_steps}
 use Rattle.sp_layout.specs.LaidOut.{LayoutOf}
 use Rattle.sp_layout.proofs.LayoutAhead.{followed_by, followed-next}
 use Rattle.sp_layout.proofs.Elements.{elements_behind}
@@ -17,3 +18,9 @@ loop-place-preserved c =
           ∙ ap (followed_by lines c.loop-place.layout) (sym adds.split)
           ∙ c.loop-place.invariant.all;
     }
+
+pub loop-place-init : goal.loop-place-init
+loop-place-init c = grind (arith, common_steps)
+
+pub returns : goal.returns
+returns c = grind (arith, common_steps)

@@ -1,4 +1,5 @@
 use Rattle.std.proofs.Common.{arith}
+use Rattle.std.proofs.lemmas.Grind.{common_steps}
 use Rattle.spec_script.proofs.RunPlaces.{run-lies}
 use Rattle.sp_layout.proofs.speakers.shown_text.Goals as goal
 
@@ -10,3 +11,6 @@ range-requires-clause-start_boundary c = λ _. (run-lies c.args.text.now 0 c.arg
 
 pub range-requires-clause-end_boundary : goal.range-requires-clause-end_boundary
 range-requires-clause-end_boundary c = (run-lies c.args.text.now 0 c.args.runs.now c.loop-run.run-index _ c.requires (omega arith)).end
+
+pub loop-run-preserved : goal.loop-run-preserved
+loop-run-preserved c = grind (arith, common_steps)

@@ -9,7 +9,7 @@ use Rattle.spec_state.specs.State.{State}
 use Rattle.spec_state.specs.Keeping.{state_of}
 use Rattle.spec_state.specs.StateSheets.{layout_in}
 use Rattle.sp_text.specs.Gap.{text_of}
-use Rattle.sp_layout.specs.Bodies.{shapes_in}
+use Rattle.sp_elements.specs.Bodies.{shapes_in}
 use Rattle.sp_layout.specs.LaidOut.{LayoutOf}
 use Rattle.sp_relay.specs.Kept.{laid_of}
 use Rattle.sp_made.proofs.made.number.Goals as goal

@@ -11,7 +11,7 @@ use Rattle.spec_state.specs.Headings.{heading_labels}
 use Rattle.spec_state.specs.Keeping.{state_of}
 use Rattle.spec_state.specs.StateSheets.{body_sheets, layout_in}
 use Rattle.sp_text.specs.Gap.{text_of}
-use Rattle.sp_layout.specs.Bodies.{marks_in, shapes_in}
+use Rattle.sp_elements.specs.Bodies.{marks_in, shapes_in}
 use Rattle.sp_layout.specs.LaidOut.{LayoutOf}
 use Rattle.sp_relay.specs.Kept.{KeptOf, laid_of}
 use Rattle.sp_made.specs.declared.made.Numbered.TheInside.{Inside}

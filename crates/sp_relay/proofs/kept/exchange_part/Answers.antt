@@ -1,7 +1,7 @@
 use Rattle.std.proofs.Common.{◌≡◌, ℕ, ◌+◌, List, take, drop, sym, ap, ap₂, subst, ◌∙◌, arith}
 use Rattle.std.proofs.lemmas.List.{take-append-drop}
-use Rattle.sp_layout.specs.Bodies.{KeyedElements, keyed_elements, row_count}
-use Rattle.sp_layout.proofs.BodyExchanges.{count-append}
+use Rattle.sp_elements.specs.Bodies.{KeyedElements, keyed_elements, row_count}
+use Rattle.sp_elements.proofs.BodyExchanges.{count-append}
 use Rattle.sp_relay.specs.Runs.{CanExchangeBreaks, with_breaks}
 use Rattle.sp_relay.specs.Kept.{KeptOf, laid_of}
 use Rattle.sp_relay.proofs.kept.exchange_part.Goals as goal

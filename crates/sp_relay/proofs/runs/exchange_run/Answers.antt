@@ -1,6 +1,6 @@
 use Rattle.std.proofs.Common.{◌+◌, length, take, slice_range, sym, ap, ap₂, subst, ◌∙◌, arith}
-use Rattle.sp_layout.specs.Bodies.{KeyedElements, keyed_elements, row_count}
-use Rattle.sp_layout.specs.Exchanges.{with_run}
+use Rattle.sp_elements.specs.Bodies.{KeyedElements, keyed_elements, row_count}
+use Rattle.sp_elements.specs.Exchanges.{with_run}
 use Rattle.sp_relay.specs.Runs.{CanExchange}
 use Rattle.sp_relay.proofs.RunsBack.{run-back}
 use Rattle.sp_relay.proofs.runs.exchange_run.Goals as goal

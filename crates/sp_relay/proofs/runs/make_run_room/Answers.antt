@@ -1,7 +1,7 @@
 use Rattle.std.proofs.Common.{length, take, slice_range, ap, ◌∙◌, arith}
 use Rattle.std.proofs.lemmas.Result.{on_ok_weaker}
-use Rattle.sp_layout.specs.Bodies.{KeyedElements, row_count}
-use Rattle.sp_layout.proofs.BodyExchanges.{count-append, till-is}
+use Rattle.sp_elements.specs.Bodies.{KeyedElements, row_count}
+use Rattle.sp_elements.proofs.BodyExchanges.{count-append, till-is}
 use Rattle.sp_relay.proofs.runs.make_run_room.Goals as goal
 
 pub overflow_sub-run : goal.overflow_sub-run

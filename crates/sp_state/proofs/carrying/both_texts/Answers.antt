@@ -6,8 +6,8 @@ use Rattle.spec_text.specs.Edits.{restored}
 use Rattle.sp_text.specs.DisplacedLines.{displaced_of}
 use Rattle.sp_text.specs.Gap.{text_of}
 use Rattle.sp_compare.specs.BareRows.{AreLaid, Both, StayOutside}
-use Rattle.sp_layout.specs.Bodies.{KeyedElements, keyed_elements, row_count}
-use Rattle.sp_layout.specs.Exchanges.{CanMove, with_run}
+use Rattle.sp_elements.specs.Bodies.{KeyedElements, keyed_elements, row_count}
+use Rattle.sp_elements.specs.Exchanges.{CanMove, with_run}
 use Rattle.sp_layout.specs.LaidOut.{LayoutOf}
 use Rattle.sp_relay.specs.declared.kept.PartPlaces.{PartPlaces}
 use Rattle.sp_relay.specs.Kept.{CanSwap, KeptOf, PartOf, laid_of}

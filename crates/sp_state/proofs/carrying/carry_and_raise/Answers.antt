@@ -8,7 +8,7 @@ use Rattle.spec_state.specs.Keeping.{state_of}
 use Rattle.spec_state.proofs.StateKeys.{state-row_keys}
 use Rattle.sp_text.specs.DisplacedLines.{displaced_of}
 use Rattle.sp_text.specs.Gap.{text_of}
-use Rattle.sp_layout.specs.Bodies.{KeyedElements}
+use Rattle.sp_elements.specs.Bodies.{KeyedElements}
 use Rattle.sp_layout.specs.LaidOut.{LayoutOf}
 use Rattle.sp_relay.specs.Kept.{laid_of}
 use Rattle.sp_made.specs.Made.{IsLaidOf, first_rows}

@@ -5,7 +5,7 @@ use Rattle.spec_records.specs.Kept.{RecordsOf}
 use Rattle.spec_state.specs.Keeping.{state_of}
 use Rattle.spec_state.specs.StateSheets.{rows_in}
 use Rattle.spec_machine.proofs.RefusalLaws.{pages-none}
-use Rattle.sp_layout.specs.Bodies.{row_count}
+use Rattle.sp_elements.specs.Bodies.{row_count}
 use Rattle.sp_text.specs.Gap.{text_of}
 use Rattle.sp_relay.specs.Kept.{KeptOf}
 use Rattle.sp_made.specs.Made.{MadeOf}

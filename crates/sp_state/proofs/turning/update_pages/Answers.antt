@@ -9,7 +9,7 @@ use Rattle.spec_state.specs.StateSheets.{rows_in}
 use Rattle.spec_reflow.specs.Windows.{Exchange, page_window}
 use Rattle.spec_locked_pages.specs.Segments.{pages_of}
 use Rattle.sp_text.specs.Gap.{text_of}
-use Rattle.sp_layout.specs.Bodies.{shapes_in}
+use Rattle.sp_elements.specs.Bodies.{shapes_in}
 use Rattle.sp_layout.specs.LaidOut.{LayoutOf}
 use Rattle.sp_reflow.specs.Starts.{many_more}
 use Rattle.sp_reflow.specs.Filling.{FilledAtMost}

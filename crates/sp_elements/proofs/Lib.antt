@@ -1,0 +1,4 @@
+mod Places
+pub mod BodyExchanges
+pub mod BodyLaws
+pub mod ElementCounts
