@@ -18,16 +18,14 @@ ghost use Rattle.sp_reflow.specs.Filling.{FilledAtMost};
 ghost use Rattle.sp_reflow.specs.Updates.{with_taken, CanPutBack};
 ghost use Rattle.sp_relay.specs.Kept.{laid_of};
 ghost use Rattle.sp_made.specs.Made.{AreStopsOf, AskedOfPages, IsLaidOf, IsMadeOf, IsNumberedOf, first_rows, key_starts, marked_or_locked};
-ghost use Rattle.sp_made.specs.Numbered.{marked_sheets, AreLockedSheets, AreSameOutside, AreUnmarked};
+ghost use Rattle.sp_numbers.specs.Locked.{AreSheetsBefore};
+ghost use Rattle.sp_numbers.specs.Numbered.{marked_sheets, AreSameOutside, AreUnmarked};
 
-use crate::headings::heading_lines;
-use crate::locked::renew_locked;
-use crate::numbered::{renew_sheets, stale_places};
-use crate::stops::merged_stops;
 use sp_kit::{Counter, Steps};
 use sp_labels::Label;
 use sp_layout::{Body, lay_out, placed_blocks};
 use sp_locks::{PageRecord, RowKey, Sheet, starts};
+use sp_numbers::{heading_lines, merged_stops, renew_locked, renew_sheets, stale_places};
 use sp_records::Records;
 use sp_reflow::{Pages, SwappedPages};
 use sp_relay::KeptLayout;
@@ -179,7 +177,7 @@ fn renew_sheets_of_pages(
     keeps_pages: bool,
     sheets: &mut Vec<Sheet>,
 ) -> Result<(), AllocError>
-    requires kept { IsTrue keeps_pages → IfSome records.now (λ those. AreLockedSheets those.items starts.now pages.now sheets.old.items) }
+    requires kept { IsTrue keeps_pages → IfSome records.now (λ those. AreSheetsBefore those.items starts.now pages.now sheets.old.items) }
     requires stale { AreSameOutside sheets.old.items (marked_sheets (marks_in body.now.elements) 1 pages.now) stale.start stale.end }
     requires asked { AskedOfPages (λ those. those.items) body.now.elements records.now starts.now pages.now }
     requires unmarked { round ≡ 0 → All (λ mark. mark ≡ 0) (marks_in body.now.elements) }
@@ -209,7 +207,7 @@ fn renew_body_sheets(
     keeps_pages: bool,
     sheets: &mut Vec<Sheet>,
 ) -> Result<(), AllocError>
-    requires kept { IsTrue keeps_pages → IfSome (records.now).pages (λ those. AreLockedSheets those firsts.now pages.now sheets.old.items) }
+    requires kept { IsTrue keeps_pages → IfSome (records.now).pages (λ those. AreSheetsBefore those firsts.now pages.now sheets.old.items) }
     requires stale { AreSameOutside sheets.old.items (marked_sheets (marks_in (laid_of layout.now).body.elements) 1 pages.now) stale.start stale.end }
     requires whole { IsWhole (state_of (text_of lines.now) records.now) }
     requires laid { IsLaidOf (state_of (text_of lines.now) records.now) (laid_of layout.now) }
@@ -361,7 +359,7 @@ pub fn renumber(
     requires can { CanPutBack pages.now.starts swapped.now }
     requires sheets { (records.now).pages ≡ None → (records.now).round ≡ 0 → AreUnmarked numbered.old.sheets (with_taken pages.now.starts swapped.now) }
     requires labels { IsTrue keeps_labels → numbered.old.labels ≡ heading_labels lines.now.lines records.now.scenes }
-    requires kept { IsTrue keeps_pages → IfSome (records.now).pages (λ those. AreLockedSheets those firsts.now pages.now.starts numbered.old.sheets) }
+    requires kept { IsTrue keeps_pages → IfSome (records.now).pages (λ those. AreSheetsBefore those firsts.now pages.now.starts numbered.old.sheets) }
     ensures numbered { OnOk result (IsNumberedOf (state_of (text_of lines.now) records.now) numbered.new) }
     ensures same { OnErr result (numbered.new ≡ numbered.old) }
 {

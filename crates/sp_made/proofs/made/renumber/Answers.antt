@@ -16,9 +16,9 @@ use Rattle.sp_layout.specs.LaidOut.{LayoutOf}
 use Rattle.sp_relay.specs.Kept.{KeptOf, laid_of}
 use Rattle.sp_made.specs.declared.made.Numbered.TheInside.{Inside}
 use Rattle.sp_made.specs.Made.{NumberedOf}
-use Rattle.sp_made.specs.Numbered.{marked_sheets, AreSameOutside}
-use Rattle.sp_made.proofs.MarkedLaws.{rows-unmarked}
-use Rattle.sp_made.proofs.StaleSheets.{stale-same}
+use Rattle.sp_numbers.specs.Numbered.{marked_sheets, AreSameOutside}
+use Rattle.sp_numbers.proofs.MarkedLaws.{rows-unmarked}
+use Rattle.sp_numbers.proofs.StaleSheets.{stale-same}
 use Rattle.sp_made.proofs.made.renumber.Goals as goal
 use Rattle.sp_made.proofs.made.renumber.Goals.{After-stale_places-stale, then-keeps_labels+in_ok-renew_body_sheets, else-keeps_labels+in_ok-labels+in_ok-renew_body_sheets-2+in-Some-1, else-keeps_labels+in_ok-labels+in_ok-renew_body_sheets-2+in-None-1}
 
