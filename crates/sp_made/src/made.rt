@@ -23,7 +23,7 @@ ghost use Rattle.sp_numbers.specs.Numbered.{marked_sheets, AreSameOutside, AreUn
 
 use sp_kit::{Counter, Steps};
 use sp_labels::Label;
-use sp_layout::{Body, lay_out, placed_blocks};
+use sp_layout::{Body, lay_out_text};
 use sp_locks::{PageRecord, RowKey, Sheet, starts};
 use sp_numbers::{heading_lines, merged_stops, renew_locked, renew_sheets, stale_places};
 use sp_records::Records;
@@ -240,8 +240,7 @@ pub fn lay(
     requires stanzas { stanzas.now.stanzas ≡ text_stanzas (text_of lines.now) }
     ensures { IfOk result (λ layout. IsLaidOf (state_of (text_of lines.now) records.now) (laid_of layout)) }
 {
-    let blocks = placed_blocks(alloc, stanzas)?;
-    let layout = lay_out(alloc, lines, &blocks, records.speakers)?;
+    let layout = lay_out_text(alloc, lines, stanzas, records.speakers)?;
     Ok(KeptLayout::new(layout))
 }
 
@@ -399,6 +398,31 @@ pub fn renumber(
     Ok(())
 }
 
+/// The labels and the sheets of a state whose text is laid out, and the first rows of its pages.
+fn numbered_pages<S: Steps>(
+    alloc: Global,
+    lines: &Lines,
+    stanzas: &Stanzas,
+    records: &Records,
+    layout: &KeptLayout,
+    steps: &mut S,
+) -> Result<(Numbered, Pages), AllocError>
+    requires whole { IsWhole (state_of (text_of lines.now) records.now) }
+    requires stanzas { stanzas.now.stanzas ≡ text_stanzas (text_of lines.now) }
+    requires laid { IsLaidOf (state_of (text_of lines.now) records.now) (laid_of layout.now) }
+    ensures numbered { IfOk result (λ it. IsNumberedOf (state_of (text_of lines.now) records.now) it.0) }
+    ensures pages { IfOk result (λ it. it.1.starts ≡ pages_of (state_of (text_of lines.now) records.now)) }
+    ensures fills { OnOk result (S.fills steps.new ≡ many_more (S.fills steps.old) (length (pages_of (state_of (text_of lines.now) records.now)))) }
+    ensures at_most { FilledAtMost (S.fills steps.old) (S.fills steps.new) (length (pages_of (state_of (text_of lines.now) records.now))) }
+    ensures reads { S.reads steps.new ≡ S.reads steps.old }
+{
+    let none: &[usize] = &[];
+    let firsts = laid_firsts(alloc, lines, records, layout, none)?;
+    let pages = make_pages(alloc, lines, records, layout, &firsts, steps)?;
+    let numbered = number(alloc, lines, stanzas, records, layout, &firsts, &pages)?;
+    Ok((numbered, pages))
+}
+
 /// What is made of a state and its stanzas, and the first rows of its pages. Each page of the body is filled once.
 /// `AllocError` comes for want of memory alone.
 pub fn make<S: Steps>(
@@ -417,9 +441,6 @@ pub fn make<S: Steps>(
     ensures reads { S.reads steps.new ≡ S.reads steps.old }
 {
     let layout = lay(alloc, lines, stanzas, records)?;
-    let none: &[usize] = &[];
-    let firsts = laid_firsts(alloc, lines, records, &layout, none)?;
-    let pages = make_pages(alloc, lines, records, &layout, &firsts, steps)?;
-    let numbered = number(alloc, lines, stanzas, records, &layout, &firsts, &pages)?;
+    let (numbered, pages) = numbered_pages(alloc, lines, stanzas, records, &layout, steps)?;
     Ok((Made { layout, numbered }, pages))
 }
