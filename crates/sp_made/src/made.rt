@@ -1,5 +1,5 @@
 //! What is made of a state and its stanzas: its elements in rows, the labels of its headings, and its sheets.
-ghost use Rattle.std.specs.Prelude.{◌≡◌, [], length, option_map, All, None, IfOk, IfSome, IsTrue, OnErr, OnOk};
+ghost use Rattle.std.specs.Prelude.{◌≡◌, [], length, option_map, All, None, IfNone, IfOk, IfSome, IsTrue, OnErr, OnOk};
 ghost use Rattle.std.specs.Bool.{OnFalse};
 ghost use Rattle.spec_text.specs.Lines.{line_texts};
 ghost use Rattle.spec_script.specs.Stanzas.{stanzas_of};
@@ -102,6 +102,26 @@ fn made_labels(
             Ok(Some(numbers_of_lines(alloc, &ids, scenes.as_slice())?))
         }
     }
+}
+
+/// The labels of the headings of a text where scenes are locked, and none at all where those that there are may be kept.
+fn changed_labels(
+    alloc: Global,
+    lines: &Lines,
+    stanzas: &Stanzas,
+    records: &Records,
+    keeps: bool,
+) -> Result<Option<Option<Vec<Label>>>, AllocError>
+    requires whole { IsWhole (state_of (text_of lines.now) records.now) }
+    requires stanzas { stanzas.now.stanzas ≡ stanzas_of (line_texts lines.now.lines) }
+    ensures made { IfOk result (λ changed. IfSome changed (λ labels. option_map (λ those. those.items) labels ≡ heading_labels lines.now.lines records.now.scenes)) }
+    ensures kept { IfOk result (λ changed. IfNone changed (IsTrue keeps)) }
+{
+    if keeps {
+        return Ok(None);
+    }
+    let labels = made_labels(alloc, lines, stanzas, records)?;
+    Ok(Some(labels))
 }
 
 /// The first rows of the title sheets. Their fills aren't counted with those of the body.
@@ -366,32 +386,19 @@ pub fn renumber(
     let starts = pages.starts();
     let marks = layout.body.marks();
     let stale = stale_places(&numbered.sheets, marks, renews_all(records), swapped);
-    let sheets = &mut numbered.sheets;
-    if keeps_labels {
-        renew_body_sheets(
-            alloc,
-            lines,
-            records,
-            layout,
-            firsts,
-            starts,
-            stale,
-            keeps_pages,
-            sheets,
-        )?;
-    } else {
-        let labels = made_labels(alloc, lines, stanzas, records)?;
-        renew_body_sheets(
-            alloc,
-            lines,
-            records,
-            layout,
-            firsts,
-            starts,
-            stale,
-            keeps_pages,
-            sheets,
-        )?;
+    let labels = changed_labels(alloc, lines, stanzas, records, keeps_labels)?;
+    renew_body_sheets(
+        alloc,
+        lines,
+        records,
+        layout,
+        firsts,
+        starts,
+        stale,
+        keeps_pages,
+        &mut numbered.sheets,
+    )?;
+    if let Some(labels) = labels {
         numbered.labels = labels;
     }
     numbered.title_pages = title_pages;
