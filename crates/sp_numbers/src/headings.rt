@@ -165,8 +165,8 @@ fn add_heading_lines(
     Ok(())
 }
 
-/// The ids of the lines of the headings of stanzas that lie in the lines, in order. `AllocError` comes for want of memory
-/// alone.
+/// The ids of the lines of the headings of stanzas that lie in the lines, in order: by them locked scenes have their labels
+/// (docs/RULES.md, "Scene numbers"). `AllocError` comes for want of memory alone.
 pub fn heading_lines(
     alloc: Global,
     lines: &Lines,

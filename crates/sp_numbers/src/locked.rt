@@ -7,10 +7,10 @@ use crate::numbered::ends_at;
 use sp_locks::{PageRecord, Sheet, renew_rounds};
 use std::alloc::{AllocError, Global};
 
-/// Makes sheets those of page records with these first rows, on these pages, given by their first rows, of so many rows
+/// Makes sheets those of page records with these first rows, on these pages, given by their first rows, of a text of so many rows
 /// (docs/RULES.md, "Page records"). Where they are those of records with the same labels, first rows and pages they may be kept: then
-/// they get their rounds, if the last one still ends behind the last row. `AllocError` comes for want of memory alone, and leaves the
-/// sheets as they are.
+/// they get their rounds alone, if the last one still ends behind the last row, and it takes no memory. `AllocError` comes for want of
+/// memory alone, and leaves the sheets as they are.
 pub fn renew_locked(
     alloc: Global,
     records: &[PageRecord],

@@ -15,7 +15,7 @@ use sp_splice::make_room;
 use std::alloc::{AllocError, Global};
 use std::ops::Range;
 
-/// The greatest of marks, or 0.
+/// The greatest of marks, or 0: so the marks of a page's rows give its round (docs/RULES.md, "Sheets").
 pub fn greatest(marks: &[u8]) -> u8
     ensures { result ≡ fold max 0 marks.now }
 {
@@ -84,7 +84,7 @@ fn renew_sheet(sheet: &mut Sheet, number: u32, start: usize, end: usize, round: 
     sheet.omitted = false;
 }
 
-/// The row behind the page at a place, of pages by their first rows in so many rows.
+/// The row behind the page at a place, counted from 0, where `pages` are the first rows of all pages of so many rows.
 pub fn page_behind(pages: &[usize], place: usize, rows: usize) -> usize
     requires inside { place < length pages.now }
     requires rising { AllPairs (λ one other. one < other) pages.now }
@@ -110,7 +110,8 @@ pub(crate) fn ends_at(sheets: &[Sheet], row: usize) -> bool
     }
 }
 
-/// The places of the sheets to be set anew where page starts were exchanged and no row is marked; all, where rows may be marked.
+/// The places of the sheets to be set anew, counted from 0, where page starts were exchanged and no row is marked; all, where rows may
+/// be marked. The marks are those of all rows after the exchange, and `swapped` would make the page starts those before.
 /// A sheet ends where the next page begins, so that the one before the exchanged pages is among them. Those behind them stay
 /// where the last one still ends behind the last row.
 pub fn stale_places(
@@ -184,7 +185,8 @@ fn add_sheets(
     }
 }
 
-/// Makes sheets those of rows with these marks on these pages, numbered from 1; each has the greatest mark of its rows as round.
+/// Makes sheets those of rows with these marks on these pages, given by their first rows, numbered from 1; each has the greatest mark
+/// of its rows as round (docs/RULES.md, "Sheets").
 /// Outside the stale places they are such already, and none of these is looked at. Where no row is marked no mark is looked at.
 /// `AllocError` comes for want of memory alone, and leaves the sheets as they are.
 pub fn renew_sheets(

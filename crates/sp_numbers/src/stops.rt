@@ -3,7 +3,8 @@ ghost use Rattle.std.specs.Prelude.{◌++◌, IfOk, IsPermutation, AllPairs, ◌
 
 use std::alloc::{AllocError, Global};
 
-/// Page breaks and the first rows of page records together, in order. `AllocError` comes for want of memory alone.
+/// The rows of page breaks and the first rows of page records together, in order: the stops of pages (docs/RULES.md, "Pages").
+/// `AllocError` comes for want of memory alone.
 pub fn merged_stops(
     alloc: Global,
     breaks: &[usize],
