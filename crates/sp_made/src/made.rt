@@ -6,7 +6,7 @@ ghost use Rattle.spec_script.specs.Stanzas.{stanzas_of};
 ghost use Rattle.spec_pages.specs.Pages.{page_starts, rows_on};
 ghost use Rattle.spec_labels.specs.PageRecords.{AreAnchored};
 ghost use Rattle.spec_state.specs.Headings.{heading_labels};
-ghost use Rattle.spec_state.specs.StateSheets.{body_sheets, layout_in, locked_starts, rows_in};
+ghost use Rattle.spec_state.specs.StateSheets.{body_sheets, locked_starts, rows_in};
 ghost use Rattle.spec_state.specs.Keeping.{IsWhole, state_of};
 ghost use Rattle.spec_state.specs.State.{State};
 ghost use Rattle.sp_text.specs.Gap.{text_of};

@@ -1,12 +1,10 @@
 //! The sheets of a text whose pages aren't locked.
-ghost use Rattle.std.specs.Prelude.{◌≡◌, ℕ, ◌+◌, ◌-◌, ◌<◌, ◌≤◌, true, false, List, All, AllPairs, fold, length, map, max, slice_index, slice_index_or, slice_range, take, OnErr, OnOk, vec_capacity, vec_len};
+ghost use Rattle.std.specs.Prelude.{◌≡◌, ℕ, ◌+◌, ◌-◌, ◌<◌, ◌≤◌, false, List, All, AllPairs, fold, length, max, slice_index, slice_index_or, slice_range, take, OnErr, OnOk, vec_capacity, vec_len};
 ghost use Rattle.std.specs.Bool.{OnTrue};
-ghost use Rattle.spec_layout.specs.Shown.{Shown};
 ghost use Rattle.spec_labels.specs.Labels.{plain_label};
 ghost use Rattle.spec_labels.specs.PageRecords.{SheetOf};
-ghost use Rattle.spec_state.specs.StateSheets.{numbered_sheets};
 ghost use Rattle.sp_reflow.specs.Updates.{with_taken, CanPutBack};
-ghost use Rattle.sp_numbers.specs.Numbered.{mark_of, marked_sheet, marked_sheets, numbered_sheet, AreSameOutside, AreUnmarked};
+ghost use Rattle.sp_numbers.specs.Numbered.{marked_sheets, numbered_sheet, AreSameOutside, AreUnmarked};
 
 use sp_labels::Label;
 use sp_locks::Sheet;
