@@ -43,8 +43,8 @@ outside c =
 pub renew_body_sheets-requires-clause-stale : goal.renew_body_sheets-requires-clause-stale
 renew_body_sheets-requires-clause-stale c = outside (goal.at.renew_body_sheets-requires-clause-stale c).After-stale_places-stale
 
-pub returns-clause-numbered : goal.returns-clause-numbered
-returns-clause-numbered c =
+pub returns : goal.returns
+returns c =
     let state : State = state_of (text_of c.args.lines.now) c.args.records.now in
     let laid = ap laid_of c.layout.view_is ∙ c.requires.laid in
     let titles : c.layout.inside.titles.elements ≡ (layout_in state).titles = ap (λ (l : LayoutOf). l.titles.elements) laid in
@@ -59,10 +59,13 @@ returns-clause-numbered c =
       | in_default w ↦ ap (λ (n : Inside). n.sheets.items) w.numbered-inside-is ∙ c.in_ok-renew_body_sheets.ensures.made
     ] in
     record {
-      labels = labels;
-      title_starts = c.in_ok-title_pages.ensures
-          ∙ ap (λ (paper : Paper). page_starts (rows_on paper) (shapes_in c.layout.inside.titles.elements) []) (ap (λ (records : RecordsOf). records.paper) c.records.view_is)
-          ∙ ap (λ (elements : List ElementOf). page_starts (rows_on state.paper) (shapes_in elements) []) titles
-          ∙ ap (λ (shapes : List Shape). page_starts (rows_on state.paper) shapes []) (sym (shown_rows-shapes state.lines None (layout_in state).titles));
-      sheets = sheets;
+      numbered = record {
+        labels = labels;
+        title_starts = c.in_ok-title_pages.ensures
+            ∙ ap (λ (paper : Paper). page_starts (rows_on paper) (shapes_in c.layout.inside.titles.elements) []) (ap (λ (records : RecordsOf). records.paper) c.records.view_is)
+            ∙ ap (λ (elements : List ElementOf). page_starts (rows_on state.paper) (shapes_in elements) []) titles
+            ∙ ap (λ (shapes : List Shape). page_starts (rows_on state.paper) shapes []) (sym (shown_rows-shapes state.lines None (layout_in state).titles));
+        sheets = sheets;
+      };
+      same = tt;
     }
