@@ -7,7 +7,7 @@ ghost use Rattle.spec_machine.specs.Outlines.{scenes_of};
 
 use sp_entries::{Scenes, are_locked, gone_labels, heading_rows, labels_of, sheet_texts};
 use sp_layout::PlacedBlock;
-use sp_made::headings_among;
+use sp_numbers::headings_among;
 use sp_scenes::{HeadingAt, SceneRecord};
 use sp_state::Script;
 use std::alloc::{AllocError, Global};

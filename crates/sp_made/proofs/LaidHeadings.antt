@@ -21,9 +21,9 @@ use Rattle.sp_layout.specs.LaidOut.{LayoutOf}
 use Rattle.sp_elements.proofs.BodyExchanges.{count-append, till-is}
 use Rattle.sp_scenes.specs.LineLabels.{line_labels}
 use Rattle.sp_made.specs.Made.{laid_in}
-use Rattle.sp_made.specs.HeadingIds.{body_headings, heading_ids, is_heading_start, laid_headings, laid_labels}
-use Rattle.sp_made.proofs.LinesOfHeadings.{labels-of}
-use Rattle.sp_made.proofs.OpenedHeadings.{ids-opened, state-opened}
+use Rattle.sp_numbers.specs.HeadingIds.{body_headings, heading_ids, is_heading_start, laid_headings, laid_labels}
+use Rattle.sp_numbers.proofs.LinesOfHeadings.{labels-of}
+use Rattle.sp_numbers.proofs.OpenedHeadings.{ids-opened, state-opened}
 
 -- ---- rows in parts
 

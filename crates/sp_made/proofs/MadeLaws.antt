@@ -25,8 +25,9 @@ use Rattle.spec_state.specs.Keeping.{IsWhole, records_of, state_of}
 use Rattle.spec_state.proofs.OpenedLaws.{opening-whole}
 use Rattle.spec_state.proofs.StateLaws.{state-AreKeptPages, state-ArePageRecords, state-AreAnchored, state-AreStarts, state-ArePages, state-few, rising-few}
 use Rattle.sp_elements.specs.Bodies.{row_count, shapes_in, marks_in}
-use Rattle.sp_made.specs.Made.{AreFewPages, AskedOfPages, LockedSheets, key_starts, marked_or_locked}
-use Rattle.sp_made.proofs.MarkedLaws.{marked_sheets-numbered}
+use Rattle.sp_numbers.specs.Locked.{LockedSheets}
+use Rattle.sp_made.specs.Made.{AreFewPages, AskedOfPages, key_starts, marked_or_locked}
+use Rattle.sp_numbers.proofs.MarkedLaws.{marked_sheets-numbered}
 
 -- What a value shows is something, and so is what is equal to that.
 pub shows-same : {V E X : Type 0} (shows : V → X) (result : Result V E) (one other : X) → one ≡ other → IfOk result (λ it. shows it ≡ one) → IfOk result (λ it. shows it ≡ other)

@@ -5,7 +5,7 @@ use Rattle.std.proofs.lemmas.List.{drop_all, drop_more}
 use Rattle.spec_pages.specs.declared.Shape.{Shape}
 use Rattle.spec_layout.specs.Shown.{no_row}
 use Rattle.spec_labels.specs.declared.RowKey.{RowKey}
-use Rattle.sp_made.specs.HeadingIds.{IsHeadingFrom, heading_ids, is_heading_start}
+use Rattle.sp_numbers.specs.HeadingIds.{IsHeadingFrom, heading_ids, is_heading_start}
 
 pub below : (place end : ℕ) → place ≤ end → (place ≡ end → ⊥) → place < end
 below place end within other = elim (eq-or-lt_of_le within) [ inl is ↦ absurd (other is) | inr low ↦ low ]

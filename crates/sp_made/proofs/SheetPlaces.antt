@@ -28,7 +28,7 @@ use Rattle.sp_elements.specs.Bodies.{row_count, marks_in}
 use Rattle.sp_layout.specs.LaidOut.{LayoutOf}
 use Rattle.sp_made.specs.Made.{MadeOf, IsMadeOf}
 use Rattle.sp_made.specs.Places.{HasPlaces, title_at, sheet_shown}
-use Rattle.sp_made.proofs.MarkedLaws.{greatest-marks}
+use Rattle.sp_numbers.proofs.MarkedLaws.{greatest-marks}
 
 -- ---- sheets that are numbered
 

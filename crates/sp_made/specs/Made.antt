@@ -4,11 +4,12 @@ use Rattle.spec_text.specs.Lines.{LineState}
 use Rattle.spec_pages.specs.Rows.{ElementOf}
 use Rattle.spec_labels.specs.declared.RowKey.{RowKey}
 use Rattle.spec_labels.specs.Labels.{LabelOf}
-use Rattle.spec_labels.specs.PageRecords.{PageRecordOf, SheetOf, ArePageRecords, ArePages, AreStarts, record_starts, sheets_of_records}
+use Rattle.spec_labels.specs.PageRecords.{PageRecordOf, SheetOf, record_starts, sheets_of_records}
 use Rattle.spec_state.specs.State.{State}
 use Rattle.sp_elements.specs.Bodies.{row_count, marks_in}
 use Rattle.sp_layout.specs.LaidOut.{LayoutOf, keyed}
-use Rattle.sp_made.specs.Numbered.{marked_sheets}
+use Rattle.sp_numbers.specs.Locked.{LockedSheets}
+use Rattle.sp_numbers.specs.Numbered.{marked_sheets}
 use Rattle.spec_state.specs.Headings.{heading_labels}
 use Rattle.spec_state.specs.StateSheets.{layout_in, rows_in, keys_in, title_starts, body_sheets}
 use Rattle.spec_reflow.specs.Windows.{AreStops}
@@ -50,13 +51,6 @@ key_starts lines keys (Some records) = record_starts lines keys records
 -- The first rows of the page records of a state; none where pages aren't locked.
 abbrev pub first_rows : State → List ℕ
 first_rows state = key_starts state.lines (keys_in state) state.pages
-
--- What the sheets of page records ask for.
-pub record LockedSheets (rows : ℕ) (records : List PageRecordOf) (starts pages : List ℕ) : Type 0 where
-  pub some : 0 < length records
-  pub are : ArePageRecords records
-  pub begin : AreStarts rows records starts
-  pub pages_are : ArePages rows starts pages
 
 -- Page starts rise, are rows, and are few.
 pub record AreFewPages (rows : ℕ) (pages : List ℕ) : Type 0 where

@@ -3,7 +3,7 @@ ghost use Rattle.std.specs.Prelude.{◌≡◌, ℕ, ◌≤◌, ◌↔◌, IsTrue
 ghost use Rattle.sp_elements.specs.Bodies.{keyed_elements, row_count};
 ghost use Rattle.sp_elements.specs.Exchanges.{with_run};
 ghost use Rattle.sp_relay.specs.Kept.{CanSwap, laid_of, with_part};
-ghost use Rattle.sp_made.specs.HeadingIds.{IsHeadingFrom, body_headings, heading_ids, is_heading_start, laid_headings};
+ghost use Rattle.sp_numbers.specs.HeadingIds.{IsHeadingFrom, body_headings, heading_ids, is_heading_start, laid_headings};
 
 use sp_elements::Body;
 use sp_relay::{KeptLayout, LayoutPart};

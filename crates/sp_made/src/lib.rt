@@ -2,15 +2,10 @@
 #![tactic(auto)]
 
 mod heading_rows;
-mod headings;
-mod locked;
 mod made;
-mod numbered;
-mod stops;
 mod views;
 
 pub use heading_rows::keeps_headings;
-pub use headings::headings_among;
 pub use made::{
     Made, Numbered, laid_firsts, laid_stops, lay, made_starts, make, make_pages, number, renumber,
     rows_on,

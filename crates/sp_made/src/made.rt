@@ -1,12 +1,12 @@
 //! What is made of a state and its stanzas: its elements in rows, the labels of its headings, and its sheets.
-ghost use Rattle.std.specs.Prelude.{◌≡◌, [], length, option_map, All, None, IfOk, IfSome, IsTrue, OnErr, OnOk};
+ghost use Rattle.std.specs.Prelude.{◌≡◌, [], length, option_map, All, None, IfNone, IfOk, IfSome, IsTrue, OnErr, OnOk};
 ghost use Rattle.std.specs.Bool.{OnFalse};
 ghost use Rattle.spec_text.specs.Lines.{line_texts};
 ghost use Rattle.spec_script.specs.Stanzas.{stanzas_of};
 ghost use Rattle.spec_pages.specs.Pages.{page_starts, rows_on};
 ghost use Rattle.spec_labels.specs.PageRecords.{AreAnchored};
 ghost use Rattle.spec_state.specs.Headings.{heading_labels};
-ghost use Rattle.spec_state.specs.StateSheets.{body_sheets, layout_in, locked_starts, rows_in};
+ghost use Rattle.spec_state.specs.StateSheets.{body_sheets, locked_starts, rows_in};
 ghost use Rattle.spec_state.specs.Keeping.{IsWhole, state_of};
 ghost use Rattle.spec_state.specs.State.{State};
 ghost use Rattle.sp_text.specs.Gap.{text_of};
@@ -18,17 +18,15 @@ ghost use Rattle.sp_reflow.specs.Filling.{FilledAtMost};
 ghost use Rattle.sp_reflow.specs.Updates.{with_taken, CanPutBack};
 ghost use Rattle.sp_relay.specs.Kept.{laid_of};
 ghost use Rattle.sp_made.specs.Made.{AreStopsOf, AskedOfPages, IsLaidOf, IsMadeOf, IsNumberedOf, first_rows, key_starts, marked_or_locked};
-ghost use Rattle.sp_made.specs.Numbered.{marked_sheets, AreLockedSheets, AreSameOutside, AreUnmarked};
+ghost use Rattle.sp_numbers.specs.Locked.{AreSheetsBefore};
+ghost use Rattle.sp_numbers.specs.Numbered.{marked_sheets, AreSameOutside, AreUnmarked};
 
-use crate::headings::heading_lines;
-use crate::locked::renew_locked;
-use crate::numbered::{renew_sheets, stale_places};
-use crate::stops::merged_stops;
 use sp_elements::Body;
 use sp_kit::{Counter, Steps};
 use sp_labels::Label;
-use sp_layout::{lay_out, placed_blocks};
+use sp_layout::lay_out_text;
 use sp_locks::{PageRecord, RowKey, Sheet, starts};
+use sp_numbers::{heading_lines, merged_stops, renew_locked, renew_sheets, stale_places};
 use sp_records::Records;
 use sp_reflow::{Pages, SwappedPages};
 use sp_relay::KeptLayout;
@@ -107,6 +105,26 @@ fn made_labels(
     }
 }
 
+/// The labels of the headings of a text where scenes are locked, and none at all where those that there are may be kept.
+fn changed_labels(
+    alloc: Global,
+    lines: &Lines,
+    stanzas: &Stanzas,
+    records: &Records,
+    keeps: bool,
+) -> Result<Option<Option<Vec<Label>>>, AllocError>
+    requires whole { IsWhole (state_of (text_of lines.now) records.now) }
+    requires stanzas { stanzas.now.stanzas ≡ stanzas_of (line_texts lines.now.lines) }
+    ensures made { IfOk result (λ changed. IfSome changed (λ labels. option_map (λ those. those.items) labels ≡ heading_labels lines.now.lines records.now.scenes)) }
+    ensures kept { IfOk result (λ changed. IfNone changed (IsTrue keeps)) }
+{
+    if keeps {
+        return Ok(None);
+    }
+    let labels = made_labels(alloc, lines, stanzas, records)?;
+    Ok(Some(labels))
+}
+
 /// The first rows of the title sheets. Their fills aren't counted with those of the body.
 fn title_pages(alloc: Global, titles: &Body, paper: Paper) -> Result<Pages, AllocError>
     ensures { IfOk result (λ pages. pages.starts ≡ page_starts (rows_on paper) (shapes_in titles.now.elements) []) }
@@ -180,7 +198,7 @@ fn renew_sheets_of_pages(
     keeps_pages: bool,
     sheets: &mut Vec<Sheet>,
 ) -> Result<(), AllocError>
-    requires kept { IsTrue keeps_pages → IfSome records.now (λ those. AreLockedSheets those.items starts.now pages.now sheets.old.items) }
+    requires kept { IsTrue keeps_pages → IfSome records.now (λ those. AreSheetsBefore those.items starts.now pages.now sheets.old.items) }
     requires stale { AreSameOutside sheets.old.items (marked_sheets (marks_in body.now.elements) 1 pages.now) stale.start stale.end }
     requires asked { AskedOfPages (λ those. those.items) body.now.elements records.now starts.now pages.now }
     requires unmarked { round ≡ 0 → All (λ mark. mark ≡ 0) (marks_in body.now.elements) }
@@ -210,7 +228,7 @@ fn renew_body_sheets(
     keeps_pages: bool,
     sheets: &mut Vec<Sheet>,
 ) -> Result<(), AllocError>
-    requires kept { IsTrue keeps_pages → IfSome (records.now).pages (λ those. AreLockedSheets those firsts.now pages.now sheets.old.items) }
+    requires kept { IsTrue keeps_pages → IfSome (records.now).pages (λ those. AreSheetsBefore those firsts.now pages.now sheets.old.items) }
     requires stale { AreSameOutside sheets.old.items (marked_sheets (marks_in (laid_of layout.now).body.elements) 1 pages.now) stale.start stale.end }
     requires whole { IsWhole (state_of (text_of lines.now) records.now) }
     requires laid { IsLaidOf (state_of (text_of lines.now) records.now) (laid_of layout.now) }
@@ -243,8 +261,7 @@ pub fn lay(
     requires stanzas { stanzas.now.stanzas ≡ text_stanzas (text_of lines.now) }
     ensures { IfOk result (λ layout. IsLaidOf (state_of (text_of lines.now) records.now) (laid_of layout)) }
 {
-    let blocks = placed_blocks(alloc, stanzas)?;
-    let layout = lay_out(alloc, lines, &blocks, records.speakers)?;
+    let layout = lay_out_text(alloc, lines, stanzas, records.speakers)?;
     Ok(KeptLayout::new(layout))
 }
 
@@ -362,7 +379,7 @@ pub fn renumber(
     requires can { CanPutBack pages.now.starts swapped.now }
     requires sheets { (records.now).pages ≡ None → (records.now).round ≡ 0 → AreUnmarked numbered.old.sheets (with_taken pages.now.starts swapped.now) }
     requires labels { IsTrue keeps_labels → numbered.old.labels ≡ heading_labels lines.now.lines records.now.scenes }
-    requires kept { IsTrue keeps_pages → IfSome (records.now).pages (λ those. AreLockedSheets those firsts.now pages.now.starts numbered.old.sheets) }
+    requires kept { IsTrue keeps_pages → IfSome (records.now).pages (λ those. AreSheetsBefore those firsts.now pages.now.starts numbered.old.sheets) }
     ensures numbered { OnOk result (IsNumberedOf (state_of (text_of lines.now) records.now) numbered.new) }
     ensures same { OnErr result (numbered.new ≡ numbered.old) }
 {
@@ -370,36 +387,48 @@ pub fn renumber(
     let starts = pages.starts();
     let marks = layout.body.marks();
     let stale = stale_places(&numbered.sheets, marks, renews_all(records), swapped);
-    let sheets = &mut numbered.sheets;
-    if keeps_labels {
-        renew_body_sheets(
-            alloc,
-            lines,
-            records,
-            layout,
-            firsts,
-            starts,
-            stale,
-            keeps_pages,
-            sheets,
-        )?;
-    } else {
-        let labels = made_labels(alloc, lines, stanzas, records)?;
-        renew_body_sheets(
-            alloc,
-            lines,
-            records,
-            layout,
-            firsts,
-            starts,
-            stale,
-            keeps_pages,
-            sheets,
-        )?;
+    let labels = changed_labels(alloc, lines, stanzas, records, keeps_labels)?;
+    renew_body_sheets(
+        alloc,
+        lines,
+        records,
+        layout,
+        firsts,
+        starts,
+        stale,
+        keeps_pages,
+        &mut numbered.sheets,
+    )?;
+    if let Some(labels) = labels {
         numbered.labels = labels;
     }
     numbered.title_pages = title_pages;
     Ok(())
+}
+
+/// The labels and the sheets of a state whose text is laid out, and the first rows of its pages.
+fn numbered_pages<S: Steps>(
+    alloc: Global,
+    lines: &Lines,
+    stanzas: &Stanzas,
+    records: &Records,
+    layout: &KeptLayout,
+    steps: &mut S,
+) -> Result<(Numbered, Pages), AllocError>
+    requires whole { IsWhole (state_of (text_of lines.now) records.now) }
+    requires stanzas { stanzas.now.stanzas ≡ text_stanzas (text_of lines.now) }
+    requires laid { IsLaidOf (state_of (text_of lines.now) records.now) (laid_of layout.now) }
+    ensures numbered { IfOk result (λ it. IsNumberedOf (state_of (text_of lines.now) records.now) it.0) }
+    ensures pages { IfOk result (λ it. it.1.starts ≡ pages_of (state_of (text_of lines.now) records.now)) }
+    ensures fills { OnOk result (S.fills steps.new ≡ many_more (S.fills steps.old) (length (pages_of (state_of (text_of lines.now) records.now)))) }
+    ensures at_most { FilledAtMost (S.fills steps.old) (S.fills steps.new) (length (pages_of (state_of (text_of lines.now) records.now))) }
+    ensures reads { S.reads steps.new ≡ S.reads steps.old }
+{
+    let none: &[usize] = &[];
+    let firsts = laid_firsts(alloc, lines, records, layout, none)?;
+    let pages = make_pages(alloc, lines, records, layout, &firsts, steps)?;
+    let numbered = number(alloc, lines, stanzas, records, layout, &firsts, &pages)?;
+    Ok((numbered, pages))
 }
 
 /// What is made of a state and its stanzas, and the first rows of its pages. Each page of the body is filled once.
@@ -420,9 +449,6 @@ pub fn make<S: Steps>(
     ensures reads { S.reads steps.new ≡ S.reads steps.old }
 {
     let layout = lay(alloc, lines, stanzas, records)?;
-    let none: &[usize] = &[];
-    let firsts = laid_firsts(alloc, lines, records, &layout, none)?;
-    let pages = make_pages(alloc, lines, records, &layout, &firsts, steps)?;
-    let numbered = number(alloc, lines, stanzas, records, &layout, &firsts, &pages)?;
+    let (numbered, pages) = numbered_pages(alloc, lines, stanzas, records, &layout, steps)?;
     Ok((Made { layout, numbered }, pages))
 }

@@ -13,10 +13,10 @@ ghost use Rattle.sp_print.specs.Views.{label_of};
 ghost use Rattle.sp_made.specs.Places.{HasPlaces, sheet_shown, title_at};
 
 use crate::made::Made;
-use crate::numbered::{greatest, page_behind};
 use sp_elements::Body;
 use sp_labels::Label;
 use sp_locks::Sheet;
+use sp_numbers::{greatest, page_behind};
 use sp_print::{PageView, SheetLabel};
 use sp_text::Lines;
 use spec_pages::Shape;

@@ -14,8 +14,9 @@ use Rattle.spec_state.proofs.EditKeeps.{raised-labels}
 use Rattle.spec_state.proofs.StateLaws.{state-AreKeptPages, state-AreStarts, state-ArePages}
 use Rattle.spec_locked_pages.specs.Segments.{pages_of}
 use Rattle.sp_made.specs.Made.{first_rows, key_starts}
-use Rattle.sp_made.specs.Numbered.{AreLockedSheets, AreUnmarked}
-use Rattle.sp_made.proofs.UnmarkedLaws.{body-unmarked}
+use Rattle.sp_numbers.specs.Locked.{AreSheetsBefore}
+use Rattle.sp_numbers.specs.Numbered.{AreUnmarked}
+use Rattle.sp_numbers.proofs.UnmarkedLaws.{body-unmarked}
 
 -- An edit locks no pages.
 pub edited-unlocked : (state : State) (it : Replacement) → (edited_state state it).pages ≡ None → state.pages ≡ None
@@ -37,11 +38,11 @@ sheets-before old sheets pages whole unlocked first are starts =
 
 -- Where pages are locked, the sheets of a state are those of the page records after an edit, by the first rows and pages before it.
 pub locked-before : (old : State) (it : Replacement) (firsts pages : List ℕ) (sheets : List SheetOf) → IsWhole old → firsts ≡ first_rows old → pages ≡ pages_of old → sheets ≡ body_sheets old
-    → IfSome (edited_state old it).pages (λ those. AreLockedSheets those firsts pages sheets)
+    → IfSome (edited_state old it).pages (λ those. AreSheetsBefore those firsts pages sheets)
 locked-before old it firsts pages sheets whole first starts are = by old.pages refl
   where
     by : (records : Option (List PageRecordOf)) → old.pages ≡ records
-        → IfSome (pages_raised old (carried_state old it) records (option_map (carried_records (text_after old it).lines (it.first + length it.texts)) records)) (λ those. AreLockedSheets those firsts pages sheets)
+        → IfSome (pages_raised old (carried_state old it) records (option_map (carried_records (text_after old it).lines (it.first + length it.texts)) records)) (λ those. AreSheetsBefore those firsts pages sheets)
     by None is = tt
     by (Some records) is =
         let limit = rows_on old.paper in

@@ -14,8 +14,9 @@ ghost use Rattle.sp_reflow.specs.Starts.{many_more};
 ghost use Rattle.sp_reflow.specs.Filling.{FilledAtMost};
 ghost use Rattle.sp_reflow.specs.Updates.{AreStale, CanPutBack, taken_back, taken_of, with_taken};
 ghost use Rattle.sp_relay.specs.Kept.{CanSwap, HasPartRoom, laid_of, with_part};
-ghost use Rattle.sp_made.specs.HeadingIds.{laid_labels};
-ghost use Rattle.sp_made.specs.Numbered.{AreLockedSheets, AreUnmarked};
+ghost use Rattle.sp_numbers.specs.HeadingIds.{laid_labels};
+ghost use Rattle.sp_numbers.specs.Locked.{AreSheetsBefore};
+ghost use Rattle.sp_numbers.specs.Numbered.{AreUnmarked};
 ghost use Rattle.sp_made.specs.Made.{AreStopsOf, IsLaidOf, IsNumberedOf, first_rows};
 
 use sp_kit::Steps;
@@ -131,7 +132,7 @@ pub(crate) fn refilled<S: Steps>(
     requires stale { (stops : List ℕ) → AreStopsOf (state_of (text_of lines.now) records.now) stops → AreStale (rows_on (records.now).paper) (record { first = first; old = old; new = new }) pages.old.starts (map shape_of (rows_in (state_of (text_of lines.now) records.now))) stops }
     requires labels { IsTrue keeps_labels → numbered.old.labels ≡ heading_labels lines.now.lines records.now.scenes }
     requires sheets { (records.now).pages ≡ None → (records.now).round ≡ 0 → AreUnmarked numbered.old.sheets pages.old.starts }
-    requires kept { IsTrue keeps_firsts → IfSome (records.now).pages (λ those. AreLockedSheets those firsts.now pages.old.starts numbered.old.sheets) }
+    requires kept { IsTrue keeps_firsts → IfSome (records.now).pages (λ those. AreSheetsBefore those firsts.now pages.old.starts numbered.old.sheets) }
     ensures pages { OnOk result (pages.new.starts ≡ pages_of (state_of (text_of lines.now) records.now)) }
     ensures back { IfOk result (λ it. with_taken pages.new.starts it ≡ pages.old.starts) }
     ensures can { IfOk result (λ it. CanPutBack pages.new.starts it) }

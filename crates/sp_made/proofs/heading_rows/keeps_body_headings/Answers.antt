@@ -3,7 +3,7 @@ use Rattle.spec_pages.specs.declared.Shape.{Shape}
 use Rattle.spec_labels.specs.declared.RowKey.{RowKey}
 use Rattle.sp_elements.specs.Bodies.{KeyedElements, keyed_elements, row_count, shapes_in}
 use Rattle.sp_elements.specs.Exchanges.{run_of}
-use Rattle.sp_made.specs.HeadingIds.{body_headings, heading_ids}
+use Rattle.sp_numbers.specs.HeadingIds.{body_headings, heading_ids}
 use Rattle.sp_made.proofs.LaidHeadings.{headings-kept, rows-of-run}
 use Rattle.sp_made.proofs.heading_rows.keeps_body_headings.Goals as goal
 

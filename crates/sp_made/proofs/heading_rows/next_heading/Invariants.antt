@@ -1,7 +1,7 @@
 use Rattle.std.proofs.Common.{◌≡◌, ℕ, ◌≤◌, ◌<◌, false}
 use Rattle.std.specs.Prelude.{slice_index_or}
 use Rattle.spec_pages.specs.declared.Shape.{Shape}
-use Rattle.sp_made.specs.HeadingIds.{is_heading_start}
+use Rattle.sp_numbers.specs.HeadingIds.{is_heading_start}
 use Rattle.sp_made.proofs.heading_rows.next_heading.Given as goal
 
 abbrev pub invariant-loop-place : goal.invariant-loop-place

@@ -1,7 +1,7 @@
 use Rattle.std.proofs.Common.{◌≡◌, ℕ, ◌+◌, ◌<◌, ◌↔◌, false, length, sym, ◌∙◌, subst, arith}
 use Rattle.std.specs.Prelude.{IsTrue}
 use Rattle.std.proofs.lemmas.Bool.{eq-eqb, eqb-true, true≢false}
-use Rattle.sp_made.specs.HeadingIds.{IsHeadingFrom, heading_ids}
+use Rattle.sp_numbers.specs.HeadingIds.{IsHeadingFrom, heading_ids}
 use Rattle.sp_made.proofs.SameHeadings.{AreLeft, below, ids_left, ids-next, left-end, left-heading, left-other, left-over, left-plain}
 use Rattle.sp_made.proofs.heading_rows.same_headings.Goals as goal
 use Rattle.sp_made.proofs.heading_rows.same_headings.Goals.{then-next-others-via-then-next-others, then-next-others-via-else-next-others+then-other_keys-next, then-is_heading_start+else-next-others+else-other_keys-next, else-is_heading_start}

@@ -1,5 +1,5 @@
 use Rattle.std.proofs.Common.{◌≡◌, ℕ}
-use Rattle.sp_made.specs.HeadingIds.{IsHeadingFrom, heading_ids}
+use Rattle.sp_numbers.specs.HeadingIds.{IsHeadingFrom, heading_ids}
 use Rattle.sp_made.proofs.SameHeadings.{AreLeft, ids_left}
 use Rattle.sp_made.proofs.heading_rows.same_headings.Given as goal
 

@@ -10,8 +10,8 @@ use Rattle.spec_state.specs.Keeping.{state_of}
 use Rattle.spec_state.proofs.StateKeys.{text-headings}
 use Rattle.sp_text.specs.Gap.{text_of}
 use Rattle.sp_scenes.specs.LineLabels.{line_labels}
-use Rattle.sp_made.specs.HeadingLines.{heading_lines}
-use Rattle.sp_made.proofs.LinesOfHeadings.{labels-of, length-heading_lines}
+use Rattle.sp_numbers.specs.HeadingLines.{heading_lines}
+use Rattle.sp_numbers.proofs.LinesOfHeadings.{labels-of, length-heading_lines}
 use Rattle.sp_made.proofs.MadeLaws.{blocks-lie, labels-are}
 use Rattle.sp_made.proofs.made.made_labels.Goals as goal
 

@@ -9,7 +9,7 @@ use Rattle.sp_layout.specs.LaidOut.{LayoutOf}
 use Rattle.sp_relay.specs.Kept.{laid_of}
 use Rattle.sp_made.specs.Made.{key_starts, marked_or_locked}
 use Rattle.sp_made.proofs.MadeLaws.{asked-of, done-same, pages-are, sheets-made}
-use Rattle.sp_made.proofs.MarkedLaws.{rows-unmarked}
+use Rattle.sp_numbers.proofs.MarkedLaws.{rows-unmarked}
 use Rattle.sp_made.proofs.made.renew_body_sheets.Goals as goal
 
 pub renew_sheets_of_pages-requires-clause-asked : goal.renew_sheets_of_pages-requires-clause-asked

@@ -16,11 +16,11 @@ use Rattle.sp_layout.specs.LaidOut.{LayoutOf}
 use Rattle.sp_relay.specs.Kept.{KeptOf, laid_of}
 use Rattle.sp_made.specs.declared.made.Numbered.TheInside.{Inside}
 use Rattle.sp_made.specs.Made.{NumberedOf}
-use Rattle.sp_made.specs.Numbered.{marked_sheets, AreSameOutside}
-use Rattle.sp_made.proofs.MarkedLaws.{rows-unmarked}
-use Rattle.sp_made.proofs.StaleSheets.{stale-same}
+use Rattle.sp_numbers.specs.Numbered.{marked_sheets, AreSameOutside}
+use Rattle.sp_numbers.proofs.MarkedLaws.{rows-unmarked}
+use Rattle.sp_numbers.proofs.StaleSheets.{stale-same}
 use Rattle.sp_made.proofs.made.renumber.Goals as goal
-use Rattle.sp_made.proofs.made.renumber.Goals.{After-stale_places-stale, then-keeps_labels+in_ok-renew_body_sheets, else-keeps_labels+in_ok-labels+in_ok-renew_body_sheets-2+in-Some-1, else-keeps_labels+in_ok-labels+in_ok-renew_body_sheets-2+in-None-1}
+use Rattle.sp_made.proofs.made.renumber.Goals.{After-stale_places-stale, in_default, in-Some+in-Some-1, in-Some+in-None-2}
 
 pub stale_places-stale-requires : goal.stale_places-stale-requires
 stale_places-stale-requires c = record {
@@ -43,29 +43,29 @@ outside c =
 pub renew_body_sheets-requires-clause-stale : goal.renew_body_sheets-requires-clause-stale
 renew_body_sheets-requires-clause-stale c = outside (goal.at.renew_body_sheets-requires-clause-stale c).After-stale_places-stale
 
-pub renew_body_sheets-requires-else-keeps_labels-clause-stale : goal.renew_body_sheets-requires-else-keeps_labels-clause-stale
-renew_body_sheets-requires-else-keeps_labels-clause-stale c = outside (goal.at.renew_body_sheets-requires-else-keeps_labels-clause-stale c).After-stale_places-stale
-
-pub returns-clause-numbered : goal.returns-clause-numbered
-returns-clause-numbered c =
+pub returns : goal.returns
+returns c =
     let state : State = state_of (text_of c.args.lines.now) c.args.records.now in
     let laid = ap laid_of c.layout.view_is ∙ c.requires.laid in
     let titles : c.layout.inside.titles.elements ≡ (layout_in state).titles = ap (λ (l : LayoutOf). l.titles.elements) laid in
-    let labels : option_map (λ those. those.items) c.if-keeps_labels.numbered-inside.labels ≡ heading_labels state.lines state.scenes = elim c.if-keeps_labels.branch [
-      | then-keeps_labels+in_ok-renew_body_sheets w ↦ ap (λ (n : Inside). option_map (λ those. those.items) n.labels) w.numbered-inside-is ∙ ap (λ (n : NumberedOf). n.labels) c.numbered.view_is ∙ c.requires.labels w.if-keeps_labels.true
-      | else-keeps_labels+in_ok-labels+in_ok-renew_body_sheets-2+in-Some-1 w ↦ ap (λ (n : Inside). option_map (λ those. those.items) n.labels) w.numbered-inside-is ∙ w.in_ok-labels.ensures
-      | else-keeps_labels+in_ok-labels+in_ok-renew_body_sheets-2+in-None-1 w ↦ ap (λ (n : Inside). option_map (λ those. those.items) n.labels) w.numbered-inside-is ∙ w.in_ok-labels.ensures
+    let labels : option_map (λ those. those.items) c.match-labels-3.numbered-inside.labels ≡ heading_labels state.lines state.scenes = elim c.match-labels-3.branch [
+      | in-Some+in-Some-1 w ↦ ap (λ (n : Inside). option_map (λ those. those.items) n.labels) w.numbered-inside-is ∙ rw w.in-Some.is at c.in_ok-labels.ensures.made
+      | in-Some+in-None-2 w ↦ ap (λ (n : Inside). option_map (λ those. those.items) n.labels) w.numbered-inside-is ∙ rw w.in-Some.is at c.in_ok-labels.ensures.made
+      | in_default w ↦ ap (λ (n : Inside). option_map (λ those. those.items) n.labels) w.numbered-inside-is ∙ ap (λ (n : NumberedOf). n.labels) c.numbered.view_is ∙ c.requires.labels (rw w.in_default.is at c.in_ok-labels.ensures.kept)
     ] in
-    let sheets : c.if-keeps_labels.numbered-inside.sheets.items ≡ body_sheets state = elim c.if-keeps_labels.branch [
-      | then-keeps_labels+in_ok-renew_body_sheets w ↦ ap (λ (n : Inside). n.sheets.items) w.numbered-inside-is ∙ w.in_ok-renew_body_sheets.ensures.made
-      | else-keeps_labels+in_ok-labels+in_ok-renew_body_sheets-2+in-Some-1 w ↦ ap (λ (n : Inside). n.sheets.items) w.numbered-inside-is ∙ w.in_ok-renew_body_sheets-2.ensures.made
-      | else-keeps_labels+in_ok-labels+in_ok-renew_body_sheets-2+in-None-1 w ↦ ap (λ (n : Inside). n.sheets.items) w.numbered-inside-is ∙ w.in_ok-renew_body_sheets-2.ensures.made
+    let sheets : c.match-labels-3.numbered-inside.sheets.items ≡ body_sheets state = elim c.match-labels-3.branch [
+      | in-Some+in-Some-1 w ↦ ap (λ (n : Inside). n.sheets.items) w.numbered-inside-is ∙ c.in_ok-renew_body_sheets.ensures.made
+      | in-Some+in-None-2 w ↦ ap (λ (n : Inside). n.sheets.items) w.numbered-inside-is ∙ c.in_ok-renew_body_sheets.ensures.made
+      | in_default w ↦ ap (λ (n : Inside). n.sheets.items) w.numbered-inside-is ∙ c.in_ok-renew_body_sheets.ensures.made
     ] in
     record {
-      labels = labels;
-      title_starts = c.in_ok-title_pages.ensures
-          ∙ ap (λ (paper : Paper). page_starts (rows_on paper) (shapes_in c.layout.inside.titles.elements) []) (ap (λ (records : RecordsOf). records.paper) c.records.view_is)
-          ∙ ap (λ (elements : List ElementOf). page_starts (rows_on state.paper) (shapes_in elements) []) titles
-          ∙ ap (λ (shapes : List Shape). page_starts (rows_on state.paper) shapes []) (sym (shown_rows-shapes state.lines None (layout_in state).titles));
-      sheets = sheets;
+      numbered = record {
+        labels = labels;
+        title_starts = c.in_ok-title_pages.ensures
+            ∙ ap (λ (paper : Paper). page_starts (rows_on paper) (shapes_in c.layout.inside.titles.elements) []) (ap (λ (records : RecordsOf). records.paper) c.records.view_is)
+            ∙ ap (λ (elements : List ElementOf). page_starts (rows_on state.paper) (shapes_in elements) []) titles
+            ∙ ap (λ (shapes : List Shape). page_starts (rows_on state.paper) shapes []) (sym (shown_rows-shapes state.lines None (layout_in state).titles));
+        sheets = sheets;
+      };
+      same = tt;
     }

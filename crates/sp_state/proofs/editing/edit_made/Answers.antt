@@ -16,7 +16,7 @@ use Rattle.sp_layout.specs.LaidOut.{LayoutOf}
 use Rattle.sp_relay.specs.Kept.{CanSwap, laid_of, with_part}
 use Rattle.sp_reflow.specs.Updates.{CanPutBack, with_taken}
 use Rattle.sp_made.specs.Made.{IsNumberedOf, first_rows, laid_in}
-use Rattle.sp_made.specs.Numbered.{AreLockedSheets}
+use Rattle.sp_numbers.specs.Locked.{AreSheetsBefore}
 use Rattle.sp_state.specs.Fills.{EditFills, EditFillsAtMost, IsExchangeOf}
 use Rattle.sp_state.proofs.FillLaws.{fills-edited, fills-within, none-filled}
 use Rattle.sp_state.proofs.LabelLaws.{labels-after}
@@ -66,7 +66,7 @@ refilled-requires-clause-kept g c keeps =
     let it : Replacement = replacement_of c.args.lines.now.lines (edit_of c.args.edit) in
     let same = (slice_eq-Decides Decides-eqb c.as_slice.result.now c.as_slice-2.result.now c.eq-keeps_firsts.result c.eq-keeps_firsts.ensures).0 keeps in
     let first : c.deref-2.result.now ≡ first_rows old = c.deref-2.ensures.value ∙ sym c.as_slice-2.ensures.value ∙ sym same ∙ c.as_slice.ensures.value ∙ c.in_ok-before.ensures.found in
-    subst (λ (s : State). IfSome s.pages (λ those. AreLockedSheets those c.deref-2.result.now c.args.pages.now.starts c.args.numbered.now.sheets)) (sym c.in_ok-text.ensures.state)
+    subst (λ (s : State). IfSome s.pages (λ those. AreSheetsBefore those c.deref-2.result.now c.args.pages.now.starts c.args.numbered.now.sheets)) (sym c.in_ok-text.ensures.state)
     (locked-before old it c.deref-2.result.now c.args.pages.now.starts c.args.numbered.now.sheets c.requires.whole first c.requires.pages c.requires.numbered.sheets)
 
 pub returns-in_err-text : goal.returns-in_err-text

@@ -5,7 +5,7 @@ use Rattle.sp_text.specs.Gap.{text_of}
 use Rattle.sp_relay.specs.declared.kept.PartPlaces.{PartPlaces}
 use Rattle.sp_layout.specs.LaidOut.{LayoutOf}
 use Rattle.sp_relay.specs.Kept.{CanSwap, laid_of, with_part}
-use Rattle.sp_made.specs.HeadingIds.{laid_labels}
+use Rattle.sp_numbers.specs.HeadingIds.{laid_labels}
 use Rattle.sp_made.proofs.LaidHeadings.{labels-stay}
 use Rattle.sp_state.proofs.turning.turn_made.Goals as goal
 

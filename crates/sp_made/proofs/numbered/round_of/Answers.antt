@@ -1,6 +1,0 @@
-use Rattle.std.proofs.Common.{sym}
-use Rattle.sp_made.proofs.SheetMoves.{greatest-none}
-use Rattle.sp_made.proofs.numbered.round_of.Goals as goal
-
-pub returns-else-is_marked : goal.returns-else-is_marked
-returns-else-is_marked c = sym (greatest-none c.args.marks.now c.args.start c.args.end (c.requires.unmarked c.if-is_marked.false))

@@ -1,0 +1,6 @@
+use Rattle.std.proofs.Common.{sym}
+use Rattle.sp_numbers.proofs.SheetMoves.{greatest-none}
+use Rattle.sp_numbers.proofs.numbered.round_of.Goals as goal
+
+pub returns-else-is_marked : goal.returns-else-is_marked
+returns-else-is_marked c = sym (greatest-none c.args.marks.now c.args.start c.args.end (c.requires.unmarked c.if-is_marked.false))

@@ -1,0 +1,12 @@
+//! The labels of a state's headings, and the sheets of its pages.
+#![tactic(auto)]
+
+mod headings;
+mod locked;
+mod numbered;
+mod stops;
+
+pub use headings::{heading_lines, headings_among};
+pub use locked::renew_locked;
+pub use numbered::{greatest, page_behind, renew_sheets, stale_places};
+pub use stops::merged_stops;
