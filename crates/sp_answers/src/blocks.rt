@@ -13,10 +13,9 @@ ghost use Rattle.spec_machine.specs.Blocks.{block_reply, block_replies, element_
 ghost use Rattle.sp_answers.specs.Numbers.{parts_text};
 ghost use Rattle.sp_answers.specs.Pairs.{is_second, opens_pair};
 
-use sp_blocks::{BlockLine, Kind};
+use sp_blocks::{BlockLine, Kind, PlacedBlock};
 use sp_commands::BlockReply;
-use sp_layout::{PlacedBlock, placed_blocks};
-use sp_reread::Stanzas;
+use sp_reread::{Stanzas, placed_blocks};
 use sp_text::Lines;
 use spec_script::Run;
 use spec_text::Span;

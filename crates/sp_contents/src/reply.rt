@@ -7,8 +7,8 @@ ghost use Rattle.sp_commands.specs.Values.{reply_of};
 use crate::scenes::scenes_of;
 use sp_commands::Reply;
 use sp_entries::{entries_of, speaker_names};
-use sp_layout::placed_blocks;
 use sp_outline::cast;
+use sp_reread::placed_blocks;
 use sp_state::Script;
 use std::alloc::{AllocError, Global};
 

@@ -8,7 +8,7 @@ use crate::scenes::scenes_of;
 use sp_cast::Said;
 use sp_entries::{said_among, speech_sheets};
 use sp_labels::Label;
-use sp_layout::placed_blocks;
+use sp_reread::placed_blocks;
 use sp_state::Script;
 use std::alloc::{AllocError, Global};
 

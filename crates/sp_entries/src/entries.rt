@@ -11,9 +11,8 @@ ghost use Rattle.sp_entries.specs.Walks.{AddsBlock, IsAbove, IsWalked, label_at,
 
 use crate::scenes::Scenes;
 use sp_answers::{first_text, scene_label_text, written_number};
-use sp_blocks::Kind;
+use sp_blocks::{Kind, PlacedBlock};
 use sp_labels::{Label, compare};
-use sp_layout::PlacedBlock;
 use sp_outline::Entry;
 use sp_text::Lines;
 use std::alloc::{AllocError, Global};

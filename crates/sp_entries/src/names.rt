@@ -4,8 +4,8 @@ ghost use Rattle.spec_text.specs.Lines.{line_texts};
 ghost use Rattle.spec_script.specs.Elements.{PlacedLies};
 ghost use Rattle.spec_machine.specs.Outlines.{is_speech_block, speaker_names};
 
-use sp_blocks::Kind;
-use sp_layout::{PlacedBlock, speaker_name};
+use sp_blocks::{Kind, PlacedBlock};
+use sp_layout::speaker_name;
 use sp_text::Lines;
 use std::alloc::{AllocError, Global};
 

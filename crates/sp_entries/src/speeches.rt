@@ -10,10 +10,10 @@ ghost use Rattle.sp_entries.specs.Sheets.{AreInTurn};
 
 use crate::names::is_speech;
 use crate::sheets::sheet_of;
-use sp_blocks::Kind;
+use sp_blocks::{Kind, PlacedBlock};
 use sp_cast::Said;
 use sp_labels::Label;
-use sp_layout::{PlacedBlock, speaker_name};
+use sp_layout::speaker_name;
 use sp_locks::Sheet;
 use sp_text::Lines;
 use spec_pages::{RowKind, Shape};

@@ -1,4 +1,3 @@
-mod Blocks
 mod Elements
 mod LastRows
 mod LastSpeakers

@@ -2,18 +2,17 @@
 ghost use Rattle.std.specs.Prelude.{◌≡◌, ◌+◌, ◌<◌, ◌≤◌, length, true, All, IfOk, OnOk};
 ghost use Rattle.spec_text.specs.Lines.{IsText, line_texts};
 ghost use Rattle.spec_script.specs.Elements.{is_dual, is_speech_kind, PlacedLies, PlacesRise};
-ghost use Rattle.spec_script.specs.Stanzas.{stanzas_of};
+ghost use Rattle.spec_script.specs.Stanzas.{blocks_of};
 ghost use Rattle.spec_pages.specs.Rows.{is_title};
 ghost use Rattle.spec_layout.specs.Layout.{is_page_break};
 ghost use Rattle.sp_text.specs.Gap.{text_of};
 ghost use Rattle.sp_layout.specs.LaidOut.{AddsElement, IsLayoutOf, layout_behind, no_layout, spoken_beside, spoken_block, with_laid};
 ghost use Rattle.sp_layout.specs.Speaking.{speakers_before};
 
-use crate::placed::{PlacedBlock, placed_blocks};
 use crate::speakers::Speakers;
+use sp_blocks::PlacedBlock;
 use sp_columns::{dual_rows, single_rows};
 use sp_elements::{Body, Element};
-use sp_reread::Stanzas;
 use sp_text::Lines;
 use spec_pages::Side;
 use spec_script::Kind;
@@ -198,19 +197,18 @@ pub fn lay_out(
     lay_out_behind(alloc, lines, blocks, Speakers::new(speakers))
 }
 
-/// Lays out a text, of which these are the stanzas, by whether speakers who go on are told. The error is want of memory
+/// Lays out a text, of which these are the blocks, by whether speakers who go on are told. The error is want of memory
 /// alone.
 pub fn lay_out_text(
     alloc: Global,
     lines: &Lines,
-    stanzas: &Stanzas,
+    blocks: &[PlacedBlock<'_>],
     speakers: bool,
 ) -> Result<Layout, AllocError>
-    requires { stanzas.now.stanzas ≡ stanzas_of (line_texts lines.now.lines) }
+    requires { blocks.now ≡ blocks_of (line_texts lines.now.lines) }
     ensures layout { IfOk result (IsLayoutOf lines.now.lines speakers) }
     ensures text { OnOk result (IsText (text_of lines.now)) }
 {
     let _count = lines.len();
-    let blocks = placed_blocks(alloc, stanzas)?;
-    lay_out(alloc, lines, &blocks, speakers)
+    lay_out(alloc, lines, blocks, speakers)
 }

@@ -2,9 +2,7 @@
 #![tactic(auto)]
 
 mod layout;
-mod placed;
 mod speakers;
 
 pub use layout::{Layout, lay_out, lay_out_behind, lay_out_text};
-pub use placed::{PlacedBlock, placed_blocks, placed_blocks_between};
 pub use speakers::{Speakers, speaker_name};

@@ -10,8 +10,7 @@ ghost use Rattle.spec_layout.specs.Cells.{continued};
 ghost use Rattle.spec_layout.specs.Speakers.{block_text, cue_ends_continued, cue_text, is_last_speaker, last_row_continued, name_in, named_block, settled, shown_text, speaker_after};
 ghost use Rattle.sp_layout.specs.Speaking.{last_speaker, speakers_after, speakers_before, speakers_behind};
 
-use crate::placed::PlacedBlock;
-use sp_blocks::{BlockLine, Kind};
+use sp_blocks::{BlockLine, Kind, PlacedBlock};
 use sp_clean::letters::ends;
 use sp_clean::spaces::trim;
 use sp_columns::width_of;

@@ -30,7 +30,7 @@ use sp_numbers::{heading_lines, merged_stops, renew_locked, renew_sheets, stale_
 use sp_records::Records;
 use sp_reflow::{Pages, SwappedPages};
 use sp_relay::KeptLayout;
-use sp_reread::Stanzas;
+use sp_reread::{Stanzas, placed_blocks};
 use sp_scenes::numbers_of_lines;
 use sp_text::Lines;
 use spec_pages::Paper;
@@ -261,7 +261,8 @@ pub fn lay(
     requires stanzas { stanzas.now.stanzas ≡ text_stanzas (text_of lines.now) }
     ensures { IfOk result (λ layout. IsLaidOf (state_of (text_of lines.now) records.now) (laid_of layout)) }
 {
-    let layout = lay_out_text(alloc, lines, stanzas, records.speakers)?;
+    let blocks = placed_blocks(alloc, stanzas)?;
+    let layout = lay_out_text(alloc, lines, &blocks, records.speakers)?;
     Ok(KeptLayout::new(layout))
 }
 

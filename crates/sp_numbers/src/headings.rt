@@ -11,9 +11,8 @@ ghost use Rattle.spec_state.specs.Headings.{as_scene_label, heading_of, is_headi
 ghost use Rattle.sp_numbers.specs.HeadingLines.{heading_line, heading_lines};
 ghost use Rattle.sp_numbers.specs.Numbers.{parts_text};
 
-use sp_blocks::{Block, Kind, Stanza};
+use sp_blocks::{Block, Kind, PlacedBlock, Stanza};
 use sp_labels::{Label, parse};
-use sp_layout::PlacedBlock;
 use sp_reread::Stanzas;
 use sp_scenes::HeadingAt;
 use sp_text::Lines;

@@ -15,9 +15,9 @@ ghost use Rattle.sp_relay.specs.Outside.{StaysOutside};
 
 use crate::edges::{PartEdge, part_end, part_start, stanza_settles};
 use crate::{KeptLayout, LayoutPart, PartPlaces, relay};
-use sp_blocks::{Kind, Stanza};
-use sp_layout::{PlacedBlock, Speakers, placed_blocks_between};
-use sp_reread::{Stanzas, Swapped};
+use sp_blocks::{Kind, PlacedBlock, Stanza};
+use sp_layout::Speakers;
+use sp_reread::{Stanzas, Swapped, placed_blocks_between};
 use sp_text::Lines;
 use std::alloc::{AllocError, Global};
 

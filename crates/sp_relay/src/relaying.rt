@@ -9,7 +9,8 @@ ghost use Rattle.sp_relay.specs.Outside.{StaysOutside};
 ghost use Rattle.sp_relay.specs.Relaid.{IsRelaid};
 
 use crate::{KeptLayout, LayoutPart, PartPlaces};
-use sp_layout::{PlacedBlock, Speakers, lay_out_behind};
+use sp_blocks::PlacedBlock;
+use sp_layout::{Speakers, lay_out_behind};
 use sp_text::Lines;
 use std::alloc::{AllocError, Global};
 

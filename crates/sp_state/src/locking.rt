@@ -18,12 +18,11 @@ ghost use Rattle.sp_state.specs.Openings.{ArePagesOpened, CanLockHeadings, IsFul
 
 use crate::fault::OpeningFault;
 use sp_labels::{Label, LockFault};
-use sp_layout::placed_blocks;
 use sp_locks::{PageRecord, extend};
 use sp_made::Made;
 use sp_numbers::headings_among;
 use sp_records::Records;
-use sp_reread::Stanzas;
+use sp_reread::{Stanzas, placed_blocks};
 use sp_scenes::{HeadingAt, SceneRecord, extend_scenes, lock_scenes, numbers};
 use sp_text::Lines;
 use std::alloc::{AllocError, Global};

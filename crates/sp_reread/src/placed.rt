@@ -1,28 +1,12 @@
-//! The blocks of a text, lent by its stanzas.
+//! The blocks of stanzas, lent.
 ghost use Rattle.std.specs.Prelude.{◌≡◌, ◌≤◌, ◌++◌, length, map, take, slice_range, IfOk, OnOk};
 ghost use Rattle.spec_script.specs.Elements.{placed_at};
 ghost use Rattle.spec_script.specs.Stanzas.{blocks_from};
 ghost use Rattle.spec_reread.specs.Windows.{stanza_lines_in};
 
-use sp_blocks::{Block, Stanza};
-use sp_reread::Stanzas;
+use crate::Stanzas;
+use sp_blocks::{PlacedBlock, Stanza};
 use std::alloc::{AllocError, Global};
-use std::marker::Model;
-
-/// A block (docs/RULES.md, "Blocks"), and the place of the first line of its stanza.
-#[derive(Drop)]
-pub struct PlacedBlock<'a> {
-    pub first: usize,
-    pub block: &'a Block,
-}
-
-impl<'a> Model for PlacedBlock<'a> {
-    ghost use Rattle.spec_script.specs.Stanzas.{PlacedBlock as PlacedBlockValue};
-
-    ghost Value = { PlacedBlockValue };
-
-    ghost view = { λ b. record { first = b.first; block = b.block.now } };
-}
 
 /// Adds the blocks of the stanza that begins at a place.
 fn add_stanza<'a>(

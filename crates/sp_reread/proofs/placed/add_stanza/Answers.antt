@@ -1,6 +1,6 @@
 use Rattle.std.proofs.Common.{arith}
 use Rattle.std.proofs.lemmas.Grind.{common_steps}
-use Rattle.sp_layout.proofs.placed.add_stanza.Goals as goal
+use Rattle.sp_reread.proofs.placed.add_stanza.Goals as goal
 
 pub loop-block-preserved : goal.loop-block-preserved
 loop-block-preserved c = grind (arith, common_steps)

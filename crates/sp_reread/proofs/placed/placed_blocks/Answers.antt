@@ -2,7 +2,7 @@ use Rattle.std.proofs.Common.{◌≡◌, ◌-◌, take, slice_range, ap, ◌∙�
 use Rattle.std.proofs.lemmas.Result.{IfOk-weaker}
 use Rattle.spec_script.specs.Stanzas.{blocks_from}
 use Rattle.spec_reread.specs.Windows.{stanza_lines_in}
-use Rattle.sp_layout.proofs.placed.placed_blocks.Goals as goal
+use Rattle.sp_reread.proofs.placed.placed_blocks.Goals as goal
 
 pub returns : goal.returns
 returns c =

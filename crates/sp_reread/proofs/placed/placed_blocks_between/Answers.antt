@@ -1,6 +1,6 @@
 use Rattle.std.proofs.Common.{◌∙◌, arith}
-use Rattle.sp_layout.proofs.Blocks.{blocks_from-next}
-use Rattle.sp_layout.proofs.placed.placed_blocks_between.Goals as goal
+use Rattle.sp_reread.proofs.Blocks.{blocks_from-next}
+use Rattle.sp_reread.proofs.placed.placed_blocks_between.Goals as goal
 
 pub loop-i-preserved : goal.loop-i-preserved
 loop-i-preserved c =
