@@ -12,9 +12,9 @@ ghost use Rattle.sp_layout.specs.Speaking.{last_speaker, speakers_after, speaker
 
 use crate::placed::PlacedBlock;
 use sp_blocks::{BlockLine, Kind};
-use sp_clean::letters::ends;
-use sp_clean::spaces::trim;
 use sp_columns::width_of;
+use sp_forms::letters::ends;
+use sp_forms::spaces::trim;
 use sp_measure::{WrapRow, wrap};
 use sp_text::Lines;
 use spec_pages::Side;
