@@ -1,4 +1,2 @@
 pub mod YardWalk
 pub mod NoteWalk
-pub mod Copies
-pub mod FormLaws

@@ -1,6 +1,5 @@
-//! What is left of a script's lines without their boneyards and notes, and what they are then (docs/RULES.md,
-//! "Boneyards", "Sorts of lines", "Notes", "Letter tests"). Each line is read by itself, with one bit that the lines
-//! before it leave.
+//! What is left of a script's lines without their boneyards and notes, and their sorts (docs/RULES.md, "Boneyards",
+//! "Sorts of lines" and "Notes"). Each line is read by itself, with one bit that the lines before it leave.
 //!
 //! All places are places of bytes in the line, from 0. A line has at most 4,096 bytes. Parts that a call takes lie in
 //! the line, begin and end between characters, and stand in order; those that a call gives do so too. The kept text
@@ -8,14 +7,9 @@
 #![tactic(auto)]
 
 mod boneyards;
-mod forms;
-pub mod letters;
 mod notes;
-pub mod parts;
-pub mod spaces;
 
 pub use boneyards::{LineScan, scan};
-pub use forms::{is_cue, is_forced_heading, is_heading, is_transition};
 pub use notes::{NoteScan, note_scan};
 pub use spec_script::Sort;
 pub use spec_text::Span;

@@ -11,9 +11,9 @@ ghost use Rattle.spec_layout.specs.Speakers.{block_text, cue_ends_continued, cue
 ghost use Rattle.sp_layout.specs.Speaking.{last_speaker, speakers_after, speakers_before, speakers_behind};
 
 use sp_blocks::{BlockLine, Kind, PlacedBlock};
-use sp_clean::letters::ends;
-use sp_clean::spaces::trim;
 use sp_columns::width_of;
+use sp_forms::letters::ends;
+use sp_forms::spaces::trim;
 use sp_measure::{WrapRow, wrap};
 use sp_text::Lines;
 use spec_pages::Side;

@@ -1,7 +1,0 @@
-use Rattle.std.proofs.Common.{ap, ◌∙◌}
-use Rattle.spec_script.specs.Trim.{trim}
-use Rattle.spec_script.specs.Forms.{is_natural_cue}
-use Rattle.sp_clean.proofs.forms.is_cue.Goals as goal
-
-pub returns : goal.returns
-returns c = c.is_natural_cue.ensures ∙ ap is_natural_cue (c.trim.ensures ∙ ap trim c.joined_text.ensures)
