@@ -1,7 +1,7 @@
 -- A layout before an edit, and what the edit left of it.
 use Rattle.std.proofs.Common.{◌≡◌, ℕ, ◌+◌, ◌-◌, ◌≤◌, Bool, None, List, length, refl, sym, ap, subst, ◌∙◌}
 use Rattle.spec_text.specs.Lines.{LineState, TextState, IsText, line_texts}
-use Rattle.spec_text.specs.Edits.{Displacement, EditOf, Replacement, changed, put_by, refusal_of, replacement_of, restored, line_ids, stretch}
+use Rattle.spec_text.specs.Edits.{Displacement, EditOf, Replacement, changed, put_by, refusal_of, replacement_of, line_ids, stretch}
 use Rattle.spec_text.specs.Ranges.{range_of}
 use Rattle.spec_text.proofs.EditLaws.{length-lines_put}
 use Rattle.spec_text.proofs.TakenEdits.{taken-inside}

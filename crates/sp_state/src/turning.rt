@@ -97,7 +97,7 @@ fn update_pages<S: Steps>(
 }
 
 /// Whether the first rows of page records and those of pages stayed, where putting these back would make the latter those before.
-fn keep_pages(keeps_firsts: bool, pages: &Pages, swapped: &SwappedPages) -> bool
+fn pages_stay(keeps_firsts: bool, pages: &Pages, swapped: &SwappedPages) -> bool
     requires { CanPutBack pages.now.starts swapped.now }
     ensures firsts { OnTrue result (IsTrue keeps_firsts) }
     ensures pages { OnTrue result (with_taken pages.now.starts swapped.now ≡ pages.now.starts) }
@@ -146,7 +146,7 @@ pub(crate) fn refilled<S: Steps>(
     let swapped = update_pages(
         alloc, lines, records, layout, firsts, pages, first, old, new, steps,
     )?;
-    let keeps_pages = keep_pages(keeps_firsts, pages, &swapped);
+    let keeps_pages = pages_stay(keeps_firsts, pages, &swapped);
     match renumber(
         alloc,
         lines,

@@ -1,6 +1,5 @@
-use Rattle.std.proofs.Common.{None, Some, ◌≡◌, ℕ, List, Option, ap, sym, subst, ◌∙◌}
+use Rattle.std.proofs.Common.{None, Some, ◌≡◌, ℕ, Option, ap, sym, subst, ◌∙◌}
 use Rattle.std.specs.Prelude.{IfSome}
-use Rattle.spec_labels.specs.PageRecords.{PageRecordOf}
 use Rattle.std.proofs.lemmas.Bool.Decides.{Decides-eqb}
 use Rattle.std.proofs.lemmas.Slice.Eq.{slice_eq-Decides}
 use Rattle.spec_text.specs.Edits.{Replacement, replacement_of}
@@ -12,9 +11,7 @@ use Rattle.spec_locked_pages.specs.Segments.{pages_of}
 use Rattle.spec_reflow.specs.Windows.{Exchange}
 use Rattle.sp_text.specs.Changing.{edit_of}
 use Rattle.sp_text.specs.Gap.{text_of}
-use Rattle.sp_layout.specs.LaidOut.{LayoutOf}
-use Rattle.sp_relay.specs.Kept.{CanSwap, laid_of, with_part}
-use Rattle.sp_reflow.specs.Updates.{CanPutBack, with_taken}
+use Rattle.sp_relay.specs.Kept.{laid_of, with_part}
 use Rattle.sp_made.specs.Made.{IsNumberedOf, first_rows, laid_in}
 use Rattle.sp_numbers.specs.Locked.{AreSheetsBefore}
 use Rattle.sp_state.specs.Fills.{EditFills, EditFillsAtMost, IsExchangeOf}

@@ -5,7 +5,6 @@ use Rattle.spec_text.specs.Ranges.{range_of}
 use Rattle.spec_text.proofs.TakenEdits.{taken-inside}
 use Rattle.spec_script.specs.BlockValues.{StanzaOf}
 use Rattle.spec_records.specs.Kept.{RecordsOf}
-use Rattle.spec_state.specs.State.{State}
 use Rattle.spec_state.specs.Keeping.{state_of}
 use Rattle.sp_text.specs.Changing.{edit_of}
 use Rattle.sp_text.specs.DisplacedLines.{displaced_of}

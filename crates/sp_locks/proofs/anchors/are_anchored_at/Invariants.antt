@@ -1,6 +1,6 @@
 use Rattle.std.proofs.Common.{◌≡◌, map, take}
 use Rattle.spec_labels.specs.PageRecords.{record_start}
-use Rattle.sp_locks.proofs.anchors.start_at.Given as goal
+use Rattle.sp_locks.proofs.anchors.are_anchored_at.Given as goal
 
 abbrev pub invariant-loop-place : goal.invariant-loop-place
 invariant-loop-place l = take l.place l.behind ≡ map (record_start l.lines.lines l.rows) (take l.place l.later)

@@ -3,7 +3,7 @@ use Rattle.std.proofs.lemmas.Bool.{OnTrue_at, OnTrue_from}
 use Rattle.spec_labels.specs.declared.RowKey.{RowKey}
 use Rattle.spec_labels.specs.PageRecords.{PageRecordOf, record_start}
 use Rattle.sp_locks.proofs.PlaceLaws.{first-with-key, start-inside}
-use Rattle.sp_locks.proofs.anchors.starts_at.Goals as goal
+use Rattle.sp_locks.proofs.anchors.is_anchored_at.Goals as goal
 
 pub returns : goal.returns
 returns c =
