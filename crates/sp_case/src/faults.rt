@@ -42,7 +42,7 @@ impl Faults {
     }
 }
 
-/// Bytes as a text.
+/// Bytes as a text, or `no UTF-8` where they are none. The error is want of memory alone.
 pub fn shown(alloc: Global, bytes: &[u8]) -> Result<String, AllocError> {
     match String::from_utf8(bytes.to_vec(alloc)?) {
         Ok(text) => Ok(text),

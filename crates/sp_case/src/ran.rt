@@ -6,7 +6,8 @@ use std::alloc::{AllocError, Global};
 
 /// What is run on cases.
 pub trait Program {
-    /// Runs by words over objects in memory. Answers the number of the status, and behind a space its line, where it has one.
+    /// Runs by words over objects in memory, which are then as the run left them. Answers the number of the status, and behind a space its
+    /// line, where it has one. The error is want of memory for this answer; that of the run is a status.
     fn run(
         &self,
         alloc: Global,
