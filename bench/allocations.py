@@ -88,12 +88,20 @@ def insert(first, *lines):
     return {"do": "replace", "first": first, "count": 0, "lines": list(lines)}
 
 
+def splice(line, text):
+    return {"do": "splice", "line": line, "from": 2, "to": 2, "text": text}
+
+
 def sheets(count):
     return [{"do": "sheet", "index": at} for at in range(count)]
 
 
 LETTERED = [*LOCKS, insert(3, "===", "!d"), LABELS, {"do": "next_round"}, insert(3, "===", "!e"), LABELS, *sheets(5), {"do": "outline"}, SAVE, LABELS, SAVE]
 OMITTED = [*LOCKS, {"do": "replace", "first": 2, "count": 4, "lines": []}, LABELS, *sheets(3), {"do": "undo"}, LABELS, {"do": "redo"}, SAVE, {"do": "blocks"}, SAVE]
+# 270 rows of few lines, so that lists of rows pass 256; a row comes at the beginning and one at the end, and both go and come again.
+MANY_ROWS = "!a\n\n" + 4 * ("!" + 4000 * "b" + "\n") + "\n!c\n"
+ENDS = [{"do": "sheet", "index": 0}, {"do": "sheet", "index": 5}]
+ROWS = [splice(0, 60 * "d"), splice(7, 60 * "e"), *2 * [{"do": "undo"}], *ENDS, *2 * [{"do": "redo"}], *ENDS, SAVE]
 # Words, the script, and the commands of a session.
 RUNS = [
     (["sample", "20"], "", []),
@@ -102,6 +110,7 @@ RUNS = [
     (["outline", "f"], LAMP, []),
     (["desk", "f"], "!a\n===\n!b\n===\n!c\n", LETTERED),
     (["desk", "f"], "!a\n===\n!b\n===\n!c\n===\n!d\n", OMITTED),
+    (["desk", "f"], MANY_ROWS, ROWS),
 ]
 
 

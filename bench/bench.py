@@ -115,10 +115,10 @@ LINES = {
 SCENE = "INT. ROOM - DAY\n\nThe lamp is lit.\n\nANNA\n(to BERT)\nI have counted the lamps.\n\nBERT\nCount them again.\n\n"
 
 
-def session(lines, turns):
-    """Some splices into an action in the middle of so many lines and as many undos, so many times."""
+def session(lines, texts, turns):
+    """Splices of these texts into an action in the middle of so many lines and as many undos, so many times."""
     line = lines // 2 // 11 * 11 + 2
-    edits = [{"do": "splice", "line": line, "from": 0, "to": 0, "text": "Now. "}] * SPLICES
+    edits = [{"do": "splice", "line": line, "from": 0, "to": 0, "text": text} for text in texts]
     return "".join(json.dumps(command) + "\n" for command in turned(edits) * turns)
 
 
@@ -275,17 +275,20 @@ def time_lines(folder, kinds, options):
 
 
 def time_sessions(folder, options):
-    """Times the opening, and a splice or an undo, by the number of lines, and prints a row for each."""
-    print(f"{'kind':10} {'lines':>7} {'open s':>9} {'splice or undo s':>16}")
+    """Times the opening, and a splice or an undo: of some splices in turn, of one alone by which rows stay, and of one by which a row
+    comes; by the number of lines, and prints a row for each."""
+    kinds = {"in turn": ["Now. "] * SPLICES, "rows stay": ["Now. "], "a row comes": ["Now. " * 12]}
+    print(f"{'kind':10} {'lines':>7} {'open s':>9} " + " ".join(f"{kind + ' s':>13}" for kind in kinds))
     for lines in (2_000, 20_000, 200_000):
         path = folder / f"session{lines}"
         path.write_text(SCENE * (lines // 11))
         times = []
-        for turns in (0, TURNS):
-            (folder / f"{path.name}.commands").write_text(session(lines, turns))
+        for texts in [[], *kinds.values()]:
+            turns = TURNS * SPLICES // len(texts) if texts else 0
+            (folder / f"{path.name}.commands").write_text(session(lines, texts, turns))
             times.append(least(DESK, path, options.runs))
-        opened, edited = times
-        print(f"{'session':10} {lines:7} {opened:9.4f} {(edited - opened) / (2 * SPLICES * TURNS):16.7f}", flush=True)
+        opened, *edited = times
+        print(f"{'session':10} {lines:7} {opened:9.4f} " + " ".join(f"{(seconds - opened) / (2 * SPLICES * TURNS):13.7f}" for seconds in edited), flush=True)
 
 
 def time_edits(folder, options):
