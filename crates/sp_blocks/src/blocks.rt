@@ -12,8 +12,8 @@ use std::alloc::{AllocError, Global};
 
 /// The blocks of a stanza, of which these lines are left without the held ones at its beginning: a title page, which it
 /// may be where it is the first of its text, a speech, or parts. Blocks count lines from the stanza's first line, and
-/// their runs and written numbers are places of bytes in its lines.
-pub fn blocks_of(
+/// their runs and written numbers are places of bytes in its lines. The lines are in order. The error is want of memory alone.
+pub fn left_blocks(
     alloc: Global,
     lines: &[LeftLine<'_>],
     first: bool,

@@ -30,7 +30,7 @@ pub(crate) fn row_at(body: &Body, row: usize) -> KeyedRow<'_>
     KeyedRow {
         first: element.first,
         row: &element.rows[row - start],
-        key: body.keys()[row],
+        key: *body.keys().at(row),
     }
 }
 
@@ -50,7 +50,7 @@ fn row_behind(body: &Body, to: usize, less: u64, more: u64, row: usize) -> Keyed
     KeyedRow {
         first: element.first - less + more,
         row: &element.rows[place - start],
-        key: body.keys()[place],
+        key: *body.keys().at(place),
     }
 }
 

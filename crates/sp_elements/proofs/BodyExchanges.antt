@@ -1,14 +1,16 @@
 -- What a body keeps, with some of its elements exchanged for others.
-use Rattle.std.proofs.Common.{◌≡◌, ℕ, ◌+◌, ◌-◌, ◌<◌, ◌≤◌, ◌^◌, Bool, true, false, cond, List, [], ◌∷◌, ◌++◌, length, map, take, drop, slice_range, All, refl, sym, ap, ap₂, subst, ◌∙◌, arith, append_assoc, length-append, take_at, drop_at, sum_by, length-drop}
+use Rattle.std.proofs.Common.{◌≡◌, ℕ, ◌+◌, ◌-◌, ◌<◌, ◌≤◌, ◌^◌, Bool, true, false, cond, List, [], ◌∷◌, ◌++◌, length, map, take, drop, slice_range, All, refl, sym, ap, ap₂, ◌∙◌, arith, append_assoc, length-append, take_at, drop_at, sum_by, length-drop}
 use Rattle.std.proofs.lemmas.List.{map-append, length-map, length-take-le, take-append-drop}
 use Rattle.std.proofs.lemmas.List.Sums.{sum_by-cons}
+use Rattle.std.proofs.lemmas.List.Elements.{All-same}
 use Rattle.spec_pages.specs.declared.Shape.{Shape}
 use Rattle.spec_pages.specs.Rows.{Row, ElementOf, shifted_row, placed_rows}
 use Rattle.spec_labels.specs.declared.RowKey.{RowKey}
 use Rattle.spec_layout.specs.Layout.{placed_in}
 use Rattle.spec_layout.specs.Shown.{is_heading_element, heading_count}
 use Rattle.sp_splice.specs.Runs.{exchanged}
-use Rattle.sp_splice.specs.Moves.{shifted, CanShift}
+use Rattle.sp_splice.specs.Moves.{shifted}
+use Rattle.sp_splice.specs.Gaps.{CanExchangePlaces}
 use Rattle.sp_splice.proofs.RunLaws.{in-three}
 use Rattle.sp_elements.specs.Bodies.{BodyParts, IsBody, row_count, starts_by, rows_of, headings_of}
 use Rattle.sp_elements.specs.Exchanges.{moved_element}
@@ -197,15 +199,45 @@ starts-taken size elements from to base order within base_is =
     ap (map (shifted base 0)) (starts-run size elements from to order within)
     ∙ starts-shifted size base 0 (sum_by size (take from elements)) run (omega (arith, base_is)) ∙ ap (λ n. starts_by size n run) none
 
+sum-part : (size : ElementOf → ℕ) (elements : List ElementOf) (n : ℕ) → sum_by size (take n elements) ≤ sum_by size elements
+sum-part size elements n = omega (arith, ap (sum_by size) (sym (take-append-drop n elements)), sum-append size (take n elements) (drop n elements))
+
 -- Bounds of starts.
-starts-can : (size : ElementOf → ℕ) (count less more : ℕ) (elements : List ElementOf) → less ≤ count → count - less + sum_by size elements + more < 2 ^ 64 → All (CanShift less more) (starts_by size count elements)
-starts-can size count less more elements low fits k d inside =
+starts-from : (size : ElementOf → ℕ) (count low : ℕ) (elements : List ElementOf) → low ≤ count → All (λ place. low ≤ place) (starts_by size count elements)
+starts-from size count low elements first k d inside =
+    let at = starts_by-get size count elements k d (omega (arith, inside, length-starts_by size count elements)) in
+    omega (arith, at, first)
+
+starts-to : (size : ElementOf → ℕ) (count high : ℕ) (elements : List ElementOf) → count + sum_by size elements ≤ high → All (λ place. place ≤ high) (starts_by size count elements)
+starts-to size count high elements last k d inside =
     let at = starts_by-get size count elements k d (omega (arith, inside, length-starts_by size count elements)) in
     let few = sum-part size elements k in
-    record { from = omega (arith, at, low); fits = omega (arith, at, low, fits, few) }
-  where
-    sum-part : (size : ElementOf → ℕ) (those : List ElementOf) (n : ℕ) → sum_by size (take n those) ≤ sum_by size those
-    sum-part size those n = omega (arith, ap (sum_by size) (sym (take-append-drop n those)), sum-append size (take n those) (drop n those))
+    omega (arith, at, last, few)
+
+-- Starts can be exchanged where elements are.
+starts-can : (size : ElementOf → ℕ) (elements : List ElementOf) (starts : List ℕ) (from to last base less more others_last : ℕ) → from ≤ to → to ≤ length elements → starts ≡ starts_by size 0 elements
+    → base ≡ sum_by size (take from elements) → less ≡ sum_by size (take to elements) → more ≡ base + others_last → last ≡ sum_by size elements → last + others_last < 2 ^ 64
+    → CanExchangePlaces starts last from to base less more others_last
+starts-can size elements starts from to last base less more others_last order within is base_is less_is more_is last_is small =
+    let front = take from elements in
+    let till = take to elements in
+    let run = slice_range elements from to in
+    let behind = drop to elements in
+    let run_sum : sum_by size till ≡ sum_by size front + sum_by size run = ap (sum_by size) (till-is elements from to order within) ∙ sum-append size front run in
+    let split : sum_by size elements ≡ sum_by size till + sum_by size behind = ap (sum_by size) (sym (take-append-drop to elements)) ∙ sum-append size till behind in
+    let begin = starts-split size elements from (omega (arith, order, within)) in
+    let end = starts-split size elements to within in
+    let inner : slice_range starts from to ≡ starts_by size (sum_by size front) run = ap (λ xs. slice_range xs from to) is ∙ starts-run size elements from to order within in
+    record {
+      above = omega (arith, base_is, less_is, run_sum);
+      inside = omega (arith, less_is, last_is, split);
+      come = omega (arith, more_is);
+      fits = omega (arith, more_is, base_is, less_is, run_sum, last_is, split, small);
+      before = All-same (λ place. place ≤ base) (take from starts) (starts_by size 0 front) (ap (take from) is ∙ begin.0) (starts-to size 0 base front (omega (arith, base_is)));
+      from_base = All-same (λ place. base ≤ place) (slice_range starts from to) (starts_by size (sum_by size front) run) inner (starts-from size (sum_by size front) base run (omega (arith, base_is)));
+      to_less = All-same (λ place. place ≤ less) (slice_range starts from to) (starts_by size (sum_by size front) run) inner (starts-to size (sum_by size front) less run (omega (arith, less_is, run_sum)));
+      later = All-same (λ place. less ≤ place) (drop to starts) (starts_by size (sum_by size till) behind) (ap (drop to) is ∙ end.1) (starts-from size (sum_by size till) less behind (omega (arith, less_is)));
+    }
 
 -- A body, and what becomes of it and of another one by an exchange.
 pub record IsExchanged (from to less more : ℕ) (old others new taken : BodyParts) : Type 0 where
@@ -215,6 +247,7 @@ pub record IsExchanged (from to less more : ℕ) (old others new taken : BodyPar
   pub keys : new.keys ≡ exchanged old.keys (row_count (take from old.elements)) (row_count (take to old.elements)) others.keys
   pub row_starts : new.row_starts ≡ take from old.row_starts ++ (map (shifted 0 (row_count (take from old.elements))) others.row_starts ++ map (shifted (row_count (take to old.elements)) (row_count (take from old.elements) + row_count others.elements)) (drop to old.row_starts))
   pub heading_starts : new.heading_starts ≡ take from old.heading_starts ++ (map (shifted 0 (heading_count (take from old.elements))) others.heading_starts ++ map (shifted (heading_count (take to old.elements)) (heading_count (take from old.elements) + heading_count others.elements)) (drop to old.heading_starts))
+  pub rows : new.rows + row_count (take to old.elements) ≡ row_count (take from old.elements) + row_count others.elements + row_count old.elements
   pub headings : new.headings + heading_count (take to old.elements) ≡ heading_count (take from old.elements) + heading_count others.elements + heading_count old.elements
   pub taken_elements : taken.elements ≡ slice_range old.elements from to
   pub taken_shapes : taken.shapes ≡ slice_range old.shapes (row_count (take from old.elements)) (row_count (take to old.elements))
@@ -222,6 +255,7 @@ pub record IsExchanged (from to less more : ℕ) (old others new taken : BodyPar
   pub taken_keys : taken.keys ≡ slice_range old.keys (row_count (take from old.elements)) (row_count (take to old.elements))
   pub taken_row_starts : taken.row_starts ≡ map (shifted (row_count (take from old.elements)) 0) (slice_range old.row_starts from to)
   pub taken_heading_starts : taken.heading_starts ≡ map (shifted (heading_count (take from old.elements)) 0) (slice_range old.heading_starts from to)
+  pub taken_rows : taken.rows + row_count (take from old.elements) ≡ row_count (take to old.elements)
   pub taken_headings : taken.headings + heading_count (take from old.elements) ≡ heading_count (take to old.elements)
 
 stays-rows : SizesStay rows_of
@@ -259,6 +293,7 @@ IsBody-exchanged from to less more old others new taken order within is them don
       heading_starts = done.heading_starts ∙ ap₂ (λ (xs ys : List ℕ). take from xs ++ (map (shifted 0 heading) ys ++ map (shifted heading_end (heading + heading_count others.elements)) (drop to xs))) is.heading_starts them.heading_starts
           ∙ starts-exchanged headings_of old.elements others.elements from to less more heading heading_end (heading_count others.elements) order within stays-headings (sym (sum-headings (take from old.elements))) (sym (sum-headings (take to old.elements))) (sym (sum-headings others.elements))
           ∙ sym (ap (starts_by headings_of 0) done.elements);
+      rows = omega (arith, done.rows, split, rows_all, ap row_count done.elements);
       headings = omega (arith, done.headings, heading_split, headings_all, ap heading_count done.elements);
     }
   where
@@ -284,6 +319,7 @@ IsBody-taken from to less more old others new taken order within is done =
           ∙ starts-taken rows_of old.elements from to row order within (sym (sum-rows (take from old.elements))) ∙ sym (ap (starts_by rows_of 0) done.taken_elements);
       heading_starts = done.taken_heading_starts ∙ ap (λ (xs : List ℕ). map (shifted (heading_count (take from old.elements)) 0) (slice_range xs from to)) is.heading_starts
           ∙ starts-taken headings_of old.elements from to (heading_count (take from old.elements)) order within (sym (sum-headings (take from old.elements))) ∙ sym (ap (starts_by headings_of 0) done.taken_elements);
+      rows = omega (arith, done.taken_rows, till, ap row_count done.taken_elements);
       headings = omega (arith, done.taken_headings, heading_till, ap heading_count done.taken_elements);
     }
 
@@ -304,12 +340,8 @@ pub record ExchangeFits (from to : ℕ) (old others : BodyParts) : Type 0 where
   pub heading_starts_len : length old.heading_starts ≡ length old.elements
   pub others_starts : length others.row_starts ≡ length others.elements
   pub others_heading_starts : length others.heading_starts ≡ length others.elements
-  pub come : All (CanShift 0 (row_count (take from old.elements))) others.row_starts
-  pub go : All (CanShift (row_count (take from old.elements)) 0) (slice_range old.row_starts from to)
-  pub later : All (CanShift (row_count (take to old.elements)) (row_count (take from old.elements) + row_count others.elements)) (drop to old.row_starts)
-  pub heading_come : All (CanShift 0 (heading_count (take from old.elements))) others.heading_starts
-  pub heading_go : All (CanShift (heading_count (take from old.elements)) 0) (slice_range old.heading_starts from to)
-  pub heading_later : All (CanShift (heading_count (take to old.elements)) (heading_count (take from old.elements) + heading_count others.elements)) (drop to old.heading_starts)
+  pub rows_can : CanExchangePlaces old.row_starts old.rows from to (row_count (take from old.elements)) (row_count (take to old.elements)) (row_count (take from old.elements) + others.rows) others.rows
+  pub headings_can : CanExchangePlaces old.heading_starts old.headings from to (heading_count (take from old.elements)) (heading_count (take to old.elements)) (heading_count (take from old.elements) + others.headings) others.headings
 
 pub exchange-fits : (from to : ℕ) (old others : BodyParts) → IsBody old → IsBody others → from ≤ to → to ≤ length old.elements → row_count old.elements + row_count others.elements < 2 ^ 64 → length old.elements + length others.elements < 2 ^ 64
     → ExchangeFits from to old others
@@ -328,8 +360,6 @@ exchange-fits from to old others is them order within small few =
     let run_headings : heading_end ≡ heading + heading_count run = ap heading_count (till-is old.elements from to order within) ∙ headings-append front run in
     let all_few = headings-few old.elements in
     let others_few = headings-few others.elements in
-    let later = (starts-split rows_of old.elements to within).1 in
-    let heading_later = (starts-split headings_of old.elements to within).1 in
     record {
       rows_order = omega (arith, run_rows);
       run_rows = run_rows;
@@ -346,16 +376,10 @@ exchange-fits from to old others is them order within small few =
       heading_starts_len = ap length is.heading_starts ∙ length-starts_by headings_of 0 old.elements;
       others_starts = ap length them.row_starts ∙ length-starts_by rows_of 0 others.elements;
       others_heading_starts = ap length them.heading_starts ∙ length-starts_by headings_of 0 others.elements;
-      come = subst (All (CanShift 0 row)) (sym them.row_starts) (starts-can rows_of 0 0 row others.elements (omega arith) (omega (arith, sum-rows others.elements, split, run_rows, small)));
-      go = subst (λ xs. All (CanShift row 0) (slice_range xs from to)) (sym is.row_starts) (subst (All (CanShift row 0)) (sym (starts-run rows_of old.elements from to order within))
-          (starts-can rows_of (sum_by rows_of front) row 0 run (omega (arith, sum-rows front)) (omega (arith, sum-rows front, sum-rows run, split, run_rows, small))));
-      later = subst (λ xs. All (CanShift end (row + row_count others.elements)) (drop to xs)) (sym is.row_starts) (subst (All (CanShift end (row + row_count others.elements))) (sym later)
-          (starts-can rows_of (sum_by rows_of till) end (row + row_count others.elements) behind (omega (arith, sum-rows till)) (omega (arith, sum-rows till, sum-rows behind, split, run_rows, small))));
-      heading_come = subst (All (CanShift 0 heading)) (sym them.heading_starts) (starts-can headings_of 0 0 heading others.elements (omega arith) (omega (arith, sum-headings others.elements, heading_split, run_headings, few, all_few, others_few)));
-      heading_go = subst (λ xs. All (CanShift heading 0) (slice_range xs from to)) (sym is.heading_starts) (subst (All (CanShift heading 0)) (sym (starts-run headings_of old.elements from to order within))
-          (starts-can headings_of (sum_by headings_of front) heading 0 run (omega (arith, sum-headings front)) (omega (arith, sum-headings front, sum-headings run, heading_split, run_headings, few, all_few))));
-      heading_later = subst (λ xs. All (CanShift heading_end (heading + heading_count others.elements)) (drop to xs)) (sym is.heading_starts) (subst (All (CanShift heading_end (heading + heading_count others.elements))) (sym heading_later)
-          (starts-can headings_of (sum_by headings_of till) heading_end (heading + heading_count others.elements) behind (omega (arith, sum-headings till)) (omega (arith, sum-headings till, sum-headings behind, heading_split, run_headings, few, all_few, others_few))));
+      rows_can = starts-can rows_of old.elements old.row_starts from to old.rows row end (row + others.rows) others.rows order within is.row_starts
+          (sym (sum-rows front)) (sym (sum-rows till)) refl (is.rows ∙ sym (sum-rows old.elements)) (omega (arith, is.rows, them.rows, small));
+      headings_can = starts-can headings_of old.elements old.heading_starts from to old.headings heading heading_end (heading + others.headings) others.headings order within is.heading_starts
+          (sym (sum-headings front)) (sym (sum-headings till)) refl (is.headings ∙ sym (sum-headings old.elements)) (omega (arith, is.headings, them.headings, all_few, others_few, few));
     }
 
 -- What stands before the later elements, and those.

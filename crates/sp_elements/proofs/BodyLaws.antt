@@ -94,8 +94,9 @@ pub record IsPushed (lines : List LineState) (element : ElementOf) (old new : Bo
   pub shapes : new.shapes ≡ old.shapes ++ map (λ (row : Row). row.shape) (placed_rows element)
   pub marks : new.marks ≡ old.marks ++ map (λ (row : Row). row.mark) (placed_rows element)
   pub keys : new.keys ≡ old.keys ++ map (row_key lines) (placed_rows element)
-  pub row_starts : new.row_starts ≡ old.row_starts ++ length old.shapes ∷ []
+  pub row_starts : new.row_starts ≡ old.row_starts ++ old.rows ∷ []
   pub heading_starts : new.heading_starts ≡ old.heading_starts ++ old.headings ∷ []
+  pub rows : new.rows ≡ old.rows + length element.rows
   pub headings : new.headings ≡ old.headings + headings_of element
 
 pub IsBody-push : (lines : List LineState) (element : ElementOf) (old new : BodyParts) → IsBody old → IsPushed lines element old new → IsBody new
@@ -109,11 +110,10 @@ IsBody-push lines element old new is pushed =
     let keys = ap length pushed.keys in
     let both = length-append old.keys (map (row_key lines) (placed_rows element)) in
     let count = ap length all in
-    let shapes = ap length is.shapes in
-    let shown = length-map (placed_in old.elements) shape in
     let sum = sum-rows old.elements in
     let head = sum-headings old.elements in
-    let start : length old.shapes ≡ 0 + sum_by rows_of old.elements = omega (arith, shapes, shown, sum) in
+    let start : old.rows ≡ 0 + sum_by rows_of old.elements = omega (arith, is.rows, sum) in
+    let placed = length-map element.rows (shifted_row element.first) in
     let heading : old.headings ≡ 0 + sum_by headings_of old.elements = omega (arith, is.headings, head) in
     let more = sum-headings (old.elements ++ element ∷ []) in
     record {
@@ -126,5 +126,6 @@ IsBody-push lines element old new is pushed =
           ∙ sym (starts_by-push rows_of 0 old.elements element) ∙ sym (ap (starts_by rows_of 0) pushed.elements);
       heading_starts = pushed.heading_starts ∙ ap₂ (λ (those : List ℕ) n. those ++ n ∷ []) is.heading_starts heading
           ∙ sym (starts_by-push headings_of 0 old.elements element) ∙ sym (ap (starts_by headings_of 0) pushed.elements);
+      rows = omega (arith, pushed.rows, is.rows, ap length all, size, placed, ap row_count pushed.elements, count);
       headings = omega (arith, pushed.headings, is.headings, ap heading_count pushed.elements, more, sum_by_push headings_of old.elements element, head);
     }

@@ -2,3 +2,4 @@ mod Places
 pub mod BodyExchanges
 pub mod BodyLaws
 pub mod ElementCounts
+pub mod Halves

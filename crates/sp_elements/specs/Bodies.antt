@@ -63,6 +63,7 @@ pub record BodyParts : Type 0 where
   pub keys : List RowKey
   pub row_starts : List ℕ
   pub heading_starts : List ℕ
+  pub rows : ℕ
   pub headings : ℕ
 
 -- What it keeps is that of its elements.
@@ -72,6 +73,7 @@ pub record IsBody (parts : BodyParts) : Type 0 where
   pub keys : length parts.keys ≡ row_count parts.elements
   pub row_starts : parts.row_starts ≡ starts_by rows_of 0 parts.elements
   pub heading_starts : parts.heading_starts ≡ starts_by headings_of 0 parts.elements
+  pub rows : parts.rows ≡ row_count parts.elements
   pub headings : parts.headings ≡ heading_count parts.elements
 
 -- The element at a place is that in which a row stands.

@@ -13,9 +13,9 @@ ghost use Rattle.sp_splice.specs.Runs.{exchanged};
 
 use crate::moves::move_elements;
 use crate::page::Page;
-use crate::search::{count_below, last_start};
+use crate::search::{last_start, starts_below};
 use crate::values::{Element, Row};
-use sp_splice::{exchange, exchange_places, make_room};
+use sp_splice::{GapList, GapPlaces, exchange, make_room};
 use sp_text::Lines;
 use spec_labels::RowKey;
 use spec_pages::{RowKind, Shape};
@@ -42,16 +42,15 @@ fn headings_of(element: &Element) -> usize
 
 /// Elements in the order of a text (docs/RULES.md, "Elements"): those of its title page, or those of its body. Beside the
 /// elements it keeps what page ends see of each row, each row's mark and its key, by the id of its line, and how many rows
-/// and headings stand before each element.
+/// and headings stand before each element. All this but the elements stands round a gap.
 #[derive(Drop)]
 pub struct Body {
     elements: Vec<Element>,
-    shapes: Vec<Shape>,
-    marks: Vec<u8>,
-    keys: Vec<RowKey>,
-    row_starts: Vec<usize>,
-    heading_starts: Vec<usize>,
-    headings: usize,
+    shapes: GapList<Shape>,
+    marks: GapList<u8>,
+    keys: GapList<RowKey>,
+    row_starts: GapPlaces,
+    heading_starts: GapPlaces,
 }
 
 impl Model for Body {
@@ -63,8 +62,8 @@ impl Model for Body {
     ghost view = { λ b. record {
       elements = b.elements.items;
       keys = b.keys.items;
-      room = min (vec_capacity b.elements) (min (vec_capacity b.row_starts) (vec_capacity b.heading_starts));
-      row_room = min (vec_capacity b.shapes) (min (vec_capacity b.marks) (vec_capacity b.keys));
+      room = min (vec_capacity b.elements) (min b.row_starts.room b.heading_starts.room);
+      row_room = min b.shapes.room (min b.marks.room b.keys.room);
     } };
 
     ghost invariant = { λ b. IsBody (record {
@@ -74,21 +73,22 @@ impl Model for Body {
       keys = b.keys.items;
       row_starts = b.row_starts.items;
       heading_starts = b.heading_starts.items;
-      headings = b.headings;
+      rows = b.row_starts.end;
+      headings = b.heading_starts.end;
     }) };
 }
 
 /// Makes room for so many rows.
 fn reserve_rows(
-    shapes: &mut Vec<Shape>,
-    marks: &mut Vec<u8>,
-    keys: &mut Vec<RowKey>,
+    shapes: &mut GapList<Shape>,
+    marks: &mut GapList<u8>,
+    keys: &mut GapList<RowKey>,
     count: usize,
 ) -> Result<(), AllocError>
     ensures shapes { shapes.new.items ≡ shapes.old.items }
     ensures marks { marks.new.items ≡ marks.old.items }
     ensures keys { keys.new.items ≡ keys.old.items }
-    ensures room { OnOk result ((vec_len shapes.new + count ≤ vec_capacity shapes.new) × (vec_len marks.new + count ≤ vec_capacity marks.new) × (vec_len keys.new + count ≤ vec_capacity keys.new)) }
+    ensures room { OnOk result ((length shapes.new.items + count ≤ shapes.new.room) × (length marks.new.items + count ≤ marks.new.room) × (length keys.new.items + count ≤ keys.new.room)) }
 {
     shapes.reserve(count)?;
     marks.reserve(count)?;
@@ -98,13 +98,13 @@ fn reserve_rows(
 /// Makes room for one more element.
 fn reserve_element(
     elements: &mut Vec<Element>,
-    row_starts: &mut Vec<usize>,
-    heading_starts: &mut Vec<usize>,
+    row_starts: &mut GapPlaces,
+    heading_starts: &mut GapPlaces,
 ) -> Result<(), AllocError>
     ensures elements { elements.new.items ≡ elements.old.items }
-    ensures row_starts { row_starts.new.items ≡ row_starts.old.items }
-    ensures heading_starts { heading_starts.new.items ≡ heading_starts.old.items }
-    ensures room { OnOk result ((vec_len elements.new < vec_capacity elements.new) × (vec_len row_starts.new < vec_capacity row_starts.new) × (vec_len heading_starts.new < vec_capacity heading_starts.new)) }
+    ensures row_starts { (row_starts.new.items ≡ row_starts.old.items) × (row_starts.new.end ≡ row_starts.old.end) }
+    ensures heading_starts { (heading_starts.new.items ≡ heading_starts.old.items) × (heading_starts.new.end ≡ heading_starts.old.end) }
+    ensures room { OnOk result ((vec_len elements.new < vec_capacity elements.new) × (length row_starts.new.items < row_starts.new.room) × (length heading_starts.new.items < heading_starts.new.room)) }
 {
     elements.reserve(1)?;
     row_starts.reserve(1)?;
@@ -126,17 +126,17 @@ fn row_key(lines: &Lines, first: u64, row: &Row) -> RowKey
 
 /// Adds what is asked of rows, where there is room.
 fn add_rows(
-    shapes: &mut Vec<Shape>,
-    marks: &mut Vec<u8>,
-    keys: &mut Vec<RowKey>,
+    shapes: &mut GapList<Shape>,
+    marks: &mut GapList<u8>,
+    keys: &mut GapList<RowKey>,
     lines: &Lines,
     element: &Element,
 )
     requires low { length lines.now.lines ≤ line_count_limit }
     requires inside { All (λ (row : RowValue). element.now.first + row.line < length lines.now.lines) element.now.rows }
-    requires shapes { vec_len shapes.old + length element.now.rows ≤ vec_capacity shapes.old }
-    requires marks { vec_len marks.old + length element.now.rows ≤ vec_capacity marks.old }
-    requires keys { vec_len keys.old + length element.now.rows ≤ vec_capacity keys.old }
+    requires shapes { length shapes.old.items + length element.now.rows ≤ shapes.old.room }
+    requires marks { length marks.old.items + length element.now.rows ≤ marks.old.room }
+    requires keys { length keys.old.items + length element.now.rows ≤ keys.old.room }
     ensures shapes { shapes.new.items ≡ shapes.old.items ++ map (λ (row : RowValue). row.shape) (placed_rows element.now) }
     ensures marks { marks.new.items ≡ marks.old.items ++ map (λ (row : RowValue). row.mark) (placed_rows element.now) }
     ensures keys { keys.new.items ≡ keys.old.items ++ map (row_key lines.now.lines) (placed_rows element.now) }
@@ -150,67 +150,67 @@ fn add_rows(
 
 /// Makes room for so many rows in all.
 fn make_row_room(
-    shapes: &mut Vec<Shape>,
-    marks: &mut Vec<u8>,
-    keys: &mut Vec<RowKey>,
+    shapes: &mut GapList<Shape>,
+    marks: &mut GapList<u8>,
+    keys: &mut GapList<RowKey>,
     total: usize,
 ) -> Result<(), AllocError>
     ensures shapes { shapes.new.items ≡ shapes.old.items }
     ensures marks { marks.new.items ≡ marks.old.items }
     ensures keys { keys.new.items ≡ keys.old.items }
-    ensures ok { OnOk result ((total ≤ vec_capacity shapes.new) × (total ≤ vec_capacity marks.new) × (total ≤ vec_capacity keys.new)) }
-    ensures room { (vec_capacity shapes.old ≤ vec_capacity shapes.new) × (vec_capacity marks.old ≤ vec_capacity marks.new) × (vec_capacity keys.old ≤ vec_capacity keys.new) }
-    ensures succeeds { total ≤ vec_capacity shapes.old → total ≤ vec_capacity marks.old → total ≤ vec_capacity keys.old → IsOk result }
+    ensures ok { OnOk result ((total ≤ shapes.new.room) × (total ≤ marks.new.room) × (total ≤ keys.new.room)) }
+    ensures room { (shapes.old.room ≤ shapes.new.room) × (marks.old.room ≤ marks.new.room) × (keys.old.room ≤ keys.new.room) }
+    ensures succeeds { total ≤ shapes.old.room → total ≤ marks.old.room → total ≤ keys.old.room → IsOk result }
 {
-    make_room(shapes, total)?;
-    make_room(marks, total)?;
-    make_room(keys, total)
+    shapes.make_room(total)?;
+    marks.make_room(total)?;
+    keys.make_room(total)
 }
 
 /// Makes room for so many elements in all.
 fn make_element_room(
     elements: &mut Vec<Element>,
-    row_starts: &mut Vec<usize>,
-    heading_starts: &mut Vec<usize>,
+    row_starts: &mut GapPlaces,
+    heading_starts: &mut GapPlaces,
     total: usize,
 ) -> Result<(), AllocError>
     ensures elements { elements.new.items ≡ elements.old.items }
-    ensures row_starts { row_starts.new.items ≡ row_starts.old.items }
-    ensures heading_starts { heading_starts.new.items ≡ heading_starts.old.items }
-    ensures ok { OnOk result ((total ≤ vec_capacity elements.new) × (total ≤ vec_capacity row_starts.new) × (total ≤ vec_capacity heading_starts.new)) }
-    ensures room { (vec_capacity elements.old ≤ vec_capacity elements.new) × (vec_capacity row_starts.old ≤ vec_capacity row_starts.new) × (vec_capacity heading_starts.old ≤ vec_capacity heading_starts.new) }
-    ensures succeeds { total ≤ vec_capacity elements.old → total ≤ vec_capacity row_starts.old → total ≤ vec_capacity heading_starts.old → IsOk result }
+    ensures row_starts { (row_starts.new.items ≡ row_starts.old.items) × (row_starts.new.end ≡ row_starts.old.end) }
+    ensures heading_starts { (heading_starts.new.items ≡ heading_starts.old.items) × (heading_starts.new.end ≡ heading_starts.old.end) }
+    ensures ok { OnOk result ((total ≤ vec_capacity elements.new) × (total ≤ row_starts.new.room) × (total ≤ heading_starts.new.room)) }
+    ensures room { (vec_capacity elements.old ≤ vec_capacity elements.new) × (row_starts.old.room ≤ row_starts.new.room) × (heading_starts.old.room ≤ heading_starts.new.room) }
+    ensures succeeds { total ≤ vec_capacity elements.old → total ≤ row_starts.old.room → total ≤ heading_starts.old.room → IsOk result }
 {
     make_room(elements, total)?;
-    make_room(row_starts, total)?;
-    make_room(heading_starts, total)
+    row_starts.make_room(total)?;
+    heading_starts.make_room(total)
 }
 
 /// Exchanges what is asked of rows from one to before another for that of others, where there is room.
 fn exchange_rows(
-    shapes: &mut Vec<Shape>,
-    marks: &mut Vec<u8>,
-    keys: &mut Vec<RowKey>,
+    shapes: &mut GapList<Shape>,
+    marks: &mut GapList<u8>,
+    keys: &mut GapList<RowKey>,
     from: usize,
     to: usize,
-    other_shapes: &mut Vec<Shape>,
-    other_marks: &mut Vec<u8>,
-    other_keys: &mut Vec<RowKey>,
+    other_shapes: &mut GapList<Shape>,
+    other_marks: &mut GapList<u8>,
+    other_keys: &mut GapList<RowKey>,
 )
     requires order { from ≤ to }
-    requires within { (to ≤ vec_len shapes.old) × (to ≤ vec_len marks.old) × (to ≤ vec_len keys.old) }
-    requires shapes { (vec_len shapes.old + vec_len other_shapes.old ≤ vec_capacity shapes.old) × (to - from ≤ vec_capacity other_shapes.old) }
-    requires marks { (vec_len marks.old + vec_len other_marks.old ≤ vec_capacity marks.old) × (to - from ≤ vec_capacity other_marks.old) }
-    requires keys { (vec_len keys.old + vec_len other_keys.old ≤ vec_capacity keys.old) × (to - from ≤ vec_capacity other_keys.old) }
+    requires within { (to ≤ length shapes.old.items) × (to ≤ length marks.old.items) × (to ≤ length keys.old.items) }
+    requires shapes { (length shapes.old.items + length other_shapes.old.items ≤ shapes.old.room) × (to - from ≤ other_shapes.old.room) }
+    requires marks { (length marks.old.items + length other_marks.old.items ≤ marks.old.room) × (to - from ≤ other_marks.old.room) }
+    requires keys { (length keys.old.items + length other_keys.old.items ≤ keys.old.room) × (to - from ≤ other_keys.old.room) }
     ensures shapes { (shapes.new.items ≡ exchanged shapes.old.items from to other_shapes.old.items) × (other_shapes.new.items ≡ slice_range shapes.old.items from to) }
     ensures marks { (marks.new.items ≡ exchanged marks.old.items from to other_marks.old.items) × (other_marks.new.items ≡ slice_range marks.old.items from to) }
     ensures keys { (keys.new.items ≡ exchanged keys.old.items from to other_keys.old.items) × (other_keys.new.items ≡ slice_range keys.old.items from to) }
-    ensures room { (vec_capacity shapes.new ≡ vec_capacity shapes.old) × (vec_capacity marks.new ≡ vec_capacity marks.old) × (vec_capacity keys.new ≡ vec_capacity keys.old) }
-    ensures other_room { (vec_capacity other_shapes.new ≡ vec_capacity other_shapes.old) × (vec_capacity other_marks.new ≡ vec_capacity other_marks.old) × (vec_capacity other_keys.new ≡ vec_capacity other_keys.old) }
+    ensures room { (shapes.new.room ≡ shapes.old.room) × (marks.new.room ≡ marks.old.room) × (keys.new.room ≡ keys.old.room) }
+    ensures other_room { (other_shapes.new.room ≡ other_shapes.old.room) × (other_marks.new.room ≡ other_marks.old.room) × (other_keys.new.room ≡ other_keys.old.room) }
 {
-    exchange(shapes, from, to, other_shapes);
-    exchange(marks, from, to, other_marks);
-    exchange(keys, from, to, other_keys);
+    shapes.exchange(from, to, other_shapes);
+    marks.exchange(from, to, other_marks);
+    keys.exchange(from, to, other_keys);
 }
 
 /// The elements from one place to before another.
@@ -229,12 +229,11 @@ impl Body {
     {
         Body {
             elements: Vec::new(alloc),
-            shapes: Vec::new(alloc),
-            marks: Vec::new(alloc),
-            keys: Vec::new(alloc),
-            row_starts: Vec::new(alloc),
-            heading_starts: Vec::new(alloc),
-            headings: 0,
+            shapes: GapList::new(alloc),
+            marks: GapList::new(alloc),
+            keys: GapList::new(alloc),
+            row_starts: GapPlaces::new(alloc),
+            heading_starts: GapPlaces::new(alloc),
         }
     }
 
@@ -245,6 +244,7 @@ impl Body {
         ensures ok { OnOk result (keyed_elements self.new ≡ with_element lines.now.lines (keyed_elements self.old) element) }
         ensures err { OnErr result (keyed_elements self.new ≡ keyed_elements self.old) }
     {
+        let _room = self.len();
         reserve_rows(
             &mut self.shapes,
             &mut self.marks,
@@ -256,9 +256,8 @@ impl Body {
             &mut self.row_starts,
             &mut self.heading_starts,
         )?;
-        self.row_starts.push_reserved(self.shapes.len());
-        self.heading_starts.push_reserved(self.headings);
-        self.headings += headings_of(&element);
+        self.row_starts.push_reserved(element.rows.len());
+        self.heading_starts.push_reserved(headings_of(&element));
         add_rows(
             &mut self.shapes,
             &mut self.marks,
@@ -279,6 +278,11 @@ impl Body {
         ensures small { self.now.room ≤ 9223372036854775807 }
         ensures row_small { self.now.row_room ≤ 9223372036854775807 }
     {
+        let _shapes = self.shapes.len();
+        let _marks = self.marks.len();
+        let _keys = self.keys.len();
+        let _row_starts = self.row_starts.len();
+        let _heading_starts = self.heading_starts.len();
         self.elements.len()
     }
 
@@ -293,27 +297,27 @@ impl Body {
     pub fn headings(&self) -> usize
         ensures { result ≡ heading_count self.now.elements }
     {
-        self.headings
+        self.heading_starts.end()
     }
 
     /// What page ends see of each row.
-    pub fn shapes(&self) -> &[Shape]
-        ensures { result.now ≡ shapes_in self.now.elements }
+    pub fn shapes(&self) -> &GapList<Shape>
+        ensures { result.now.items ≡ shapes_in self.now.elements }
     {
         &self.shapes
     }
 
     /// The mark of each row.
-    pub fn marks(&self) -> &[u8]
-        ensures { result.now ≡ marks_in self.now.elements }
+    pub fn marks(&self) -> &GapList<u8>
+        ensures { result.now.items ≡ marks_in self.now.elements }
     {
         &self.marks
     }
 
     /// The key of each row, by the id of its line.
-    pub fn keys(&self) -> &[RowKey]
-        ensures keys { result.now ≡ self.now.keys }
-        ensures len { length result.now ≡ row_count self.now.elements }
+    pub fn keys(&self) -> &GapList<RowKey>
+        ensures keys { result.now.items ≡ self.now.keys }
+        ensures len { length result.now.items ≡ row_count self.now.elements }
     {
         &self.keys
     }
@@ -330,7 +334,7 @@ impl Body {
         requires { element < length self.now.elements }
         ensures { result ≡ row_count (take element self.now.elements) }
     {
-        self.row_starts[element]
+        self.row_starts.at(element)
     }
 
     /// How many headings stand before an element.
@@ -338,7 +342,7 @@ impl Body {
         requires { element < length self.now.elements }
         ensures { result ≡ heading_count (take element self.now.elements) }
     {
-        self.heading_starts[element]
+        self.heading_starts.at(element)
     }
 
     /// The element in which a row stands.
@@ -346,6 +350,7 @@ impl Body {
         requires { row < row_count self.now.elements }
         ensures { StandsIn self.now.elements row result }
     {
+        let _len = self.len();
         last_start(&self.row_starts, row)
     }
 
@@ -354,6 +359,7 @@ impl Body {
         requires { heading < heading_count self.now.elements }
         ensures { IsHeadingAt self.now.elements heading result }
     {
+        let _len = self.len();
         last_start(&self.heading_starts, heading)
     }
 
@@ -397,6 +403,18 @@ impl Body {
         make_row_room(&mut self.shapes, &mut self.marks, &mut self.keys, rows)
     }
 
+    /// Makes room behind the gaps in what is kept of rows and elements, where there is memory for it: without it an exchange moves
+    /// what is kept of later ones.
+    pub fn make_gaps(&mut self)
+        ensures { self.new ≡ self.old }
+    {
+        self.shapes.make_gap();
+        self.marks.make_gap();
+        self.keys.make_gap();
+        self.row_starts.make_gap();
+        self.heading_starts.make_gap();
+    }
+
     /// Exchanges the elements from one place to before another for those of another body, in place, and makes the places of
     /// the later ones less and more by so much (docs/RULES.md, "Windows"). It copies no rows and takes no memory.
     pub fn exchange(&mut self, from: usize, to: usize, other: &mut Body, less: u64, more: u64)
@@ -412,13 +430,14 @@ impl Body {
         ensures room { (self.new.room ≡ self.old.room) × (self.new.row_room ≡ self.old.row_room) }
         ensures back_room { (other.new.room ≡ other.old.room) × (other.new.row_room ≡ other.old.row_room) }
     {
+        let _room = self.len();
         let row = self.rows_before(from);
         let row_end = self.rows_before(to);
         let heading = self.headings_before(from);
         let heading_end = self.headings_before(to);
         let count = other.elements.len();
         let rows = other.shapes.len();
-        let headings = other.headings;
+        let headings = other.heading_starts.end();
         exchange_rows(
             &mut self.shapes,
             &mut self.marks,
@@ -429,17 +448,9 @@ impl Body {
             &mut other.marks,
             &mut other.keys,
         );
-        exchange_places(
-            &mut self.row_starts,
-            from,
-            to,
-            &mut other.row_starts,
-            row,
-            row_end,
-            row + rows,
-        );
-        exchange_places(
-            &mut self.heading_starts,
+        self.row_starts
+            .exchange(from, to, &mut other.row_starts, row, row_end, row + rows);
+        self.heading_starts.exchange(
             from,
             to,
             &mut other.heading_starts,
@@ -449,8 +460,6 @@ impl Body {
         );
         exchange(&mut self.elements, from, to, &mut other.elements);
         move_elements(&mut self.elements, from + count, less, more);
-        self.headings = heading + headings + (self.headings - heading_end);
-        other.headings = heading_end - heading;
     }
 
     /// The elements that the rows from one to before another stand in.
@@ -460,7 +469,7 @@ impl Body {
         ensures { IsPageOf self.now.elements from to result }
     {
         let first = self.element_of_row(from);
-        let end = count_below(&self.row_starts, to);
+        let end = starts_below(&self.row_starts, to);
         let start = self.row_start(first);
         let headings = self.heading_start(first);
         Page {

@@ -1,11 +1,12 @@
 -- One more heading, record, block or row.
 use Rattle.std.proofs.Common.{◌≡◌, ℕ, ◌+◌, ◌<◌, ◌==◌, ◌||◌, Bool, true, false, cond, Option, Some, List, [], ◌∷◌, ◌++◌, length, map, filter, take, drop, get_or, nat_lt, nat_cmp, Less, Equal, Greater, refl, sym, ap, ap₂, ◌∙◌, ⊎_elim, ne_eqb, ltb-true, arith, add-one, append_assoc, drop-cons}
-use Rattle.std.specs.Prelude.{is_some}
+use Rattle.std.specs.Prelude.{is_some, slice_get}
 use Rattle.std.specs.List.{list_any}
 use Rattle.std.specs.Ordering.{is_eq}
 use Rattle.std.specs.BTreeMap.{is_at}
 use Rattle.std.proofs.lemmas.Bool.{cases_Bool}
 use Rattle.std.proofs.lemmas.List.{take_more, length-take}
+use Rattle.std.proofs.lemmas.Option.{slice_get_within, get_or_from_slice_get}
 use Rattle.spec_pages.specs.declared.Shape.{Shape}
 use Rattle.spec_script.specs.Stanzas.{PlacedBlock}
 use Rattle.spec_labels.specs.Labels.{LabelOf}
@@ -100,13 +101,13 @@ gone-step headings records i item old new b inside same before test is =
     ∙ ap (λ (it : SceneRecordOf). gone_among headings (take i records) ++ cond (is_gone headings it) (it.label ∷ []) []) same
     ∙ sym (gone-more headings records i item inside)
 
-pub rows-step : (shapes : List Shape) (row : ℕ) (d : Shape) (old new : List ℕ) (b : Bool) → row < length shapes → old ≡ heading_rows 0 (take row shapes) → b ≡ begins_heading (get_or shapes row d)
+pub rows-step : (shapes : List Shape) (row : ℕ) (shape : Shape) (old new : List ℕ) (b : Bool) → slice_get shapes row ≡ Some shape → old ≡ heading_rows 0 (take row shapes) → b ≡ begins_heading shape
     → new ≡ old ++ cond b (row ∷ []) [] → new ≡ heading_rows 0 (take (row + 1) shapes)
-rows-step shapes row d old new b inside before test is =
+rows-step shapes row shape old new b found before test is =
     is
     ∙ ap (λ (those : List ℕ). those ++ cond b (row ∷ []) []) before
-    ∙ ap (λ (t : Bool). heading_rows 0 (take row shapes) ++ cond t (row ∷ []) []) test
-    ∙ sym (rows-more shapes row d inside)
+    ∙ ap (λ (t : Bool). heading_rows 0 (take row shapes) ++ cond t (row ∷ []) []) (test ∙ sym (ap begins_heading (get_or_from_slice_get shapes row shape shape found)))
+    ∙ sym (rows-more shapes row shape (slice_get_within shapes row shape found))
 
 pub names-step : (texts : List (List ℕ)) (blocks : List PlacedBlock) (i : ℕ) (placed : PlacedBlock) (old new : List (List ℕ)) (b : Bool) → i < length blocks → placed ≡ get_or blocks i placed
     → old ≡ speaker_names texts (take i blocks) → b ≡ is_speech_block placed → new ≡ old ++ cond b (name_in (cue_text texts placed) ∷ []) [] → new ≡ speaker_names texts (take (i + 1) blocks)

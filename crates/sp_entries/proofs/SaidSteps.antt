@@ -1,5 +1,6 @@
 -- One more row, and one more block of a walk over speeches.
-use Rattle.std.proofs.Common.{◌≡◌, ℕ, ◌+◌, ◌<◌, ◌≤◌, Bool, true, false, cond, List, [], ◌∷◌, ◌++◌, length, drop, get_or, refl, sym, ap, ◌∙◌, append_assoc, append-nil, arith, add-one, drop-cons}
+use Rattle.std.proofs.Common.{◌≡◌, ℕ, ◌+◌, ◌<◌, ◌≤◌, Bool, true, false, cond, Some, List, [], ◌∷◌, ◌++◌, length, drop, get_or, slice_get, refl, sym, ap, ◌∙◌, append_assoc, append-nil, arith, add-one, drop-cons}
+use Rattle.std.proofs.lemmas.Option.{slice_get_within, get_or_from_slice_get}
 use Rattle.spec_pages.specs.declared.Shape.{Shape}
 use Rattle.spec_script.specs.Stanzas.{PlacedBlock}
 use Rattle.spec_labels.specs.Labels.{LabelOf}
@@ -12,12 +13,13 @@ front : {X : Type 0} (xs : List X) (i : ℕ) (d : X) → i < length xs → drop 
 front xs i d inside = rw (add-one, drop-cons xs i d) refl
 
 -- A row that is looked at.
-pub sheets-step : (sheets : List SheetOf) (shapes : List Shape) (row : ℕ) (d : Shape) (old new all : List LabelOf) (b : Bool) → row < length shapes → b ≡ begins_speech (get_or shapes row d)
+pub sheets-step : (sheets : List SheetOf) (shapes : List Shape) (row : ℕ) (shape : Shape) (old new all : List LabelOf) (b : Bool) → slice_get shapes row ≡ Some shape → b ≡ begins_speech shape
     → new ≡ old ++ cond b (first_label sheets row ∷ []) [] → old ++ speech_sheets sheets row (drop row shapes) ≡ all
     → new ++ speech_sheets sheets (row + 1) (drop (row + 1) shapes) ≡ all
-sheets-step sheets shapes row d old new all b inside test is so_far =
-    ap (λ (ls : List LabelOf). ls ++ later) is ∙ by b ∙ ap (λ t. old ++ cond t (first_label sheets row ∷ later) later) test
-    ∙ sym (ap (λ those. old ++ speech_sheets sheets row those) (front shapes row d inside)) ∙ so_far
+sheets-step sheets shapes row shape old new all b found test is so_far =
+    ap (λ (ls : List LabelOf). ls ++ later) is ∙ by b
+    ∙ ap (λ t. old ++ cond t (first_label sheets row ∷ later) later) (test ∙ sym (ap begins_speech (get_or_from_slice_get shapes row shape shape found)))
+    ∙ sym (ap (λ those. old ++ speech_sheets sheets row those) (front shapes row shape (slice_get_within shapes row shape found))) ∙ so_far
   where
     later : List LabelOf
     later = speech_sheets sheets (row + 1) (drop (row + 1) shapes)

@@ -6,6 +6,7 @@ ghost use Rattle.sp_entries.specs.Sheets.{AreInTurn, EndBefore, if_begun};
 use sp_answers::sheet_label_text;
 use sp_locks::Sheet;
 use sp_print::SheetLabel;
+use sp_splice::GapList;
 use spec_pages::{RowKind, Shape};
 use std::alloc::{AllocError, Global};
 
@@ -17,12 +18,12 @@ fn begins_heading(shape: &Shape) -> bool
 }
 
 /// The places of the rows that headings begin with.
-pub fn heading_rows(alloc: Global, shapes: &[Shape]) -> Result<Vec<usize>, AllocError>
-    ensures { IfOk result (λ rows. rows.items ≡ heading_rows 0 shapes.now) }
+pub fn heading_rows(alloc: Global, shapes: &GapList<Shape>) -> Result<Vec<usize>, AllocError>
+    ensures { IfOk result (λ rows. rows.items ≡ heading_rows 0 shapes.now.items) }
 {
     let mut rows = Vec::new(alloc);
-    for (row, shape) in shapes.iter().enumerate() {
-        if begins_heading(shape) {
+    for row in 0..shapes.len() {
+        if begins_heading(shapes.at(row)) {
             rows.push(row)?;
         }
     }

@@ -15,6 +15,7 @@ use sp_cast::Said;
 use sp_labels::Label;
 use sp_layout::speaker_name;
 use sp_locks::Sheet;
+use sp_splice::GapList;
 use sp_text::Lines;
 use spec_pages::{RowKind, Shape};
 use std::alloc::{AllocError, Global};
@@ -72,14 +73,14 @@ fn first_label(alloc: Global, sheets: &[Sheet], row: usize) -> Result<Label, All
 pub fn speech_sheets(
     alloc: Global,
     sheets: &[Sheet],
-    shapes: &[Shape],
+    shapes: &GapList<Shape>,
 ) -> Result<Vec<Label>, AllocError>
     requires { AreInTurn sheets.now }
-    ensures { IfOk result (λ labels. labels.items ≡ speech_sheets sheets.now 0 shapes.now) }
+    ensures { IfOk result (λ labels. labels.items ≡ speech_sheets sheets.now 0 shapes.now.items) }
 {
     let mut labels = Vec::new(alloc);
-    for (row, shape) in shapes.iter().enumerate() {
-        if begins_speech(shape) {
+    for row in 0..shapes.len() {
+        if begins_speech(shapes.at(row)) {
             labels.push(first_label(alloc, sheets, row)?)?;
         }
     }

@@ -184,7 +184,7 @@ pub fn lay_out_behind(
 }
 
 /// Lays out the blocks of a text, by whether speakers who go on are told. The error is want of memory alone.
-pub fn lay_out(
+fn lay_out(
     alloc: Global,
     lines: &Lines,
     blocks: &[PlacedBlock<'_>],

@@ -4,5 +4,5 @@
 mod layout;
 mod speakers;
 
-pub use layout::{Layout, lay_out, lay_out_behind, lay_out_text};
+pub use layout::{Layout, lay_out_behind, lay_out_text};
 pub use speakers::{Speakers, speaker_name};

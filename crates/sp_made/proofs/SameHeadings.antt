@@ -1,7 +1,10 @@
 -- The lines of headings among rows, compared one by one.
-use Rattle.std.proofs.Common.{◌≡◌, ℕ, zero, suc, ◌+◌, ◌-◌, ◌<◌, ◌≤◌, ◌↔◌, true, false, cond, List, [], ◌∷◌, length, drop, get_or, sym, ap, ap₂, ◌∙◌, inl, inr, arith}
+use Rattle.std.proofs.Common.{◌≡◌, ℕ, zero, suc, ◌+◌, ◌-◌, ◌<◌, ◌≤◌, ◌↔◌, true, false, cond, List, [], ◌∷◌, length, take, drop, get_or, sym, ap, ap₂, ◌∙◌, inl, inr, arith, get_or-take, length-take}
+use Rattle.std.specs.Prelude.{Some, slice_get, slice_range}
 use Rattle.std.proofs.Math.Nat.{eq-or-lt_of_le}
 use Rattle.std.proofs.lemmas.List.{drop_all, drop_more}
+use Rattle.std.proofs.lemmas.Option.{get_or_from_slice_get}
+use Rattle.std.proofs.lemmas.Slice.{between_is}
 use Rattle.spec_pages.specs.declared.Shape.{Shape}
 use Rattle.spec_layout.specs.Shown.{no_row}
 use Rattle.spec_labels.specs.declared.RowKey.{RowKey}
@@ -116,3 +119,31 @@ left-end all shapes keys i others other_keys from next over sames is are =
         | inl is_end ↦ is_end
       ],
     )
+
+-- ---- a run of rows
+
+-- Up to its end, keys and shapes are as many.
+pub same-till : (shapes : List Shape) (keys : List RowKey) (to : ℕ) → length keys ≡ length shapes → length (take to keys) ≡ length (take to shapes)
+same-till shapes keys to same = omega (arith, same, length-take to keys, length-take to shapes)
+
+pub till-inside : (shapes : List Shape) (to place : ℕ) → place < to → to ≤ length shapes → place < length (take to shapes)
+till-inside shapes to place low within = omega (arith, low, within, length-take to shapes)
+
+pub till-over : (shapes : List Shape) (to place : ℕ) → to ≤ place → length (take to shapes) ≤ place
+till-over shapes to place over = omega (arith, over, length-take to shapes)
+
+-- What was read of a row is there.
+pub till-read : {X : Type 0} (rows : List X) (to place : ℕ) (row d : X) → place < to → slice_get rows place ≡ Some row → get_or (take to rows) place d ≡ row
+till-read rows to place row d low found = get_or-take to rows place d low ∙ get_or_from_slice_get rows place row d found
+
+-- The lines of the headings of a run are what is left at its first row.
+pub ids-run : (shapes : List Shape) (keys : List RowKey) (from to : ℕ) → heading_ids (slice_range shapes from to) (slice_range keys from to) ≡ ids_left (take to shapes) (take to keys) from
+ids-run shapes keys from to = ap₂ heading_ids (between_is shapes from to) (between_is keys from to)
+
+-- Lines of headings are the same where the keys that were read have the same.
+pub same-lines : (keys others : List RowKey) (to place next : ℕ) (key other : RowKey) → place < to → slice_get keys place ≡ Some key → slice_get others next ≡ Some other
+    → (get_or others next other).line ≡ (get_or (take to keys) place key).line ↔ other.line ≡ key.line
+same-lines keys others to place next key other low found there =
+    let one = ap (λ (it : RowKey). it.line) (get_or_from_slice_get others next other other there) in
+    let two = ap (λ (it : RowKey). it.line) (till-read keys to place key key low found) in
+    (λ e. sym one ∙ e ∙ two, λ e. one ∙ e ∙ sym two)

@@ -1,5 +1,5 @@
 //! The headings among rows that are laid out.
-ghost use Rattle.std.specs.Prelude.{◌≡◌, ℕ, ◌≤◌, ◌↔◌, IsTrue, length, take};
+ghost use Rattle.std.specs.Prelude.{◌≡◌, ℕ, ◌≤◌, ◌↔◌, IsTrue, length, slice_range, take};
 ghost use Rattle.sp_elements.specs.Bodies.{keyed_elements, row_count};
 ghost use Rattle.sp_elements.specs.Exchanges.{with_run};
 ghost use Rattle.sp_relay.specs.Kept.{CanSwap, laid_of, with_part};
@@ -7,6 +7,7 @@ ghost use Rattle.sp_numbers.specs.HeadingIds.{IsHeadingFrom, body_headings, head
 
 use sp_elements::Body;
 use sp_relay::{KeptLayout, LayoutPart};
+use sp_splice::GapList;
 use spec_labels::RowKey;
 use spec_pages::{RowKind, Shape};
 
@@ -18,28 +19,37 @@ fn is_heading_start(shape: &Shape) -> bool
 }
 
 /// The first row of a heading from a place on, or the number of rows.
-fn next_heading(shapes: &[Shape], from: usize) -> usize
-    requires { from ≤ length shapes.now }
-    ensures { IsHeadingFrom shapes.now from result }
+fn next_heading(shapes: &GapList<Shape>, from: usize) -> usize
+    requires { from ≤ length shapes.now.items }
+    ensures { IsHeadingFrom shapes.now.items from result }
 {
     for place in from..shapes.len() {
-        if is_heading_start(&shapes[place]) {
+        if is_heading_start(shapes.at(place)) {
             return place;
         }
     }
     shapes.len()
 }
 
-/// Whether the headings of rows stand on the lines of those of others, in order.
-fn same_headings(shapes: &[Shape], keys: &[RowKey], others: &[Shape], other_keys: &[RowKey]) -> bool
-    requires keys { length keys.now ≡ length shapes.now }
-    requires other_keys { length other_keys.now ≡ length others.now }
-    ensures { IsTrue result ↔ heading_ids shapes.now keys.now ≡ heading_ids others.now other_keys.now }
+/// Whether the headings of the rows from one to before another stand on the lines of those of others, in order.
+fn same_headings(
+    shapes: &GapList<Shape>,
+    keys: &GapList<RowKey>,
+    from: usize,
+    to: usize,
+    others: &GapList<Shape>,
+    other_keys: &GapList<RowKey>,
+) -> bool
+    requires order { from ≤ to }
+    requires within { to ≤ length shapes.now.items }
+    requires keys { length keys.now.items ≡ length shapes.now.items }
+    requires other_keys { length other_keys.now.items ≡ length others.now.items }
+    ensures { IsTrue result ↔ heading_ids (slice_range shapes.now.items from to) (slice_range keys.now.items from to) ≡ heading_ids others.now.items other_keys.now.items }
 {
     let mut next = next_heading(others, 0);
-    for (place, shape) in shapes.iter().enumerate() {
-        if is_heading_start(shape) {
-            if next == others.len() || other_keys[next].line != keys[place].line {
+    for place in from..to {
+        if is_heading_start(shapes.at(place)) {
+            if next == others.len() || other_keys.at(next).line != keys.at(place).line {
                 return false;
             }
             next = next_heading(others, next + 1);
@@ -69,8 +79,10 @@ fn keeps_body_headings(body: &Body, from: usize, to: usize, others: &Body) -> bo
 {
     let (start, end) = rows_of_run(body, from, to);
     same_headings(
-        &body.shapes()[start..end],
-        &body.keys()[start..end],
+        body.shapes(),
+        body.keys(),
+        start,
+        end,
         others.shapes(),
         others.keys(),
     )

@@ -19,24 +19,24 @@ ghost use Rattle.sp_reflow.specs.Updates.{with_taken, CanPutBack};
 ghost use Rattle.sp_relay.specs.Kept.{laid_of};
 ghost use Rattle.sp_made.specs.Made.{AreStopsOf, AskedOfPages, IsLaidOf, IsMadeOf, IsNumberedOf, first_rows, key_starts, marked_or_locked};
 ghost use Rattle.sp_numbers.specs.Locked.{AreSheetsBefore};
-ghost use Rattle.sp_numbers.specs.Numbered.{marked_sheets, AreSameOutside, AreUnmarked};
+ghost use Rattle.sp_numbers.specs.Numbered.{marked_sheets, AreMovedOutside, AreUnmarked};
 
 use sp_elements::Body;
 use sp_kit::{Counter, Steps};
 use sp_labels::Label;
 use sp_layout::lay_out_text;
 use sp_locks::{PageRecord, RowKey, Sheet, starts};
-use sp_numbers::{heading_lines, merged_stops, renew_locked, renew_sheets, stale_places};
+use sp_numbers::{Stale, heading_lines, merged_stops, renew_locked, renew_sheets, stale_places};
 use sp_records::Records;
 use sp_reflow::{Pages, SwappedPages};
 use sp_relay::KeptLayout;
 use sp_reread::{Stanzas, placed_blocks};
 use sp_scenes::numbers_of_lines;
+use sp_splice::GapList;
 use sp_text::Lines;
 use spec_pages::Paper;
 use std::alloc::{AllocError, Global};
 use std::marker::Model;
-use std::ops::Range;
 
 /// The labels of the headings of a state where scenes are locked, the first rows of its title sheets, and its other sheets.
 #[derive(Drop)]
@@ -105,7 +105,8 @@ fn made_labels(
     }
 }
 
-/// The labels of the headings of a text where scenes are locked, and none at all where those that there are may be kept.
+/// None where the labels that there are may be kept, else the labels of the headings of a text; of these there are none where scenes
+/// aren't locked.
 fn changed_labels(
     alloc: Global,
     lines: &Lines,
@@ -139,12 +140,12 @@ fn title_pages(alloc: Global, titles: &Body, paper: Paper) -> Result<Pages, Allo
 fn record_starts(
     alloc: Global,
     lines: &Lines,
-    keys: &[RowKey],
+    keys: &GapList<RowKey>,
     records: &Option<Vec<PageRecord>>,
     near: &[usize],
 ) -> Result<Vec<usize>, AllocError>
-    requires { IfSome records.now (λ those. AreAnchored lines.now.lines keys.now those.items) }
-    ensures { IfOk result (λ firsts. firsts.items ≡ key_starts lines.now.lines keys.now (option_map (λ those. those.items) records.now)) }
+    requires { IfSome records.now (λ those. AreAnchored lines.now.lines keys.now.items those.items) }
+    ensures { IfOk result (λ firsts. firsts.items ≡ key_starts lines.now.lines keys.now.items (option_map (λ those. those.items) records.now)) }
 {
     match records {
         None => Ok(Vec::new(alloc)),
@@ -184,9 +185,9 @@ pub fn made_starts(
     laid_firsts(alloc, lines, records, &made.layout, none)
 }
 
-/// Makes sheets those of a body's pages: those of its page records where pages are locked, else numbered ones, of which those
-/// outside the stale places stay. Where records with the same labels had the same first rows and pages, locked sheets may be kept but
-/// for their rounds. On an error there was no memory, and they are as they were.
+/// Makes sheets those of a body's pages: those of its page records where pages are locked, else numbered ones, of which only the
+/// stale ones are set anew or moved. Where records with the same labels had the same first rows and pages, locked sheets may be kept
+/// but for their rounds. On an error there was no memory, and they are as they were.
 fn renew_sheets_of_pages(
     alloc: Global,
     body: &Body,
@@ -194,12 +195,12 @@ fn renew_sheets_of_pages(
     round: u8,
     starts: &[usize],
     pages: &[usize],
-    stale: Range<usize>,
+    stale: Stale,
     keeps_pages: bool,
     sheets: &mut Vec<Sheet>,
 ) -> Result<(), AllocError>
     requires kept { IsTrue keeps_pages → IfSome records.now (λ those. AreSheetsBefore those.items starts.now pages.now sheets.old.items) }
-    requires stale { AreSameOutside sheets.old.items (marked_sheets (marks_in body.now.elements) 1 pages.now) stale.start stale.end }
+    requires stale { AreMovedOutside sheets.old.items (marked_sheets (marks_in body.now.elements) 1 pages.now) stale }
     requires asked { AskedOfPages (λ those. those.items) body.now.elements records.now starts.now pages.now }
     requires unmarked { round ≡ 0 → All (λ mark. mark ≡ 0) (marks_in body.now.elements) }
     ensures made { OnOk result (sheets.new.items ≡ marked_or_locked body.now.elements (option_map (λ those. those.items) records.now) starts.now pages.now) }
@@ -214,9 +215,9 @@ fn renew_sheets_of_pages(
     }
 }
 
-/// Makes sheets those of a body laid out, on these pages, by the first rows of page records. Where pages aren't locked, those
-/// outside the stale places stay; locked ones may be kept but for their rounds, where pages and first rows stayed. On an error there was
-/// no memory, and they are as they were.
+/// Makes sheets those of a body laid out, on these pages, by the first rows of page records. Where pages aren't locked, only the
+/// stale ones are set anew or moved; locked ones may be kept but for their rounds, where pages and first rows stayed. On an error
+/// there was no memory, and they are as they were.
 fn renew_body_sheets(
     alloc: Global,
     lines: &Lines,
@@ -224,12 +225,12 @@ fn renew_body_sheets(
     layout: &KeptLayout,
     firsts: &[usize],
     pages: &[usize],
-    stale: Range<usize>,
+    stale: Stale,
     keeps_pages: bool,
     sheets: &mut Vec<Sheet>,
 ) -> Result<(), AllocError>
     requires kept { IsTrue keeps_pages → IfSome (records.now).pages (λ those. AreSheetsBefore those firsts.now pages.now sheets.old.items) }
-    requires stale { AreSameOutside sheets.old.items (marked_sheets (marks_in (laid_of layout.now).body.elements) 1 pages.now) stale.start stale.end }
+    requires stale { AreMovedOutside sheets.old.items (marked_sheets (marks_in (laid_of layout.now).body.elements) 1 pages.now) stale }
     requires whole { IsWhole (state_of (text_of lines.now) records.now) }
     requires laid { IsLaidOf (state_of (text_of lines.now) records.now) (laid_of layout.now) }
     requires firsts { firsts.now ≡ first_rows (state_of (text_of lines.now) records.now) }
@@ -327,6 +328,12 @@ pub fn number(
     let labels = made_labels(alloc, lines, stanzas, records)?;
     let title_pages = title_pages(alloc, &layout.titles, records.paper)?;
     let mut sheets = Vec::new(alloc);
+    let none = Stale {
+        from: 0,
+        to: 0,
+        less: 0,
+        more: 0,
+    };
     renew_body_sheets(
         alloc,
         lines,
@@ -334,7 +341,7 @@ pub fn number(
         layout,
         firsts,
         pages.starts(),
-        0..0,
+        none,
         false,
         &mut sheets,
     )?;
@@ -356,9 +363,9 @@ fn renews_all(records: &Records) -> bool
 /// Makes the labels and the sheets those of a state after an edit whose text is laid out, by the first rows of its page records
 /// and of its pages, and by what would make the page starts those before. It fills no page of the body. Labels that are those of
 /// the state already may be kept: then no stanza is looked at. Where pages aren't locked and the round is 0, sheets before the
-/// exchanged pages, but for the one before them, stay as they are, and those behind them where no row or page comes or goes. Where
-/// pages are locked and first rows and pages stayed, sheets may be kept but for their rounds. On an error there was no memory, and
-/// nothing is changed.
+/// exchanged pages, but for the one before them, stay as they are, and where as many pages come as go those behind them only move,
+/// by the rows that come and go. Where pages are locked and first rows and pages stayed, sheets may be kept but for their rounds.
+/// On an error there was no memory, and nothing is changed.
 pub fn renumber(
     alloc: Global,
     lines: &Lines,

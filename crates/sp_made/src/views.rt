@@ -18,6 +18,7 @@ use sp_labels::Label;
 use sp_locks::Sheet;
 use sp_numbers::{greatest, page_behind};
 use sp_print::{PageView, SheetLabel};
+use sp_splice::GapList;
 use sp_text::Lines;
 use spec_pages::Shape;
 
@@ -94,7 +95,7 @@ fn title_view<'a>(
 {
     let from = starts[place];
     let to = page_behind(starts, place, titles.rows());
-    let round = greatest(&titles.marks()[from..to]);
+    let round = greatest(titles.marks(), from, to);
     rows_view(lines, titles, None, from, to, None, round)
 }
 
@@ -129,8 +130,8 @@ fn body_view<'a>(
 }
 
 /// What page ends see of each row of the body.
-pub fn body_shapes(made: &Made) -> &[Shape]
-    ensures { result.now ≡ shapes_in made.now.layout.body.elements }
+pub fn body_shapes(made: &Made) -> &GapList<Shape>
+    ensures { result.now.items ≡ shapes_in made.now.layout.body.elements }
 {
     let layout = &made.layout;
     layout.body.shapes()

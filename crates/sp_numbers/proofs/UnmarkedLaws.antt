@@ -1,5 +1,7 @@
 -- The sheets of pages where no row is marked.
-use Rattle.std.proofs.Common.{◌≡◌, ℕ, zero, suc, ◌+◌, ◌<◌, None, List, [], ◌∷◌, length, map, take, drop, get_or, refl, sym, ap, ap₂, ◌∙◌, arith, All}
+use Rattle.std.proofs.Common.{◌≡◌, ℕ, zero, suc, ◌+◌, ◌<◌, ◌≤◌, None, List, [], ◌∷◌, length, map, take, drop, get_or, refl, sym, ap, ap₂, ◌∙◌, arith, All}
+use Rattle.std.proofs.lemmas.List.Elements.{All-nil, All-cons, All-head, All-tail}
+use Rattle.sp_splice.specs.Moves.{shifted, CanShift}
 use Rattle.spec_labels.specs.PageRecords.{SheetOf}
 use Rattle.spec_state.specs.State.{State}
 use Rattle.spec_state.specs.StateSheets.{body_sheets, layout_in, numbered_sheets, rows_in}
@@ -8,7 +10,7 @@ use Rattle.spec_state.specs.Keeping.{IsWhole}
 use Rattle.spec_layout.proofs.ShownLaws.{shown_rows-marks}
 use Rattle.spec_locked_pages.specs.Segments.{pages_of}
 use Rattle.sp_elements.specs.Bodies.{marks_in}
-use Rattle.sp_numbers.specs.Numbered.{mark_of, numbered_sheet, marked_sheets, unmarked_sheets, AreUnmarked}
+use Rattle.sp_numbers.specs.Numbered.{mark_of, numbered_sheet, marked_sheets, unmarked_sheets, AreMoved, AreUnmarked, CanLessen}
 use Rattle.sp_numbers.proofs.MarkedLaws.{marked_sheets-numbered, rows-unmarked}
 use Rattle.sp_numbers.proofs.SheetMoves.{greatest-none}
 
@@ -49,6 +51,35 @@ pub drop-unmarked : (rows number i : ℕ) (pages : List ℕ) → drop i (unmarke
 drop-unmarked rows number zero pages = ap (λ n. unmarked_sheets rows n pages) (omega arith)
 drop-unmarked rows number (suc i) [] = refl
 drop-unmarked rows number (suc i) (page ∷ later) = drop-unmarked rows (number + 1) i later ∙ ap (λ n. unmarked_sheets rows n (drop i later)) (omega arith)
+
+next-shifted : (rows less more : ℕ) (later : List ℕ) → get_or (map (shifted less more) later) 0 (shifted less more rows) ≡ shifted less more (get_or later 0 rows)
+next-shifted rows less more [] = refl
+next-shifted rows less more (page ∷ later) = refl
+
+-- Sheets of pages that were moved, and the last row with them, are moved back to those of the pages.
+pub moved-unmarked : (rows less more number : ℕ) (pages : List ℕ) → less ≤ rows → All (CanShift less more) pages
+    → AreMoved more less (unmarked_sheets (shifted less more rows) number (map (shifted less more) pages)) (unmarked_sheets rows number pages)
+moved-unmarked rows less more number [] few can = record { can = All-nil (CanLessen more); same = refl }
+moved-unmarked rows less more number (page ∷ later) few can =
+    let here = All-head (CanShift less more) page later can in
+    let those = All-tail (CanShift less more) page later can in
+    let rest = moved-unmarked rows less more (number + 1) later few those in
+    let next = get_or later 0 rows in
+    let low : less ≤ next = next-low rows less more later few those in
+    let end = next-shifted rows less more later in
+    let sheet = numbered_sheet number (shifted less more page) (get_or (map (shifted less more) later) 0 (shifted less more rows)) 0 in
+    record {
+      can = All-cons (CanLessen more) sheet (unmarked_sheets (shifted less more rows) (number + 1) (map (shifted less more) later))
+          (record { start = omega arith; end = omega (arith, end) }) rest.can;
+      same = ap₂ (λ (one : SheetOf) (sheets : List SheetOf). one ∷ sheets)
+          (ap₂ (λ from to. numbered_sheet number from to 0) (let e : shifted more less (shifted less more page) ≡ page = omega (arith, here.from) in e)
+          (let e : shifted more less (get_or (map (shifted less more) later) 0 (shifted less more rows)) ≡ next = omega (arith, end, low) in e))
+          rest.same;
+    }
+  where
+    next-low : (rows less more : ℕ) (later : List ℕ) → less ≤ rows → All (CanShift less more) later → less ≤ get_or later 0 rows
+    next-low rows less more [] few can = few
+    next-low rows less more (page ∷ later) few can = (All-head (CanShift less more) page later can).from
 
 -- The last sheet ends behind the last row.
 pub last-ends : (rows number page : ℕ) (later : List ℕ) (other : SheetOf) → (get_or (unmarked_sheets rows number (page ∷ later)) (length later) other).end ≡ rows

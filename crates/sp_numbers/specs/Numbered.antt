@@ -1,8 +1,10 @@
 -- The sheets of pages that aren't locked, by the marks of rows alone.
-use Rattle.std.specs.Prelude.{◌≡◌, ℕ, ◌+◌, ◌<◌, ◌≤◌, max, false, List, [], ◌∷◌, length, take, drop, fold, slice_range, slice_index_or}
+use Rattle.std.specs.Prelude.{◌≡◌, ℕ, ◌+◌, ◌<◌, ◌≤◌, max, false, List, [], ◌∷◌, length, take, drop, map, fold, All, slice_range, slice_index_or}
 use Rattle.spec_labels.specs.Labels.{plain_label}
 use Rattle.spec_labels.specs.PageRecords.{SheetOf}
 use Rattle.spec_layout.specs.Shown.{Shown}
+use Rattle.sp_splice.specs.Moves.{shifted, CanShift}
+use Rattle.sp_numbers.specs.declared.numbered.Stale.{Stale}
 
 abbrev pub mark_of : Shown → ℕ
 mark_of it = it.mark
@@ -27,8 +29,28 @@ pub record AreUnmarked (sheets : List SheetOf) (pages : List ℕ) : Type 0 where
   pub rows : ℕ
   pub are : sheets ≡ unmarked_sheets rows 1 pages
 
--- These sheets are the others before one place, and also from another on, where that is the place of a sheet.
-pub record AreSameOutside (sheets others : List SheetOf) (from to : ℕ) : Type 0 where
-  pub within : from ≤ length sheets
-  pub before : take from sheets ≡ take from others
-  pub behind : to < length sheets → drop to sheets ≡ drop to others
+-- A sheet whose rows are less and more by so much.
+abbrev pub moved_sheet : ℕ → ℕ → SheetOf → SheetOf
+moved_sheet less more it = record { first = it.first; last = it.last; start = shifted less more it.start; end = shifted less more it.end; round = it.round; omitted = it.omitted }
+
+-- A sheet whose rows can be moved so.
+pub record CanMoveSheet (less more : ℕ) (it : SheetOf) : Type 0 where
+  pub start : CanShift less more it.start
+  pub end : CanShift less more it.end
+
+-- A sheet whose rows can be less by so much.
+pub record CanLessen (less : ℕ) (it : SheetOf) : Type 0 where
+  pub start : less ≤ it.start
+  pub end : less ≤ it.end
+
+-- These sheets, moved, are the others.
+pub record AreMoved (less more : ℕ) (sheets others : List SheetOf) : Type 0 where
+  pub can : All (CanLessen less) sheets
+  pub same : map (moved_sheet less more) sheets ≡ others
+
+-- These sheets are the others before one place, and from another on too once they are moved, where that is the place of a sheet.
+pub record AreMovedOutside (sheets others : List SheetOf) (stale : Stale) : Type 0 where
+  pub order : stale.from ≤ stale.to
+  pub within : stale.from ≤ length sheets
+  pub before : take stale.from sheets ≡ take stale.from others
+  pub behind : stale.to < length sheets → AreMoved stale.less stale.more (drop stale.to sheets) (drop stale.to others)

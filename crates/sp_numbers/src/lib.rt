@@ -1,4 +1,4 @@
-//! The labels of a state's headings, and the sheets of its pages.
+//! The headings of a state, the stops of its pages, and the sheets of its pages.
 #![tactic(auto)]
 
 mod headings;
@@ -8,5 +8,5 @@ mod stops;
 
 pub use headings::{heading_lines, headings_among};
 pub use locked::renew_locked;
-pub use numbered::{greatest, page_behind, renew_sheets, stale_places};
+pub use numbered::{Stale, greatest, page_behind, renew_sheets, stale_places};
 pub use stops::merged_stops;

@@ -4,3 +4,4 @@ mod RunLaws
 mod SegmentLaws
 mod FactWalk
 mod PlaceWalk
+mod CueRows

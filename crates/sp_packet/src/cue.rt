@@ -5,56 +5,60 @@ ghost use Rattle.sp_packet.specs.Cues.{is_cue_shape, place_with, places_by, reac
 
 use crate::facts::Places;
 use sp_fill::continues_speech;
+use sp_splice::GapList;
 use spec_pages::{RowKind, Shape};
 
-/// How many of the first rows are a cue's.
-fn cue_rows(shapes: &[Shape]) -> usize
-    ensures { result ≡ prefix_len is_cue_shape shapes.now }
+/// Whether the row is a cue's.
+fn is_cue(shape: &Shape) -> bool
+    ensures { result ≡ is_cue_shape shape.now }
 {
-    shapes
-        .iter()
-        .take_while(|shape| matches!(shape.kind, RowKind::Cue))
-        .count()
+    matches!(shape.kind, RowKind::Cue)
 }
 
-/// So many of the first rows, or all.
-fn first_rows(shapes: &[Shape], count: usize) -> &[Shape]
-    ensures { result.now ≡ take count shapes.now }
+/// How many of the rows from one on are a cue's, or so many.
+fn cue_rows(shapes: &GapList<Shape>, from: usize, most: usize) -> usize
+    requires { from ≤ length shapes.now.items }
+    ensures { result ≡ prefix_len is_cue_shape (take most (drop from shapes.now.items)) }
 {
-    let within = count.min(shapes.len());
-    &shapes[..within]
-}
-
-/// How far the cue of a speech reaches whose rows come first: to the first row behind it, or to the speech's last row.
-fn reach(shapes: &[Shape]) -> usize
-    ensures value { result ≡ reach shapes.now }
-    ensures low { result < 2 ^ 32 }
-{
-    match shapes.first() {
-        None => 0,
-        Some(first) => {
-            let rest = first.rest as usize;
-            cue_rows(first_rows(shapes, rest + 1)).min(rest)
+    let rows = most.min(shapes.len() - from);
+    for count in 0..rows {
+        if !is_cue(shapes.at(from + count)) {
+            return count;
         }
     }
+    rows
+}
+
+/// How far the cue of a speech reaches that begins with a row: to the first row behind it, or to the speech's last row.
+fn reach(shapes: &GapList<Shape>, from: usize) -> usize
+    requires { from ≤ length shapes.now.items }
+    ensures value { result ≡ reach (drop from shapes.now.items) }
+    ensures low { result < 2 ^ 32 }
+{
+    if from == shapes.len() {
+        return 0;
+    }
+    let rest = shapes.at(from).rest as usize;
+    cue_rows(shapes, from, rest + 1).min(rest)
 }
 
 /// The first row of the speech that a row goes on with.
-fn speech_row(shapes: &[Shape], row: usize) -> usize
-    requires { row < length shapes.now }
-    ensures value { result ≡ speech_row shapes.now row }
+fn speech_row(shapes: &GapList<Shape>, row: usize) -> usize
+    requires { row < length shapes.now.items }
+    ensures value { result ≡ speech_row shapes.now.items row }
     ensures low { result ≤ row }
 {
-    row.saturating_sub(shapes[row].index as usize)
+    row.saturating_sub(shapes.at(row).index as usize)
 }
 
 /// The row to which the cue of that speech reaches, or the row itself, if that is behind.
-fn reach_row(shapes: &[Shape], row: usize) -> usize
-    requires { row < length shapes.now }
-    ensures { result ≡ reach_row shapes.now row }
+fn reach_row(shapes: &GapList<Shape>, row: usize) -> usize
+    requires { row < length shapes.now.items }
+    ensures { result ≡ reach_row shapes.now.items row }
 {
+    let _rows = shapes.len();
     let from = speech_row(shapes, row);
-    row.max(from + reach(&shapes[from..]))
+    row.max(from + reach(shapes, from))
 }
 
 /// The place of the last record that begins at a row or before it, by halves.
@@ -68,12 +72,12 @@ fn place_with(starts: &[usize], row: usize) -> usize
 }
 
 /// Where the row goes on with a speech, the records that the speech's cue comes from.
-pub(crate) fn cue_places(starts: &[usize], shapes: &[Shape], row: usize) -> Option<Places>
+pub(crate) fn cue_places(starts: &[usize], shapes: &GapList<Shape>, row: usize) -> Option<Places>
     requires order { AllPairs (λ one other. one ≤ other) starts.now }
-    requires inside { row < length shapes.now }
-    ensures { result ≡ places_by starts.now shapes.now row }
+    requires inside { row < length shapes.now.items }
+    ensures { result ≡ places_by starts.now shapes.now.items row }
 {
-    if !continues_speech(&shapes[row]) {
+    if !continues_speech(shapes.at(row)) {
         return None;
     }
     Some(Places {

@@ -10,6 +10,7 @@ ghost use Rattle.sp_packet.specs.Runs.{LieWithin, empty_run, facts_by, starts_be
 
 use crate::cue::cue_places;
 use sp_locks::Sheet;
+use sp_splice::GapList;
 use sp_state::Script;
 use spec_pages::Shape;
 use std::alloc::{AllocError, Global};
@@ -97,13 +98,13 @@ fn sheets_before(sheets: &[Sheet], row: usize) -> usize
 fn add_pages(
     facts: &mut Vec<SheetFacts>,
     starts: &[usize],
-    shapes: &[Shape],
+    shapes: &GapList<Shape>,
     place: usize,
     pages: &[Sheet],
 ) -> Result<(), AllocError>
     requires order { AllPairs (λ one other. one ≤ other) starts.now }
-    requires inside { All (λ (sheet : SheetOf). sheet.start < length shapes.now) pages.now }
-    ensures { OnOk result (facts.new.items ≡ facts.old.items ++ map (facts_by starts.now shapes.now place (length pages.now)) pages.now) }
+    requires inside { All (λ (sheet : SheetOf). sheet.start < length shapes.now.items) pages.now }
+    ensures { OnOk result (facts.new.items ≡ facts.old.items ++ map (facts_by starts.now shapes.now.items place (length pages.now)) pages.now) }
 {
     for page in pages {
         facts.push(SheetFacts {
@@ -127,11 +128,12 @@ fn facts_of(alloc: Global, script: &Script, starts: &[usize]) -> Result<Vec<Shee
 {
     let sheets = script.body_sheets();
     let shapes = script.shapes();
+    let rows = shapes.len();
     let mut facts = Vec::new(alloc);
     let mut index = 0;
     let mut sheet = 0;
     while index < starts.len() {
-        let run = empty_run(starts, shapes.len(), index);
+        let run = empty_run(starts, rows, index);
         if run > 0 {
             facts.push(SheetFacts {
                 records: Places {
@@ -144,10 +146,7 @@ fn facts_of(alloc: Global, script: &Script, starts: &[usize]) -> Result<Vec<Shee
             index += run;
             sheet += 1;
         } else {
-            let pages = sheets_before(
-                &sheets[sheet..],
-                start_or_end(starts, shapes.len(), index + 1),
-            );
+            let pages = sheets_before(&sheets[sheet..], start_or_end(starts, rows, index + 1));
             add_pages(
                 &mut facts,
                 starts,

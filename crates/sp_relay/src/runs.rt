@@ -9,7 +9,16 @@ use sp_elements::Body;
 use sp_splice::{exchange_places, make_room};
 use std::alloc::AllocError;
 
-/// Makes room for an exchange of elements.
+/// Makes room behind the gaps in what is kept of rows, where more come than go, or fewer.
+fn make_gaps(body: &mut Body, come: usize, go: usize)
+    ensures { body.new ≡ body.old }
+{
+    if come != go {
+        body.make_gaps();
+    }
+}
+
+/// Makes room for an exchange of elements, and where rows come or go behind the gaps in what is kept of them.
 pub fn make_run_room(
     body: &mut Body,
     from: usize,
@@ -29,6 +38,7 @@ pub fn make_run_room(
     let rows = body.rows() + other.rows();
     let run = body.rows_before(to) - body.rows_before(from);
     body.make_room(elements, rows)?;
+    make_gaps(body, other.rows(), run);
     other.make_room(to - from, run)
 }
 

@@ -46,7 +46,7 @@ drop-parts list mid to order =
     sym (ap (λ xs. slice_range list mid to ++ xs) (sym rest) ∙ take-append-drop (to - mid) (drop mid list))
 
 -- A run in two parts, by a place within it.
-slice-parts : {X : Type 0} (list : List X) (from mid to : ℕ) → from ≤ mid → mid ≤ to → slice_range list from mid ++ slice_range list mid to ≡ slice_range list from to
+pub slice-parts : {X : Type 0} (list : List X) (from mid to : ℕ) → from ≤ mid → mid ≤ to → slice_range list from mid ++ slice_range list mid to ≡ slice_range list from to
 slice-parts list from mid to order later =
     let front = slice_range list from mid in
     let all : drop from list ≡ front ++ drop mid list = drop-parts list from mid order in

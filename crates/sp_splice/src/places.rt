@@ -52,7 +52,7 @@ pub fn exchange_places(
 )
     requires order { from ≤ to }
     requires within { to ≤ vec_len list.old }
-    requires room { vec_len list.old + vec_len items.old ≤ vec_capacity list.old }
+    requires room { vec_len list.old - (to - from) + vec_len items.old ≤ vec_capacity list.old }
     requires items_room { to - from ≤ vec_capacity items.old }
     requires come { All (CanShift 0 base) items.old.items }
     requires go { All (CanShift base 0) (slice_range list.old.items from to) }

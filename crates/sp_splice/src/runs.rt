@@ -84,7 +84,7 @@ fn send_off<T>(list: &mut Vec<T>, place: usize, count: usize)
 }
 
 /// Exchanges the items of a list from one place to before another for as many others. No other is moved.
-fn trade<T>(list: &mut Vec<T>, from: usize, to: usize, items: &mut Vec<T>)
+pub fn trade<T>(list: &mut Vec<T>, from: usize, to: usize, items: &mut Vec<T>)
     requires order { from ≤ to }
     requires within { to ≤ vec_len list.old }
     requires many { vec_len items.old ≡ to - from }
@@ -101,7 +101,7 @@ fn exchange_for_more<T>(list: &mut Vec<T>, from: usize, to: usize, items: &mut V
     requires order { from ≤ to }
     requires within { to ≤ vec_len list.old }
     requires enough { to - from ≤ vec_len items.old }
-    requires room { vec_len list.old + vec_len items.old ≤ vec_capacity list.old }
+    requires room { vec_len list.old - (to - from) + vec_len items.old ≤ vec_capacity list.old }
     ensures list { list.new.items ≡ exchanged list.old.items from to items.old.items }
     ensures items { items.new.items ≡ slice_range list.old.items from to }
     ensures list_room { vec_capacity list.new ≡ vec_capacity list.old }
@@ -136,7 +136,7 @@ fn exchange_for_fewer<T>(list: &mut Vec<T>, from: usize, to: usize, items: &mut 
 pub fn exchange<T>(list: &mut Vec<T>, from: usize, to: usize, items: &mut Vec<T>)
     requires order { from ≤ to }
     requires within { to ≤ vec_len list.old }
-    requires room { vec_len list.old + vec_len items.old ≤ vec_capacity list.old }
+    requires room { vec_len list.old - (to - from) + vec_len items.old ≤ vec_capacity list.old }
     requires items_room { to - from ≤ vec_capacity items.old }
     ensures list { list.new.items ≡ exchanged list.old.items from to items.old.items }
     ensures items { items.new.items ≡ slice_range list.old.items from to }

@@ -38,6 +38,7 @@ use sp_print::PageView;
 use sp_records::Records;
 use sp_reflow::Pages;
 use sp_reread::Stanzas;
+use sp_splice::GapList;
 use sp_text::{Edit, EditFault, Lines};
 use spec_pages::{Paper, Shape};
 use std::alloc::{AllocError, Global};
@@ -158,8 +159,8 @@ impl Script {
     }
 
     /// Lends what page ends see of each row of its body (docs/RULES.md, "Pages").
-    pub fn shapes(&self) -> &[Shape]
-        ensures { result.now ≡ map shape_of (rows_in self.now) }
+    pub fn shapes(&self) -> &GapList<Shape>
+        ensures { result.now.items ≡ map shape_of (rows_in self.now) }
     {
         body_shapes(&self.made)
     }

@@ -1,4 +1,5 @@
-use Rattle.std.proofs.Common.{List, get_or, ap, sym, ◌∙◌}
+use Rattle.std.proofs.Common.{List, get_or, slice_get, ap, sym, ◌∙◌}
+use Rattle.std.proofs.lemmas.Option.{get_or_from_slice_get}
 use Rattle.spec_pages.specs.Rows.{ElementOf}
 use Rattle.spec_labels.specs.declared.RowKey.{RowKey}
 use Rattle.sp_compare.proofs.RowPlaces.{row-there}
@@ -12,3 +13,7 @@ returns-clause-row c = λ d.
     row-there elements c.args.row place c.row_start-start.result element c.index.result.now d c.element_of_row-place.ensures c.row_start-start.ensures
     (c.element.view_is ∙ c.index-elements-place.is ∙ ap (λ (all : List ElementOf). get_or all place c.index-elements-place.result) c.elements.ensures ∙ ap (get_or elements place) (sym c.element.view_is))
     c.index.ensures
+
+pub returns-clause-key : goal.returns-clause-key
+returns-clause-key c = λ d.
+    get_or_from_slice_get c.args.body.now.keys c.args.row c.at.result.now d (ap (λ (keys : List RowKey). slice_get keys c.args.row) (sym c.keys.ensures.keys) ∙ c.at.ensures)

@@ -1,5 +1,7 @@
-use Rattle.std.proofs.Common.{◌≡◌, ◌+◌, ◌-◌, List, take, get_or, ap, sym, subst, ◌∙◌, arith}
+use Rattle.std.proofs.Common.{◌≡◌, ◌+◌, ◌-◌, List, take, get_or, slice_get, ap, ap₂, sym, subst, ◌∙◌, arith}
+use Rattle.std.proofs.lemmas.Option.{get_or_from_slice_get}
 use Rattle.spec_pages.specs.Rows.{ElementOf}
+use Rattle.spec_labels.specs.declared.RowKey.{RowKey}
 use Rattle.sp_elements.specs.Bodies.{StandsIn, row_count}
 use Rattle.sp_elements.specs.Exchanges.{CanMove}
 use Rattle.sp_compare.proofs.OldRowLaws.{moves-here, row-behind}
@@ -38,3 +40,9 @@ returns-clause-row c = λ d.
     c.element.view_is ∙ c.index-elements-it.is ∙ ap (λ (all : List ElementOf). get_or all it c.index-elements-it.result) c.elements.ensures ∙ ap (get_or elements it) (sym c.element.view_is) in
     row-behind elements c.args.to c.args.less c.args.more c.args.row it c.row_start-start.result element c.index.result.now d stands_at c.row_start-start.ensures found
     (c.index.ensures ∙ ap (λ n. get_or element.rows (n + c.args.row - c.row_start-start.result) c.index.result.now) c.rows_before.ensures)
+
+pub returns-clause-key : goal.returns-clause-key
+returns-clause-key c = λ d.
+    let count = row_count (take c.args.to c.args.body.now.elements) in
+    get_or_from_slice_get c.args.body.now.keys (count + c.args.row) c.at.result.now d
+    (ap₂ (λ (keys : List RowKey) n. slice_get keys (n + c.args.row)) (sym c.keys.ensures.keys) (sym c.rows_before.ensures) ∙ c.at.ensures)

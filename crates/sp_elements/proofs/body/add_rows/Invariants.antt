@@ -1,5 +1,4 @@
-use Rattle.std.proofs.Common.{◌≡◌, ◌+◌, ◌-◌, ◌≤◌, ◌++◌, length, map, take, vec_len}
-use Rattle.std.specs.Prelude.{vec_capacity}
+use Rattle.std.proofs.Common.{◌≡◌, ◌+◌, ◌-◌, ◌≤◌, ◌++◌, length, map, take}
 use Rattle.spec_pages.specs.Rows.{Row, shifted_row}
 use Rattle.spec_layout.specs.Shown.{row_key}
 use Rattle.sp_elements.proofs.body.add_rows.Given as goal
@@ -10,7 +9,7 @@ invariant-loop-row l = record {
   shapes : l.shapes.items ≡ l.fn.shapes.items ++ map (λ (row : Row). row.shape) (map (shifted_row l.element.first) (take l.row-index l.element.rows));
   marks : l.marks.items ≡ l.fn.marks.items ++ map (λ (row : Row). row.mark) (map (shifted_row l.element.first) (take l.row-index l.element.rows));
   keys : l.keys.items ≡ l.fn.keys.items ++ map (row_key l.lines.lines) (map (shifted_row l.element.first) (take l.row-index l.element.rows));
-  shapes_room : vec_len l.shapes + (length l.element.rows - l.row-index) ≤ vec_capacity l.shapes;
-  marks_room : vec_len l.marks + (length l.element.rows - l.row-index) ≤ vec_capacity l.marks;
-  keys_room : vec_len l.keys + (length l.element.rows - l.row-index) ≤ vec_capacity l.keys;
+  shapes_room : length l.shapes.items + (length l.element.rows - l.row-index) ≤ l.shapes.room;
+  marks_room : length l.marks.items + (length l.element.rows - l.row-index) ≤ l.marks.room;
+  keys_room : length l.keys.items + (length l.element.rows - l.row-index) ≤ l.keys.room;
 }

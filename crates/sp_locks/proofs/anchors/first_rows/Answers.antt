@@ -17,7 +17,7 @@ for-some f it start told = λ x same. let one : it ≡ x = cc in told ∙ ap (λ
 pub loop-record-preserved : goal.loop-record-preserved
 loop-record-preserved c =
     let told = c.start_behind-start.ensures in
-    let first_row = record_start c.args.lines.now.lines c.args.rows.now in
+    let first_row = record_start c.args.lines.now.lines c.args.rows.now.items in
     record {
       starts = start-more first_row _ _ _ _ _ _ c.loop-record-test.true c.record-item.is told c.in_ok-push-2.ensures.items c.loop-record.invariant.starts;
       last = for-some first_row _ _ told;

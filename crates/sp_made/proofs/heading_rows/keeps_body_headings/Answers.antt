@@ -18,12 +18,12 @@ returns c less more =
     let end = c.rows_of_run-start.result.1 in
     let at = c.rows_of_run-start.ensures in
     let of = rows-of-run elements from to c.requires.order c.requires.within in
-    let shapes : slice_range c.shapes.result.now start end ≡ shapes_in (slice_range elements from to) =
+    let shapes : slice_range c.shapes.result.now.items start end ≡ shapes_in (slice_range elements from to) =
     ap (λ (those : List Shape). slice_range those start end) c.shapes.ensures ∙ ap₂ (λ (a b : ℕ). slice_range (shapes_in elements) a b) at.start at.end ∙ of.shapes in
-    let keys : slice_range c.keys.result.now start end ≡ slice_range body.keys (row_count (take from elements)) (row_count (take to elements)) =
+    let keys : slice_range c.keys.result.now.items start end ≡ slice_range body.keys (row_count (take from elements)) (row_count (take to elements)) =
     ap (λ (those : List RowKey). slice_range those start end) c.keys.ensures.keys ∙ ap₂ (λ (a b : ℕ). slice_range body.keys a b) at.start at.end in
-    let gone : heading_ids (slice_range c.shapes.result.now start end) (slice_range c.keys.result.now start end) ≡ body_headings (run_of body from to) = ap₂ heading_ids shapes keys in
-    let come : heading_ids c.shapes-2.result.now c.keys-2.result.now ≡ body_headings others = ap₂ heading_ids c.shapes-2.ensures c.keys-2.ensures.keys in
+    let gone : heading_ids (slice_range c.shapes.result.now.items start end) (slice_range c.keys.result.now.items start end) ≡ body_headings (run_of body from to) = ap₂ heading_ids shapes keys in
+    let come : heading_ids c.shapes-2.result.now.items c.keys-2.result.now.items ≡ body_headings others = ap₂ heading_ids c.shapes-2.ensures c.keys-2.ensures.keys in
     let kept =
     headings-kept body others from to less more c.requires.order c.requires.within (ap length (sym c.keys.ensures.keys) ∙ c.keys.ensures.len) (ap length (sym c.keys-2.ensures.keys) ∙ c.keys-2.ensures.len) in
     (λ h. kept.0 (sym gone ∙ c.same_headings.ensures.0 h ∙ come), λ h. c.same_headings.ensures.1 (gone ∙ kept.1 h ∙ sym come))

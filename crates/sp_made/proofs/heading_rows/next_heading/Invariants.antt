@@ -5,4 +5,4 @@ use Rattle.sp_numbers.specs.HeadingIds.{is_heading_start}
 use Rattle.sp_made.proofs.heading_rows.next_heading.Given as goal
 
 abbrev pub invariant-loop-place : goal.invariant-loop-place
-invariant-loop-place l = (k : ℕ) (d : Shape) → l.fn.from ≤ k → k < l.place → is_heading_start (slice_index_or l.shapes k d) ≡ false
+invariant-loop-place l = (k : ℕ) (d : Shape) → l.fn.from ≤ k → k < l.place → is_heading_start (slice_index_or l.shapes.items k d) ≡ false

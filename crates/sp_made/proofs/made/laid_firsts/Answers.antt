@@ -17,15 +17,15 @@ pub record_starts-requires : goal.record_starts-requires
 record_starts-requires c =
     let state : State = state_of (text_of c.args.lines.now) c.args.records.now in
     let laid = ap laid_of c.layout.view_is ∙ c.requires.laid in
-    let keys : c.keys.result.now ≡ keys_in state = c.keys.ensures.keys ∙ ap (λ (l : LayoutOf). l.body.keys) laid ∙ sym (state-row_keys state) in
-    anchored (λ those. those.items) state c.keys.result.now c.records.inside.pages c.requires.whole keys (sym (ap (λ (r : RecordsOf). r.pages) c.records.view_is))
+    let keys : c.keys.result.now.items ≡ keys_in state = c.keys.ensures.keys ∙ ap (λ (l : LayoutOf). l.body.keys) laid ∙ sym (state-row_keys state) in
+    anchored (λ those. those.items) state c.keys.result.now.items c.records.inside.pages c.requires.whole keys (sym (ap (λ (r : RecordsOf). r.pages) c.records.view_is))
 
 pub returns : goal.returns
 returns c =
     let state : State = state_of (text_of c.args.lines.now) c.args.records.now in
     let laid = ap laid_of c.layout.view_is ∙ c.requires.laid in
-    let keys : c.keys.result.now ≡ keys_in state = c.keys.ensures.keys ∙ ap (λ (l : LayoutOf). l.body.keys) laid ∙ sym (state-row_keys state) in
+    let keys : c.keys.result.now.items ≡ keys_in state = c.keys.ensures.keys ∙ ap (λ (l : LayoutOf). l.body.keys) laid ∙ sym (state-row_keys state) in
     let records = option_map (λ those. those.items) c.records.inside.pages in
-    shows-same (λ starts. starts.items) c.record_starts.result (key_starts state.lines c.keys.result.now records) (first_rows state)
+    shows-same (λ starts. starts.items) c.record_starts.result (key_starts state.lines c.keys.result.now.items records) (first_rows state)
     (ap (λ (ks : List RowKey). key_starts state.lines ks records) keys ∙ ap (key_starts state.lines (keys_in state)) (ap (λ (r : RecordsOf). r.pages) c.records.view_is))
     c.record_starts.ensures

@@ -11,7 +11,7 @@ returns-in-None c =
     let body = c.args.body.now.elements in
     let pages = c.args.pages.now in
     record {
-      made = done-same c.renew_sheets.result c.renew_sheets.new.sheets.items (marked_sheets c.marks.result.now 1 pages) (marked_or_locked body (option_map (λ those. those.items) c.args.records.now) c.args.starts.now pages)
+      made = done-same c.renew_sheets.result c.renew_sheets.new.sheets.items (marked_sheets c.marks.result.now.items 1 pages) (marked_or_locked body (option_map (λ those. those.items) c.args.records.now) c.args.starts.now pages)
           (ap (λ (marks : List ℕ). marked_sheets marks 1 pages) c.marks.ensures ∙ ap (λ records. marked_or_locked body (option_map (λ those. those.items) records) c.args.starts.now pages) (sym c.in-None.is))
           c.renew_sheets.ensures.made;
       same = c.renew_sheets.ensures.same;

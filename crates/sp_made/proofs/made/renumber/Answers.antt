@@ -16,7 +16,7 @@ use Rattle.sp_layout.specs.LaidOut.{LayoutOf}
 use Rattle.sp_relay.specs.Kept.{KeptOf, laid_of}
 use Rattle.sp_made.specs.declared.made.Numbered.TheInside.{Inside}
 use Rattle.sp_made.specs.Made.{NumberedOf}
-use Rattle.sp_numbers.specs.Numbered.{marked_sheets, AreSameOutside}
+use Rattle.sp_numbers.specs.Numbered.{marked_sheets, AreMovedOutside}
 use Rattle.sp_numbers.proofs.MarkedLaws.{rows-unmarked}
 use Rattle.sp_numbers.proofs.StaleSheets.{stale-same}
 use Rattle.sp_made.proofs.made.renumber.Goals as goal
@@ -33,10 +33,10 @@ stale_places-stale-requires c = record {
 }
 
 outside : (c : After-stale_places-stale)
-    → AreSameOutside c.numbered.inside.sheets.items (marked_sheets (marks_in c.args.layout.now.body.elements) 1 c.starts-starts.result.now) c.stale_places-stale.result.start c.stale_places-stale.result.end
+    → AreMovedOutside c.numbered.inside.sheets.items (marked_sheets (marks_in c.args.layout.now.body.elements) 1 c.starts-starts.result.now) c.stale_places-stale.result
 outside c =
-    stale-same c.deref.result.now c.numbered.inside.sheets.items (c.args.numbered.now).sheets c.marks-marks.result.now (marks_in c.args.layout.now.body.elements) c.starts-starts.result.now (c.args.pages.now).starts
-    c.args.swapped.now (c.renews_all.result ≡ false) c.stale_places-stale.result.start c.stale_places-stale.result.end
+    stale-same c.deref.result.now c.numbered.inside.sheets.items (c.args.numbered.now).sheets c.marks-marks.result.now.items (marks_in c.args.layout.now.body.elements) c.starts-starts.result.now (c.args.pages.now).starts
+    c.args.swapped.now (c.renews_all.result ≡ false) c.stale_places-stale.result
     c.deref.ensures.value (ap (λ (n : NumberedOf). n.sheets) c.numbered.view_is) (c.marks-marks.ensures ∙ ap (λ (k : KeptOf). marks_in k.body.elements) c.layout.view_is) c.starts-starts.ensures
     c.requires.can (λ none. c.requires.sheets (rw none at c.renews_all.ensures.locked) (rw none at c.renews_all.ensures.round)) c.stale_places-stale.ensures
 

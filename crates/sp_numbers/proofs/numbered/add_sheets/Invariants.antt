@@ -3,4 +3,4 @@ use Rattle.sp_numbers.specs.Numbered.{marked_sheets}
 use Rattle.sp_numbers.proofs.numbered.add_sheets.Given as goal
 
 abbrev pub invariant-loop-place : goal.invariant-loop-place
-invariant-loop-place l = (l.sheets.items ≡ take l.place (marked_sheets l.marks 1 l.pages)) × (vec_capacity l.sheets ≡ vec_capacity l.initial.sheets)
+invariant-loop-place l = (l.sheets.items ≡ take l.place (marked_sheets l.marks.items 1 l.pages)) × (vec_capacity l.sheets ≡ vec_capacity l.initial.sheets)

@@ -4,5 +4,5 @@ use Rattle.sp_numbers.proofs.numbered.renew_first.Given as goal
 
 abbrev pub invariant-loop-place : goal.invariant-loop-place
 invariant-loop-place l =
-    (l.sheets.items ≡ take l.place (marked_sheets l.marks 1 l.pages) ++ drop l.place l.initial.sheets.items)
+    (l.sheets.items ≡ take l.place (marked_sheets l.marks.items 1 l.pages) ++ drop l.place l.initial.sheets.items)
     × (vec_len l.sheets ≡ vec_len l.initial.sheets) × (vec_capacity l.sheets ≡ vec_capacity l.initial.sheets)

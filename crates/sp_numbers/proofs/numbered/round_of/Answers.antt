@@ -3,4 +3,4 @@ use Rattle.sp_numbers.proofs.SheetMoves.{greatest-none}
 use Rattle.sp_numbers.proofs.numbered.round_of.Goals as goal
 
 pub returns-else-is_marked : goal.returns-else-is_marked
-returns-else-is_marked c = sym (greatest-none c.args.marks.now c.args.start c.args.end (c.requires.unmarked c.if-is_marked.false))
+returns-else-is_marked c = sym (greatest-none c.args.marks.now.items c.args.start c.args.end (c.requires.unmarked c.if-is_marked.false))

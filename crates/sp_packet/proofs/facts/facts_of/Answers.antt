@@ -20,7 +20,8 @@ loop-index-preserved-then-run-gt0 c =
     let count = are.count in
     let test = c.loop-index-test.true in
     let inside : c.loop-index.index < length (records_in state) = omega (arith, long, count, test) in
-    let shapes : length c.shapes-shapes.result.now ≡ length (rows_in state) = ap length c.shapes-shapes.ensures ∙ length-map (rows_in state) shape_of in
+    let shown : length c.shapes-shapes.result.now.items ≡ length (rows_in state) = ap length c.shapes-shapes.ensures ∙ length-map (rows_in state) shape_of in
+    let shapes : c.len-rows.result ≡ length (rows_in state) = c.len-rows.ensures.len ∙ shown in
     let run : c.empty_run-run.result ≡ empty_run (length (rows_in state)) (drop c.loop-index.index (starts_in state)) =
     c.empty_run-run.ensures.value ∙ ap₂ (λ n (ss : List ℕ). empty_run n (drop c.loop-index.index ss)) shapes c.requires.starts in
     let step = Walked-gone state whole c.requires.locked c.loop-index.index c.loop-index.sheet c.loop-index.facts.items c.loop-index.invariant inside c.empty_run-run.result run c.if-run-gt0.true in
@@ -40,7 +41,8 @@ add_pages-requires-clause-inside c =
     let count = are.count in
     let test = c.loop-index-test.true in
     let inside : c.loop-index.index < length (records_in state) = omega (arith, long, count, test) in
-    let shapes : length c.shapes-shapes.result.now ≡ length (rows_in state) = ap length c.shapes-shapes.ensures ∙ length-map (rows_in state) shape_of in
+    let shown : length c.shapes-shapes.result.now.items ≡ length (rows_in state) = ap length c.shapes-shapes.ensures ∙ length-map (rows_in state) shape_of in
+    let shapes : c.len-rows.result ≡ length (rows_in state) = c.len-rows.ensures.len ∙ shown in
     let run : c.empty_run-run.result ≡ empty_run (length (rows_in state)) (drop c.loop-index.index (starts_in state)) =
     c.empty_run-run.ensures.value ∙ ap₂ (λ n (ss : List ℕ). empty_run n (drop c.loop-index.index ss)) shapes c.requires.starts in
     let off = c.if-run-gt0.false in
@@ -50,7 +52,7 @@ add_pages-requires-clause-inside c =
     let pages : c.sheets_before-pages.result ≡ prefix_len (starts_before (own_in state c.loop-index.index).end) (drop c.loop-index.sheet (body_sheets state)) =
     c.sheets_before-pages.ensures.value ∙ ap (prefix_len (starts_before c.start_or_end.result)) (take_rest c.body_sheets-sheets.result.now c.loop-index.sheet) ∙ ap₂ (λ n (ss : List SheetOf). prefix_len (starts_before n) (drop c.loop-index.sheet ss)) row c.body_sheets-sheets.ensures.sheets in
     let step = Walked-pages state whole c.requires.locked c.loop-index.index c.loop-index.sheet c.loop-index.facts.items c.loop-index.invariant inside c.sheets_before-pages.result pages none in
-    subst (λ n. All (λ (it : SheetOf). it.start < n) (slice_range c.body_sheets-sheets.result.now c.loop-index.sheet (c.loop-index.sheet + c.sheets_before-pages.result))) (sym shapes)
+    subst (λ n. All (λ (it : SheetOf). it.start < n) (slice_range c.body_sheets-sheets.result.now c.loop-index.sheet (c.loop-index.sheet + c.sheets_before-pages.result))) (sym shown)
     (subst (λ (ss : List SheetOf). All (λ (it : SheetOf). it.start < length (rows_in state)) (slice_range ss c.loop-index.sheet (c.loop-index.sheet + c.sheets_before-pages.result))) (sym c.body_sheets-sheets.ensures.sheets) step.rows_are)
 
 pub loop-index-preserved : goal.loop-index-preserved
@@ -62,7 +64,8 @@ loop-index-preserved c =
     let count = are.count in
     let test = c.loop-index-test.true in
     let inside : c.loop-index.index < length (records_in state) = omega (arith, long, count, test) in
-    let shapes : length c.shapes-shapes.result.now ≡ length (rows_in state) = ap length c.shapes-shapes.ensures ∙ length-map (rows_in state) shape_of in
+    let shown : length c.shapes-shapes.result.now.items ≡ length (rows_in state) = ap length c.shapes-shapes.ensures ∙ length-map (rows_in state) shape_of in
+    let shapes : c.len-rows.result ≡ length (rows_in state) = c.len-rows.ensures.len ∙ shown in
     let run : c.empty_run-run.result ≡ empty_run (length (rows_in state)) (drop c.loop-index.index (starts_in state)) =
     c.empty_run-run.ensures.value ∙ ap₂ (λ n (ss : List ℕ). empty_run n (drop c.loop-index.index ss)) shapes c.requires.starts in
     let off = c.if-run-gt0.false in

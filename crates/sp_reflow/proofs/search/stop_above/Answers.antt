@@ -1,4 +1,4 @@
-use Rattle.std.proofs.Common.{◌≡◌, sym, ap, ◌∙◌, arith, slice_get, get_or, find, ltb, unwrap_or}
+use Rattle.std.proofs.Common.{sym, ap, ◌∙◌, arith, slice_get, unwrap_or}
 use Rattle.std.proofs.lemmas.Grind.{common_steps}
 use Rattle.std.proofs.lemmas.Option.{gets, unwrap_or-slice_get}
 use Rattle.spec_reflow.proofs.NearStops.{next_stop-find}

@@ -20,8 +20,8 @@ returns-clause-enough c =
       one,
       other,
       c.self.inside.elements.ok,
-      c.self.inside.row_starts.ok,
-      c.self.inside.heading_starts.ok,
+      c.len-row_starts.ensures.enough,
+      c.len-heading_starts.ensures.enough,
       ap (λ (b : BodyOf). length b.elements) c.self.view_is,
       ap (λ (b : BodyOf). b.room) c.self.view_is,
     )
@@ -36,9 +36,9 @@ returns-clause-row_enough c =
       shapes,
       marks,
       c.self.invariant.keys,
-      c.self.inside.shapes.ok,
-      c.self.inside.marks.ok,
-      c.self.inside.keys.ok,
+      c.len-shapes.ensures.enough,
+      c.len-marks.ensures.enough,
+      c.len-keys.ensures.enough,
       ap (λ (b : BodyOf). row_count b.elements) c.self.view_is,
       ap (λ (b : BodyOf). b.row_room) c.self.view_is,
     )
@@ -50,4 +50,4 @@ pub returns-clause-small : goal.returns-clause-small
 returns-clause-small c = omega (arith, c.self.inside.elements.small, ap (λ (b : BodyOf). b.room) c.self.view_is)
 
 pub returns-clause-row_small : goal.returns-clause-row_small
-returns-clause-row_small c = omega (arith, c.self.inside.shapes.small, ap (λ (b : BodyOf). b.row_room) c.self.view_is)
+returns-clause-row_small c = omega (arith, c.len-shapes.ensures.small, ap (λ (b : BodyOf). b.row_room) c.self.view_is)
