@@ -299,7 +299,7 @@ pub(crate) fn edit_made<S: Steps>(
     }
 }
 
-/// Undoes an edit. Nothing is laid out and no page filled; sheets are made anew, and so are labels where a heading
+/// Undoes an edit. Nothing is laid out and no page filled; sheets are made those of the new state, and so are labels where a heading
 /// comes or goes. The first rows of page records are looked for once. On an error there was no memory, nothing is changed, and an
 /// entry that can be undone is handed back.
 pub(crate) fn undo_made(
@@ -318,6 +318,7 @@ pub(crate) fn undo_made(
     requires laid { IsLaidOf (state_of (text_of lines.old) records.old) (laid_of layout.old) }
     requires pages { pages.old.starts ≡ pages_of (state_of (text_of lines.old) records.old) }
     requires numbered { IsNumberedOf (state_of (text_of lines.old) records.old) numbered.old }
+    requires firsts { IfSome firsts.old (λ those. those.items ≡ first_rows (state_of (text_of lines.old) records.old)) }
     requires was_whole { IsWhole (state_of (text_of lines.old) records.old) }
     requires whole { IsWhole (undone_state (state_of (text_of lines.old) records.old) entry) }
     ensures state { OnOk result (state_of (text_of lines.new) records.new ≡ undone_state (state_of (text_of lines.old) records.old) entry) }
@@ -386,8 +387,8 @@ pub(crate) fn undo_made(
     }
 }
 
-/// Does an edit again. Nothing is laid out and no page filled; sheets are made anew, and so are labels where a heading
-/// comes or goes. The first rows of page records are looked for once. On an error there was no memory, nothing is changed, and an
+/// Does an edit again. Nothing is laid out and no page filled; sheets are made those of the new state, and so are labels where a
+/// heading comes or goes. The first rows of page records are looked for once. On an error there was no memory, nothing is changed, and an
 /// entry that can be done again is handed back.
 pub(crate) fn redo_made(
     alloc: Global,
@@ -405,6 +406,7 @@ pub(crate) fn redo_made(
     requires laid { IsLaidOf (state_of (text_of lines.old) records.old) (laid_of layout.old) }
     requires pages { pages.old.starts ≡ pages_of (state_of (text_of lines.old) records.old) }
     requires numbered { IsNumberedOf (state_of (text_of lines.old) records.old) numbered.old }
+    requires firsts { IfSome firsts.old (λ those. those.items ≡ first_rows (state_of (text_of lines.old) records.old)) }
     requires was_whole { IsWhole (state_of (text_of lines.old) records.old) }
     requires whole { IsWhole (redone_state (state_of (text_of lines.old) records.old) entry) }
     ensures state { OnOk result (state_of (text_of lines.new) records.new ≡ redone_state (state_of (text_of lines.old) records.old) entry) }

@@ -1,5 +1,5 @@
 //! The layout and the first rows of pages after an edit, and after it is undone or done again.
-ghost use Rattle.std.specs.Prelude.{◌≡◌, ℕ, ◌+◌, ◌-◌, ◌≤◌, List, None, length, map, IfErr, IfOk, IfSome, IsTrue, OnErr, OnOk};
+ghost use Rattle.std.specs.Prelude.{◌≡◌, ℕ, ◌+◌, ◌-◌, ◌≤◌, List, None, Some, length, map, option_map, IfErr, IfOk, IfSome, IsTrue, OnErr, OnOk};
 ghost use Rattle.std.specs.Bool.{OnTrue};
 ghost use Rattle.spec_pages.specs.Pages.{rows_on};
 ghost use Rattle.spec_layout.specs.Shown.{shape_of};
@@ -175,10 +175,21 @@ struct TurnedPages {
     firsts: Vec<usize>,
 }
 
+/// Whether the first rows of page records were known, and are these.
+fn are_known(known: &Option<Vec<usize>>, firsts: &[usize]) -> bool
+    ensures { OnTrue result (option_map (λ those. those.items) known.now ≡ Some firsts.now) }
+{
+    match known {
+        Some(those) => those.as_slice() == firsts,
+        None => false,
+    }
+}
+
 /// Makes page starts, labels and sheets those of a state after an edit was undone or done again, whose text is laid out, by the
-/// page starts that it displaced. The first rows of page records are looked for first as far apart as those that are known. It
-/// fills no page. Labels that are those of the state already may be kept. On an error there was no memory, and page starts,
-/// labels and sheets are as they were.
+/// page starts that it displaced. The first rows of page records are looked for first as far apart as those that are known, which
+/// are those before. It fills no page. Labels that are those of the state already may be kept, and so are the sheets of locked
+/// pages but for their rounds, where first rows and page starts stay. On an error there was no memory, and page starts, labels and
+/// sheets are as they were.
 fn turned_pages(
     alloc: Global,
     lines: &Lines,
@@ -198,6 +209,7 @@ fn turned_pages(
     requires leads { with_taken pages.old.starts back ≡ pages_of (state_of (text_of lines.now) records.now) }
     requires labels { IsTrue keeps_labels → numbered.old.labels ≡ heading_labels lines.now.lines records.now.scenes }
     requires sheets { (records.now).pages ≡ None → (records.now).round ≡ 0 → AreUnmarked numbered.old.sheets pages.old.starts }
+    requires kept { IfSome known.now (λ those. IfSome (records.now).pages (λ them. AreSheetsBefore them those.items pages.old.starts numbered.old.sheets)) }
     ensures pages { OnOk result (pages.new.starts ≡ pages_of (state_of (text_of lines.now) records.now)) }
     ensures back { IfOk result (λ it. with_taken pages.new.starts it.pages ≡ pages.old.starts) }
     ensures can { IfOk result (λ it. CanPutBack pages.new.starts it.pages) }
@@ -216,6 +228,8 @@ fn turned_pages(
         return Err(UnswappedPages { back });
     };
     let other = pages.put_back(back)?;
+    let keeps_firsts = are_known(known, &firsts);
+    let keeps_pages = pages_stay(keeps_firsts, pages, &other);
     match renumber(
         alloc,
         lines,
@@ -226,7 +240,7 @@ fn turned_pages(
         pages,
         &other,
         keeps_labels,
-        false,
+        keeps_pages,
         numbered,
     ) {
         Ok(()) => Ok(TurnedPages {
@@ -257,8 +271,9 @@ pub(crate) struct UnturnedPages {
 
 /// Makes layout, page starts, labels and sheets those of a state after an edit was undone or done again, by what the edit
 /// displaced of layout and page starts, and finds the first rows of page records, first as far apart as those that are known. It
-/// lays out nothing and fills no page, and keeps the labels where no heading comes or goes. On an error there was no memory, all
-/// four are as they were, and what is handed back leads where what was to be put back led.
+/// lays out nothing and fills no page, keeps the labels where no heading comes or goes, and keeps the sheets of locked pages but
+/// for their rounds where first rows and page starts stay. On an error there was no memory, all four are as they were, and what is
+/// handed back leads where what was to be put back led.
 pub(crate) fn turn_made(
     alloc: Global,
     lines: &Lines,
@@ -279,6 +294,7 @@ pub(crate) fn turn_made(
     requires leads { with_taken pages.old.starts back ≡ pages_of (state_of (text_of lines.now) records.now) }
     requires labels { numbered.old.labels ≡ laid_labels (laid_of layout.old) (records.now).scenes }
     requires sheets { (records.now).pages ≡ None → (records.now).round ≡ 0 → AreUnmarked numbered.old.sheets pages.old.starts }
+    requires kept { IfSome known.now (λ those. IfSome (records.now).pages (λ them. AreSheetsBefore them those.items pages.old.starts numbered.old.sheets)) }
     ensures laid { OnOk result (IsLaidOf (state_of (text_of lines.now) records.now) (laid_of layout.new)) }
     ensures part { IfOk result (λ it. with_part (laid_of layout.new) it.layout.places (laid_of it.layout.kept) ≡ laid_of layout.old) }
     ensures swaps { IfOk result (λ it. CanSwap (laid_of layout.new) it.layout.places (laid_of it.layout.kept)) }

@@ -251,7 +251,7 @@ pub carried-ArePageRecords : (lines : List LineState) (place : ℕ) (records : L
 carried-ArePageRecords lines place records are = same_labels-ArePageRecords (carried_records lines place records) records (carried-labels lines place records) are
 
 -- A record that gets an anchor back keeps its label.
-put_back-labels : (moved : List Moved) (index : ℕ) (records : List PageRecordOf)
+pub put_back-labels : (moved : List Moved) (index : ℕ) (records : List PageRecordOf)
     → map (λ (it : PageRecordOf). it.label) (put_back_from moved index records) ≡ map (λ (it : PageRecordOf). it.label) records
 put_back-labels moved index [] = refl
 put_back-labels moved index (it ∷ records) =

@@ -1,14 +1,16 @@
 use Rattle.std.proofs.Common.{◌≡◌, ap, sym, subst, ◌∙◌, refl}
+use Rattle.std.specs.Prelude.{IfSome}
 use Rattle.spec_state.specs.State.{State}
 use Rattle.spec_state.specs.Keeping.{state_of}
 use Rattle.sp_text.specs.Gap.{text_of}
 use Rattle.sp_relay.specs.Kept.{laid_of}
 use Rattle.sp_made.specs.Made.{IsNumberedOf, laid_in}
+use Rattle.sp_numbers.specs.Locked.{AreSheetsBefore}
 use Rattle.sp_state.specs.TextEntries.{IsSameTextEntry, IsTextUndone}
 use Rattle.sp_state.specs.Entries.{EntryState, CanRedo, undone_range, redone_state}
 use Rattle.sp_state.proofs.EntryLaws.{redo-again, leads-back}
 use Rattle.sp_state.proofs.LabelLaws.{labels-were}
-use Rattle.sp_state.proofs.SheetLaws.{none-mapped, sheets-before}
+use Rattle.sp_state.proofs.SheetLaws.{none-mapped, sheets-before, turned-before}
 use Rattle.sp_state.proofs.TextEntryLaws.{redone-undone}
 use Rattle.spec_locked_pages.specs.Segments.{pages_of}
 use Rattle.sp_state.proofs.editing.redo_made.Goals as goal
@@ -25,6 +27,12 @@ turn_made-requires-clause-sheets c none first =
     sheets-before old c.args.numbered.now.sheets c.args.pages.now.starts c.requires.was_whole
     (none-mapped _ old.pages (sym (ap (λ (s : State). s.pages) led) ∙ none)) (sym (ap (λ (s : State). s.round) led) ∙ first)
     c.requires.numbered.sheets c.requires.pages
+
+pub turn_made-requires-clause-kept : goal.turn_made-requires-clause-kept
+turn_made-requires-clause-kept c =
+    let old : State = state_of (text_of c.args.lines.now) c.args.records.now in
+    subst (λ (s : State). IfSome c.args.firsts.now (λ those. IfSome s.pages (λ them. AreSheetsBefore them those.items c.args.pages.now.starts c.args.numbered.now.sheets))) (sym c.in-Ok.ensures.state)
+    (turned-before old c.entry.inside.text.moved c.entry.inside.text.raised c.args.firsts.now c.args.pages.now.starts c.args.numbered.now.sheets c.requires.was_whole c.requires.firsts c.requires.pages c.requires.numbered.sheets)
 
 pub returns-in-Ok-turn_made : goal.returns-in-Ok-turn_made
 returns-in-Ok-turn_made c =

@@ -1,8 +1,21 @@
-use Rattle.std.proofs.Common.{ℕ, List, refl, ap, ◌∙◌}
+use Rattle.std.proofs.Common.{ℕ, List, Some, refl, sym, ap, subst, ◌∙◌}
+use Rattle.std.specs.Prelude.{IfSome}
+use Rattle.std.proofs.lemmas.Bool.{OnTrue_at}
 use Rattle.std.proofs.lemmas.Result.{err_from_is_err_and}
+use Rattle.sp_numbers.specs.Locked.{AreSheetsBefore}
+use Rattle.sp_state.proofs.SheetLaws.{known-before}
 use Rattle.sp_reflow.specs.Updates.{taken_back, taken_of}
 use Rattle.sp_reflow.proofs.TurnLaws.{turned-twice}
 use Rattle.sp_state.proofs.turning.turned_pages.Goals as goal
+
+pub renumber-requires-clause-kept : goal.renumber-requires-clause-kept
+renumber-requires-clause-kept c keeps =
+    let sheets = c.args.numbered.now.sheets in
+    let stay = c.pages_stay-keeps_pages.ensures in
+    let known = OnTrue_at (OnTrue_at keeps stay.firsts) c.are_known-keeps_firsts.ensures ∙ ap Some (c.deref.ensures.value ∙ sym c.deref-2.ensures.value) in
+    let same = sym (OnTrue_at keeps stay.pages) ∙ c.in_ok-other.ensures.back in
+    known-before c.args.known.now c.deref-2.result.now (λ firsts. IfSome c.args.records.now.pages (λ those. AreSheetsBefore those firsts c.put_back.new.self.starts sheets))
+    (subst (λ (starts : List ℕ). IfSome c.args.known.now (λ firsts. IfSome c.args.records.now.pages (λ those. AreSheetsBefore those firsts.items starts sheets))) (sym same) c.requires.kept) known
 
 pub returns-in_err-other : goal.returns-in_err-other
 returns-in_err-other c =
