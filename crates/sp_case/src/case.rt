@@ -29,7 +29,6 @@ pub const MOST: usize = 1 << 30;
 ///
 /// Any other line is a remark. A number with `*` before a line stands for so many of it. In what is written `[n]` stands for n
 /// spaces, but `[0]` for itself. In any line `\u{n}` stands for the character of the hexadecimal number n.
-#[derive(Drop)]
 pub struct Case {
     pub words: Vec<String>,
     pub is_missing: bool,
@@ -51,6 +50,32 @@ pub struct Case {
     pub command: String,
 }
 
+/// One call wherever it is dropped, so that no proof there follows each of its fields.
+impl Drop for Case {
+    fn drop(self) {
+        let Case {
+            words: _words,
+            is_missing: _is_missing,
+            script: _script,
+            records: _records,
+            other: _other,
+            commands: _commands,
+            piece: _piece,
+            input_fails: _input_fails,
+            output_fails: _output_fails,
+            shelf_fails: _shelf_fails,
+            written: _written,
+            status: _status,
+            counts: _counts,
+            script_kept: _script_kept,
+            records_kept: _records_kept,
+            turns: _turns,
+            cut: _cut,
+            command: _command,
+        } = self;
+    }
+}
+
 /// The number of spaces before the first bracket, and what stands behind that; none for 0.
 fn spaces(text: &str) -> Option<(usize, &str)> {
     let (digits, rest) = text.split_once(']')?;
@@ -60,14 +85,22 @@ fn spaces(text: &str) -> Option<(usize, &str)> {
     }
 }
 
-/// A text in which `[n]` stands for n spaces, but `[0]` for itself.
-fn spaced(alloc: Global, text: &str) -> Result<Vec<u8>, AllocError> {
+/// Adds spaces.
+fn add_spaces(bytes: &mut Vec<u8>, count: usize) -> Result<(), AllocError> {
+    for _ in 0..count {
+        bytes.push(b' ')?;
+    }
+    Ok(())
+}
+
+/// Adds a text in which `[n]` stands for n spaces, but `[0]` for itself.
+fn add_spaced(bytes: &mut Vec<u8>, text: &str) -> Result<(), AllocError> {
     let mut pieces = text.split('[');
-    let mut bytes = pieces.next().unwrap_or("").as_bytes().to_vec(alloc)?;
+    bytes.extend_from_slice(pieces.next().unwrap_or("").as_bytes())?;
     for piece in pieces {
         match spaces(piece) {
             Some((count, rest)) => {
-                bytes.extend_from_slice(&vec![in alloc; b' '; count]?)?;
+                add_spaces(bytes, count)?;
                 bytes.extend_from_slice(rest.as_bytes())?;
             }
             None => {
@@ -76,7 +109,7 @@ fn spaced(alloc: Global, text: &str) -> Result<Vec<u8>, AllocError> {
             }
         }
     }
-    Ok(bytes)
+    Ok(())
 }
 
 /// Adds a line.
@@ -94,17 +127,14 @@ fn add_bytes(bytes: &mut Vec<u8>, line: &str) -> Result<(), AllocError> {
     Ok(())
 }
 
-/// The header of a sheet with this label, and the empty line below it.
-fn header(alloc: Global, label: &str) -> Result<Vec<u8>, AllocError> {
-    let mut bytes = Vec::new(alloc);
+/// Adds the header of a sheet with this label, and the empty line below it.
+fn add_header(bytes: &mut Vec<u8>, label: &str) -> Result<(), AllocError> {
     if !label.is_empty() {
-        let gap = vec![in alloc; b' '; 74usize.saturating_sub(label.len())]?;
-        bytes.extend_from_slice(gap.as_slice())?;
+        add_spaces(bytes, 74usize.saturating_sub(label.len()))?;
         bytes.extend_from_slice(label.as_bytes())?;
         bytes.push(b'.')?;
     }
-    add_line(&mut bytes, b"\n")?;
-    Ok(bytes)
+    add_line(bytes, b"\n")
 }
 
 /// How often a line stands there, and the line.
@@ -118,14 +148,13 @@ fn repeated(line: &str) -> (usize, &str) {
     }
 }
 
-/// A text that stands there so often.
-fn times(alloc: Global, line: &str) -> Result<Vec<u8>, AllocError> {
+/// Adds a line of a text that stands there so often.
+fn add_times(bytes: &mut Vec<u8>, line: &str) -> Result<(), AllocError> {
     let (count, text) = repeated(line);
-    let mut bytes = Vec::new(alloc);
     for _ in 0..count {
         bytes.extend_from_slice(text.as_bytes())?;
     }
-    Ok(bytes)
+    add_line(bytes, b"")
 }
 
 /// A call that fails.
@@ -162,14 +191,11 @@ fn told(alloc: Global, line: &str) -> Result<String, AllocError> {
 fn add_outcome(alloc: Global, case: &mut Case, kind: u8, line: &str) -> Result<(), AllocError> {
     let text = line.as_bytes();
     match kind {
-        b'#' => {
-            case.written.extend_from_slice(&header(alloc, line)?)?;
-        }
-        b'+' => {
-            case.written.extend_from_slice(&spaced(alloc, line)?)?;
-        }
+        b'#' => add_header(&mut case.written, line)?,
+        b'+' => add_spaced(&mut case.written, line)?,
         b'<' | b':' => {
-            add_line(&mut case.written, &spaced(alloc, line)?)?;
+            add_spaced(&mut case.written, line)?;
+            add_line(&mut case.written, b"")?;
         }
         b'=' => add_line(&mut case.script_kept, text)?,
         b'~' => add_line(&mut case.records_kept, text)?,
@@ -188,8 +214,8 @@ fn add(alloc: Global, case: &mut Case, kind: u8, line: &str) -> Result<(), Alloc
     match kind {
         b'$' => add_words(alloc, &mut case.words, line)?,
         b'|' => add_line(&mut case.script, text)?,
-        b'(' => add_line(&mut case.script, &times(alloc, line)?)?,
-        b')' => add_line(&mut case.commands, &times(alloc, line)?)?,
+        b'(' => add_times(&mut case.script, line)?,
+        b')' => add_times(&mut case.commands, line)?,
         b'^' => add_bytes(&mut case.script, line)?,
         b'"' => add_bytes(&mut case.commands, line)?,
         b'\'' => add_bytes(&mut case.other, line)?,

@@ -41,10 +41,19 @@ use std::marker::Model;
 
 /// A script, what was done to it and what was undone (docs/RULES.md, "The desk"). Contracts see the memory of the machine:
 /// the present state, and for each entry the whole state that it leads to.
-#[derive(Drop)]
 pub struct Desk {
     script: Script,
     journal: Journal<Entry>,
+}
+
+/// One call wherever it is dropped, so that no proof there follows each of its fields.
+impl Drop for Desk {
+    fn drop(self) {
+        let Desk {
+            script: _script,
+            journal: _journal,
+        } = self;
+    }
 }
 
 impl Model for Desk {

@@ -43,7 +43,6 @@ fn headings_of(element: &Element) -> usize
 /// Elements in the order of a text (docs/RULES.md, "Elements"): those of its title page, or those of its body. Beside the
 /// elements it keeps what page ends see of each row, each row's mark and its key, by the id of its line, and how many rows
 /// and headings stand before each element. All this but the elements stands round a gap.
-#[derive(Drop)]
 pub struct Body {
     elements: Vec<Element>,
     shapes: GapList<Shape>,
@@ -51,6 +50,20 @@ pub struct Body {
     keys: GapList<RowKey>,
     row_starts: GapPlaces,
     heading_starts: GapPlaces,
+}
+
+/// One call wherever it is dropped, so that no proof there follows each of its fields.
+impl Drop for Body {
+    fn drop(self) {
+        let Body {
+            elements: _elements,
+            shapes: _shapes,
+            marks: _marks,
+            keys: _keys,
+            row_starts: _row_starts,
+            heading_starts: _heading_starts,
+        } = self;
+    }
 }
 
 impl Model for Body {

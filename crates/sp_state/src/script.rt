@@ -46,7 +46,6 @@ use std::marker::Model;
 
 /// A script: its lines, their stanzas, its records, and what is made of them: the rows of its elements, its pages and its
 /// sheets (docs/RULES.md, "The desk" and "Sheets"). Contracts see the state alone.
-#[derive(Drop)]
 pub struct Script {
     lines: Lines,
     stanzas: Stanzas,
@@ -55,6 +54,20 @@ pub struct Script {
     made: Made,
     /// The first rows of its page records, where they are known.
     firsts: Option<Vec<usize>>,
+}
+
+/// One call wherever it is dropped, so that no proof there follows each of its fields.
+impl Drop for Script {
+    fn drop(self) {
+        let Script {
+            lines: _lines,
+            stanzas: _stanzas,
+            records: _records,
+            pages: _pages,
+            made: _made,
+            firsts: _firsts,
+        } = self;
+    }
 }
 
 impl Model for Script {
@@ -241,8 +254,8 @@ impl Script {
     }
 
     /// Undoes an edit by its entry, and answers the entry that does it again. No stanza is read, nothing laid out and no page
-    /// filled; sheets are made anew, and so are labels where a heading comes or goes. On an error there was no memory, nothing
-    /// is changed, and an entry of the same edit is handed back, which can be undone (docs/RULES.md, "The desk").
+    /// filled; sheets are made those of the new state, and so are labels where a heading comes or goes. On an error there was no
+    /// memory, nothing is changed, and an entry of the same edit is handed back, which can be undone (docs/RULES.md, "The desk").
     pub fn undo(&mut self, alloc: Global, entry: Entry) -> Result<Entry, Unturned>
         requires can { CanUndo self.old entry }
         requires whole { IsWhole (undone_state self.old entry) }
@@ -269,9 +282,9 @@ impl Script {
     }
 
     /// Does an edit again by the entry that undoing it left, and answers the entry that undoes it. No stanza is read, nothing
-    /// laid out and no page filled; sheets are made anew, and so are labels where a heading comes or goes. On an error there
-    /// was no memory, nothing is changed, and an entry of the same edit is handed back, which can be done again (docs/RULES.md,
-    /// "The desk").
+    /// laid out and no page filled; sheets are made those of the new state, and so are labels where a heading comes or goes. On
+    /// an error there was no memory, nothing is changed, and an entry of the same edit is handed back, which can be done again
+    /// (docs/RULES.md, "The desk").
     pub fn redo(&mut self, alloc: Global, entry: Entry) -> Result<Entry, Unturned>
         requires can { CanRedo self.old entry }
         requires whole { IsWhole (redone_state self.old entry) }
