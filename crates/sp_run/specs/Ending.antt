@@ -14,7 +14,7 @@ use Rattle.sp_opening.specs.Unopened.{Outside, WroteNothing}
 use Rattle.sp_show.specs.Showing.{ShowEnds}
 use Rattle.sp_show.specs.ShowCounted.{ShowCounts}
 use Rattle.sp_desk_session.specs.DeskEnding.{DeskEnds}
-use Rattle.sp_sample_session.specs.SampleCounts.{SampleFills, SampleFillsAtMost, SampleReads, SampleReadsAtMost}
+use Rattle.sp_sample.specs.SampleCounts.{SampleFills, SampleFillsAtMost, SampleReads, SampleReadsAtMost}
 use Rattle.sp_run.specs.RoomEnding.{RoomEnds}
 
 -- What the making of a sample counts: its opening and each of its commands. Where there is no memory, no more than that.

@@ -5,7 +5,7 @@ ghost use Rattle.sp_words.specs.Forms.{most_rooms};
 ghost use Rattle.sp_run.specs.Ending.{SampleEndsAs};
 
 use sp_kit::{Sink, Steps, write_whole};
-use sp_sample_session::run_sample;
+use sp_sample::run_sample;
 use sp_words::Status;
 use std::alloc::Global;
 

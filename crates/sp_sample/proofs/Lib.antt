@@ -1,1 +1,3 @@
+pub mod OpenedSamples
+pub mod SampleLaws
 pub mod ToldSamples

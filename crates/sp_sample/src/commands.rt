@@ -11,7 +11,7 @@ use std::alloc::{AllocError, Global};
 
 /// The commands of the session of a sample of so many rooms, in order (docs/RULES.md, "The sample"). `AllocError` comes for
 /// want of memory alone.
-pub fn sample_commands(alloc: Global, rooms: u32) -> Result<Vec<Command>, AllocError>
+pub(crate) fn sample_commands(alloc: Global, rooms: u32) -> Result<Vec<Command>, AllocError>
     ensures { IfOk result (λ commands. map command_of commands.items ≡ sample_commands rooms) }
 {
     let mut commands = Vec::new(alloc);

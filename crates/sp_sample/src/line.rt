@@ -16,7 +16,7 @@ use sp_state::Script;
 use std::alloc::{AllocError, Global};
 
 /// The line that tells of the script behind the session of a sample of so many rooms.
-pub fn state_line(alloc: Global, rooms: u32, script: &Script) -> Result<Vec<u8>, AllocError>
+pub(crate) fn state_line(alloc: Global, rooms: u32, script: &Script) -> Result<Vec<u8>, AllocError>
     ensures { IfOk result (λ line. line.items ≡ state_line rooms script.now) }
 {
     let digest = sheets_digest(alloc, script)?;

@@ -9,7 +9,7 @@ use std::alloc::{AllocError, Global};
 
 /// The script of a sample of so many rooms. Up to 2,000 rooms it keeps the limits, and reading it gives their lines
 /// (docs/RULES.md, "The sample"). `AllocError` comes for want of memory alone.
-pub fn sample_script(alloc: Global, rooms: u32) -> Result<Vec<u8>, AllocError>
+pub(crate) fn sample_script(alloc: Global, rooms: u32) -> Result<Vec<u8>, AllocError>
     ensures text { IfOk result (λ script. script.items ≡ sample_script rooms) }
     ensures reads { rooms ≤ 2000 → IfOk result (λ script. reading_of script.items ≡ lines (sample_lines rooms)) }
 {

@@ -4,7 +4,7 @@ use Rattle.sp_commands.specs.declared.reply.Reply.{Reply}
 use Rattle.sp_commands.specs.Values.{command_of}
 use Rattle.sp_desk.specs.declared.fault.DeskFault.{DeskFault}
 use Rattle.sp_desk.proofs.OutcomeLaws.{lacking-fills, lacking-reads, refused-fills, refused-reads, taken-fills, taken-reads}
-use Rattle.sp_sample_session.proofs.sample.answer.Goals as goal
+use Rattle.sp_sample.proofs.session.answer.Goals as goal
 
 pub returns-in-Ok-clause-reads : goal.returns-in-Ok-clause-reads
 returns-in-Ok-clause-reads g c =

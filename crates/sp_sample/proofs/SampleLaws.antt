@@ -8,7 +8,7 @@ use Rattle.sp_reread.specs.Cache.{RisesWithin}
 use Rattle.sp_reflow.specs.Filling.{FilledAtMost}
 use Rattle.sp_desk.proofs.Counting.{no-fills, no-reads}
 use Rattle.sp_desk.specs.Outcomes.{FillsAtMost, FillsOf, ReadsAtMost, ReadsOf}
-use Rattle.sp_sample_session.specs.SampleCounts.{CountsAlong, CountsUpTo}
+use Rattle.sp_sample.specs.SampleCounts.{CountsAlong, CountsUpTo}
 
 -- What holds where there is an answer, and where it is an error.
 pub on-ok : {T E : Type 0} {P : Type 0} (result : Result T E) → P → OnOk result P
@@ -18,6 +18,15 @@ on-ok (Err fault) holds = tt
 pub on-err : {T E : Type 0} {P : Type 0} (result : Result T E) → P → OnErr result P
 on-err (Ok value) holds = tt
 on-err (Err fault) holds = holds
+
+-- What follows from it.
+pub ok-then : {T E : Type 0} {P Q : Type 0} (result : Result T E) → OnOk result P → (P → Q) → OnOk result Q
+ok-then (Ok value) holds then = then holds
+ok-then (Err fault) holds then = tt
+
+pub err-then : {T E : Type 0} {P Q : Type 0} (result : Result T E) → OnErr result P → (P → Q) → OnErr result Q
+err-then (Ok value) holds then = tt
+err-then (Err fault) holds then = then holds
 
 pub none-risen : (most count : ℕ) → RisesWithin most count count
 none-risen most count = record { rise = 0; low = omega arith; counted = refl }

@@ -3,18 +3,20 @@ ghost use Rattle.std.specs.Prelude.{◌≡◌, ◌≤◌, fold, length, map, IfO
 ghost use Rattle.spec_script.specs.Stanzas.{stanzas_of};
 ghost use Rattle.spec_machine.specs.Machine.{opened_memory};
 ghost use Rattle.spec_locked_pages.specs.Segments.{pages_of};
-ghost use Rattle.spec_sample.specs.Sample.{sample_lines, sample_opened, sample_output, stepped};
+ghost use Rattle.spec_sample.specs.Sample.{sample_commands, sample_lines, sample_opened, sample_output, stepped};
 ghost use Rattle.sp_commands.specs.Values.{command_of};
 ghost use Rattle.sp_reread.specs.Cache.{RisesWithin, counted_on};
 ghost use Rattle.sp_reflow.specs.Filling.{FilledAtMost};
 ghost use Rattle.sp_reflow.specs.Starts.{many_more};
 ghost use Rattle.sp_desk.specs.Outcomes.{FillsAtMost, FillsOf, ReadsAtMost, ReadsOf};
-ghost use Rattle.sp_sample_session.specs.SampleCounts.{CountsAlong, CountsUpTo, SampleFills, SampleFillsAtMost, SampleReads, SampleReadsAtMost};
+ghost use Rattle.sp_sample.specs.SampleCounts.{CountsAlong, CountsUpTo, SampleFills, SampleFillsAtMost, SampleReads, SampleReadsAtMost};
 
+use crate::commands::sample_commands;
+use crate::line::state_line;
+use crate::script::sample_script;
 use sp_commands::Command;
 use sp_desk::{Desk, DeskFault};
 use sp_kit::Steps;
-use sp_sample::{sample_commands, sample_script, state_line};
 use sp_text::{Lines, TextFault};
 use std::alloc::{AllocError, Global};
 
@@ -29,9 +31,7 @@ pub fn run_sample<S: Steps>(alloc: Global, rooms: u32, steps: &mut S) -> Result<
     ensures fills_at_most { OnErr result (SampleFillsAtMost rooms (S.fills steps.old) (S.fills steps.new)) }
 {
     let mut desk = open_sample(alloc, rooms, steps)?;
-    let commands = sample_commands(alloc, rooms)?;
-    answer_all(alloc, &mut desk, commands, steps)?;
-    state_line(alloc, rooms, desk.script())
+    hold_sample(alloc, rooms, &mut desk, steps)
 }
 
 /// The desk of the script of a sample, which keeps the limits.
@@ -49,6 +49,25 @@ fn open_sample<S: Steps>(alloc: Global, rooms: u32, steps: &mut S) -> Result<Des
         Err(TextFault::NoMemory) => Err(AllocError),
         Err(TextFault::TextFull | TextFault::NotUtf8(_) | TextFault::LineFull(_)) => unreachable!(),
     }
+}
+
+/// The line that tells of a sample whose desk was opened, once each command of its session is answered there.
+fn hold_sample<S: Steps>(
+    alloc: Global,
+    rooms: u32,
+    desk: &mut Desk,
+    steps: &mut S,
+) -> Result<Vec<u8>, AllocError>
+    requires { desk.old ≡ opened_memory (sample_opened rooms) }
+    ensures line { IfOk result (λ line. line.items ≡ sample_output rooms) }
+    ensures reads { OnOk result (CountsAlong ReadsOf (opened_memory (sample_opened rooms)) (sample_commands rooms) (S.reads steps.old) (S.reads steps.new)) }
+    ensures fills { OnOk result (CountsAlong FillsOf (opened_memory (sample_opened rooms)) (sample_commands rooms) (S.fills steps.old) (S.fills steps.new)) }
+    ensures reads_at_most { OnErr result (CountsUpTo ReadsOf ReadsAtMost (opened_memory (sample_opened rooms)) (sample_commands rooms) (S.reads steps.old) (S.reads steps.new)) }
+    ensures fills_at_most { OnErr result (CountsUpTo FillsOf FillsAtMost (opened_memory (sample_opened rooms)) (sample_commands rooms) (S.fills steps.old) (S.fills steps.new)) }
+{
+    let commands = sample_commands(alloc, rooms)?;
+    answer_all(alloc, desk, commands, steps)?;
+    state_line(alloc, rooms, desk.script())
 }
 
 /// Answers commands, one after another.

@@ -7,9 +7,9 @@ use Rattle.spec_locked_pages.specs.Segments.{pages_of}
 use Rattle.sp_reread.specs.Cache.{RisesWithin, counted_on}
 use Rattle.sp_reflow.specs.Filling.{FilledAtMost}
 use Rattle.sp_reflow.specs.Starts.{many_more}
-use Rattle.sp_sample_session.proofs.OpenedSamples.{opening}
-use Rattle.sp_sample_session.proofs.SampleLaws.{none-filled, none-risen}
-use Rattle.sp_sample_session.proofs.sample.open_sample.Goals as goal
+use Rattle.sp_sample.proofs.OpenedSamples.{opening}
+use Rattle.sp_sample.proofs.SampleLaws.{none-filled, none-risen}
+use Rattle.sp_sample.proofs.session.open_sample.Goals as goal
 
 pub new-requires-clause-read : goal.new-requires-clause-read
 new-requires-clause-read g c = (opening c.args.rooms c.in_ok-script.script.items c.as_slice.result.now c.in-Ok.lines c.as_slice.ensures.value (c.in_ok-script.ensures.reads c.requires) c.in-Ok.ensures).read

@@ -4,8 +4,8 @@ use Rattle.std.specs.Vec.Iter.{into_iter_items}
 use Rattle.spec_sample.specs.Sample.{stepped}
 use Rattle.sp_commands.specs.Values.{command_of}
 use Rattle.sp_desk.specs.Outcomes.{FillsAtMost, FillsOf, ReadsAtMost, ReadsOf}
-use Rattle.sp_sample_session.specs.SampleCounts.{CountsAlong, CountsUpTo}
-use Rattle.sp_sample_session.proofs.sample.answer_all.Given as goal
+use Rattle.sp_sample.specs.SampleCounts.{CountsAlong, CountsUpTo}
+use Rattle.sp_sample.proofs.session.answer_all.Given as goal
 
 abbrev pub invariant-loop-command : goal.invariant-loop-command
 invariant-loop-command g l =
