@@ -19,15 +19,6 @@ pub on-err : {T E : Type 0} {P : Type 0} (result : Result T E) → P → OnErr r
 on-err (Ok value) holds = tt
 on-err (Err fault) holds = holds
 
--- What follows from it.
-pub ok-then : {T E : Type 0} {P Q : Type 0} (result : Result T E) → OnOk result P → (P → Q) → OnOk result Q
-ok-then (Ok value) holds then = then holds
-ok-then (Err fault) holds then = tt
-
-pub err-then : {T E : Type 0} {P Q : Type 0} (result : Result T E) → OnErr result P → (P → Q) → OnErr result Q
-err-then (Ok value) holds then = tt
-err-then (Err fault) holds then = then holds
-
 pub none-risen : (most count : ℕ) → RisesWithin most count count
 none-risen most count = record { rise = 0; low = omega arith; counted = refl }
 
