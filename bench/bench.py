@@ -1,7 +1,7 @@
 """Times `print` on scripts of 1, 2, 4, 8 and 16 MiB, beside `fold -s -w 60 FILE | pr -l 57` on the same file in the same run,
 and on scripts of 25,000 to 200,000 lines that a careless reader is slow on; and sessions of `desk` on scripts of 2,000 to
-200,000 lines: the opening, a splice and an undo; and of many edits and undos of 200,000 lines, and the large sample, beside `print` of
-them.
+200,000 lines: the opening, a splice and an undo; of many edits and undos of 200,000 lines, and the large sample, beside `print` of
+them; of locks, rounds and saves; and `cast`, `collate` beside `cat`, and a room beside `desk`.
 
 For each kind of script and each size it prints the time of `print`, MB/s, the peak memory over the size of the input, how
 much longer it took than at half the size, the ratio to `fold | pr`, and that of `html` to `print`. Each time is the least of several runs.
@@ -207,33 +207,25 @@ def session_peak(path, commands):
 
 
 def main():
+    others = {
+        "session": time_sessions, "edits": time_edits, "sample": time_sample, "locks": time_locks, "cast": time_cast, "collate": time_collate, "room": time_rooms,
+    }
     parser = argparse.ArgumentParser()
-    parser.add_argument("--kind", choices=sorted([*KINDS, *LINES, "session", "edits", "sample", "locks", "cast", "collate", "room"]), action="append")
+    parser.add_argument("--kind", choices=sorted([*KINDS, *LINES, *others]), action="append")
     parser.add_argument("--runs", type=int, default=5)
     parser.add_argument("--most", type=int, default=16)
     options = parser.parse_args()
     subprocess.run([TOP / "run", "print"], stdin=subprocess.DEVNULL, check=True)
-    kinds = options.kind or [*KINDS, *LINES, "session", "edits", "sample", "locks", "cast", "collate", "room"]
+    kinds = options.kind or [*KINDS, *LINES, *others]
     with tempfile.TemporaryDirectory() as folder:
         folder = pathlib.Path(folder)
         if sizes := [kind for kind in kinds if kind in KINDS]:
             time_sizes(folder, sizes, options)
         if lines := [kind for kind in kinds if kind in LINES]:
             time_lines(folder, lines, options)
-        if "session" in kinds:
-            time_sessions(folder, options)
-        if "edits" in kinds:
-            time_edits(folder, options)
-        if "sample" in kinds:
-            time_sample(folder, options)
-        if "locks" in kinds:
-            time_locks(folder, options)
-        if "cast" in kinds:
-            time_cast(folder, options)
-        if "collate" in kinds:
-            time_collate(folder, options)
-        if "room" in kinds:
-            time_rooms(folder, options)
+        for kind, time_kind in others.items():
+            if kind in kinds:
+                time_kind(folder, options)
 
 
 def growth(before, seconds):
@@ -341,7 +333,7 @@ def time_cast(folder, options):
     """Times the sides of speeches by many names, and of one name in many scenes, by the number of lines."""
     scripts = {
         "names": lambda speeches: "".join(f"@NAME {i % (speeches // 10)}\n\n" for i in range(speeches)),
-        "scenes": lambda speeches: "".join(f".A\n\n@ANNA\n\n" for _ in range(speeches // 2)),
+        "scenes": lambda speeches: "".join(".A\n\n@ANNA\n\n" for _ in range(speeches // 2)),
     }
     print(f"{'kind':10} {'lines':>7} {'cast s':>9} {'growth':>7} {'/ print':>8}")
     for kind, text in scripts.items():

@@ -4,14 +4,11 @@ over a copy of its script, one that is marked `again` over what the one before i
 import pathlib
 import re
 import shutil
-import subprocess
 import sys
 import tempfile
 
+from program import PROGRAM, TOP, faults_of
 from report import tell
-
-TOP = pathlib.Path(__file__).resolve().parent.parent
-PROGRAM = TOP / "crates/fountain_cli/out/fountain_cli"
 
 
 def sessions():
@@ -26,13 +23,7 @@ def faults_in(folder):
         if mark != "again":
             shutil.copy(TOP / script, folder / "script")
             (folder / "script.desk").unlink(missing_ok=True)
-        run = subprocess.run([PROGRAM, "room" if mark == "room" else "desk", "script"], input="".join(f"{command}\n" for command in commands).encode(), capture_output=True, cwd=folder)
-        told = run.stdout.decode().splitlines()
-        if run.returncode or len(told) != len(replies):
-            yield f"a session of {script} ends with {run.returncode} after {len(told)} replies of {len(replies)}"
-        for command, expected, reply in zip(commands, replies, told):
-            if reply != expected:
-                yield f"{script}: {command} is answered {reply}"
+        yield from faults_of(script, folder, "room" if mark == "room" else "desk", commands, replies)
 
 
 def faults():

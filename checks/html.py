@@ -11,10 +11,9 @@ import tempfile
 import urllib.parse
 import zlib
 
+from program import PROGRAM, TOP
 from report import tell
 
-TOP = pathlib.Path(__file__).resolve().parent.parent
-PROGRAM = TOP / "crates/fountain_cli/out/fountain_cli"
 BROWSER = ["chromium", "--headless", "--no-sandbox", "--disable-gpu", "--hide-scrollbars"]
 # A script whose first sheet of the body is drawn, and the size of the picture.
 DRAWN = TOP / "examples/the-last-broadcast.fountain"

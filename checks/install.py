@@ -7,13 +7,12 @@ import subprocess
 import sys
 import tempfile
 
+from program import PROGRAM, TOP
 from report import tell
 
-TOP = pathlib.Path(__file__).resolve().parent.parent
-PROGRAM = TOP / "crates/fountain_cli/out/fountain_cli"
 SCRIPT = TOP / "examples/the-lighthouse.fountain"
 PLACES = {
-    "bin/fountain", "share/man/man1/fountain.1", "share/bash-completion/completions/fountain", "share/doc/fountain/GUIDE.md",
+    "bin/fountain", "share/man/man1/fountain.1", "share/bash-completion/completions/fountain", "share/doc/fountain/docs/GUIDE.md",
 }
 # What ldd tells of a program that needs the C library alone.
 OF_LIBC = {"linux-vdso.so.1", "libc.so.6", "libm.so.6", "/lib64/ld-linux-x86-64.so.2"}

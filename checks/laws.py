@@ -261,7 +261,7 @@ def faults(first, count, counts):
 def main():
     if not PROGRAM.exists():
         return tell("laws", "no session was held", ["the program isn't built"])
-    first, count = map(int, sys.argv[1:]) if len(sys.argv) > 1 else (0, 100)
+    first, count = map(int, sys.argv[1:]) if len(sys.argv) > 1 else (0, MANY)
     counts = collections.Counter()
     found = list(faults(first, count, counts))
     if count >= MANY:

@@ -7,10 +7,9 @@ import subprocess
 import sys
 import tempfile
 
+from program import PROGRAM, TOP
 from report import tell
 
-TOP = pathlib.Path(__file__).resolve().parent.parent
-PROGRAM = TOP / "crates/fountain_cli/out/fountain_cli"
 MAKER = TOP / "examples/print-to-pdf"
 PACKAGES = {
     "ps2pdf": "ghostscript", "paps": "paps", "enscript": "enscript", "pdftotext": "poppler-utils", "pdftoppm": "poppler-utils",

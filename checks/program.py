@@ -19,6 +19,17 @@ def lines_of(*commands):
     return b"".join((command if isinstance(command, bytes) else json.dumps(command).encode()) + b"\n" for command in commands)
 
 
+def faults_of(title, folder, form, commands, replies):
+    """Where a session of a form over `script` of a folder is answered in another way than it is written."""
+    ran = subprocess.run([PROGRAM, form, "script"], cwd=folder, input="".join(f"{command}\n" for command in commands).encode(), capture_output=True)
+    told = ran.stdout.decode().splitlines()
+    if ran.returncode or len(told) != len(replies):
+        yield f"{title} ends with {ran.returncode} after {len(told)} replies of {len(replies)}"
+    for command, expected, reply in zip(commands, replies, told):
+        if reply != expected:
+            yield f"{title}: {command} is answered {reply}"
+
+
 class Session:
     """A session of `desk` over a script of a folder."""
 

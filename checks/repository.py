@@ -1,5 +1,5 @@
 """Checks of the repository that no proof makes: the one line of HANDLES, the sizes of files, the sections that comments
-cite, the names of definitions, calls, tests, checks and edits that the documents cite, that crates have edits that must fail, and
+cite, the names of definitions, calls, clauses, tests, checks and edits that the documents cite, that crates have edits that must fail, and
 that each file of cases is run."""
 
 import pathlib
@@ -16,8 +16,8 @@ LEAST_EDITS = 3
 NO_EDITS = ("sp_case", "sp_cases", "sp_commands")
 
 
-def sources(*endings):
-    for path in sorted(CRATES.rglob("*")):
+def sources(*endings, below=CRATES):
+    for path in sorted(below.rglob("*")):
         if path.suffix in endings and "out" not in path.relative_to(CRATES).parts:
             yield path
 
@@ -56,6 +56,26 @@ def names():
                 yield f"docs/{document} cites `{cited}`, which no source has"
 
 
+def contracts(crate):
+    """The calls of a crate, each with its contract."""
+    for path in (CRATES / crate / "src").rglob("*.rt"):
+        for found in re.finditer(r"\bfn (\w+).*?(?:\{\n|;\n)", path.read_text(), re.S):
+            yield found[1], found[0]
+
+
+def clauses():
+    """In the tables of docs/PROMISES.md each word behind a call is one of its contract, and each behind a type or a crate a call, a clause or
+    a definition of the crate's contracts, but for those behind `with`."""
+    for crate, call, words in re.findall(r"`(sp_\w+)((?:::\w+)*)`: ([^;|]*)", (TOP / "docs/PROMISES.md").read_text()):
+        name = call.split("::")[-1]
+        is_call = name[:1].islower()
+        word_of = r"\b(\w+)" if is_call else r"(?:\bfn |\bensures |\b(?=[A-Z]))(\w+)"
+        known = {word for of, text in contracts(crate) if of == name or not is_call for word in re.findall(word_of, text)}
+        for word in re.findall(r"`(\w+)`", re.sub(r"\blaws? .*| with .*?(?=, `|$)", "", words)):
+            if word not in known:
+                yield f"docs/PROMISES.md cites {word} of {crate}{call}, whose contract hasn't it"
+
+
 def edits():
     for line in (TOP / "crates.txt").read_text().splitlines():
         name = line.split(":")[0]
@@ -77,7 +97,7 @@ def cases():
 
 
 def main():
-    checks = [handles, sizes, sections, names, edits, cases]
+    checks = [handles, sizes, sections, names, clauses, edits, cases]
     return tell("checks", f"{len(checks)} checks", [fault for check in checks for fault in check()])
 
 

@@ -14,14 +14,12 @@ import tempfile
 import threading
 import time
 
-from program import PROGRAM
+from program import PROGRAM, SECONDS, TOP
 from report import tell
 
-TOP = pathlib.Path(__file__).resolve().parent.parent
 SHARE = TOP / "examples/share-room"
 LINES = 40
 EDITS = 150
-SECONDS = 60
 
 
 class Seat:

@@ -6,14 +6,11 @@ behind `< `. The replies were worked out from the rules apart from this program.
 
 import pathlib
 import re
-import subprocess
 import sys
 import tempfile
 
+from program import PROGRAM, TOP, faults_of
 from report import tell
-
-TOP = pathlib.Path(__file__).resolve().parent.parent
-PROGRAM = TOP / "crates/fountain_cli/out/fountain_cli"
 
 
 def sessions():
@@ -24,21 +21,11 @@ def sessions():
             yield title, told["|"], told[">"], told["<"]
 
 
-def replies_of(script, commands):
-    with tempfile.TemporaryDirectory() as folder:
-        (pathlib.Path(folder) / "script").write_text("".join(f"{line}\n" for line in script))
-        run = subprocess.run([PROGRAM, "desk", "script"], input="".join(f"{command}\n" for command in commands).encode(), capture_output=True, cwd=folder)
-    return run.returncode, run.stdout.decode().splitlines()
-
-
 def faults():
     for title, script, commands, replies in sessions():
-        status, told = replies_of(script, commands)
-        if status or len(told) != len(replies):
-            yield f"{title} ends with {status} after {len(told)} replies of {len(replies)}"
-        for command, expected, reply in zip(commands, replies, told):
-            if reply != expected:
-                yield f"{title} {command} is answered {reply}"
+        with tempfile.TemporaryDirectory() as folder:
+            (pathlib.Path(folder) / "script").write_text("".join(f"{line}\n" for line in script))
+            yield from faults_of(title, folder, "desk", commands, replies)
 
 
 def main():
