@@ -1,9 +1,10 @@
 -- The members of a record file, put into an object (docs/RULES.md, "Record file").
 use Rattle.std.specs.Prelude.{ℕ, List, map, codes}
 use Rattle.serde_json.specs.Data.{string, Members, put}
+use Rattle.spec_jsonback.specs.Lists.{number_data, list_data}
 use Rattle.spec_text.specs.Lines.{LineState}
 use Rattle.spec_records.specs.Kept.{RecordsOf}
-use Rattle.spec_records.specs.RecordFile.{digest_of, number_data, list_data, optional_data, scene_data, page_data, settings_data}
+use Rattle.spec_records.specs.RecordFile.{digest_of, optional_data, scene_data, page_data, settings_data}
 
 -- With the digest, the format, the ids, the marks and the next id.
 abbrev pub with_text : List LineState → ℕ → Members → Members

@@ -2,7 +2,7 @@
 ghost use Rattle.std.specs.Prelude.{◌≡◌, string_bytes, IfOk};
 ghost use Rattle.serde_json.specs.Data.{string, no_members, member};
 ghost use Rattle.serde_json.specs.View.{members_view};
-ghost use Rattle.spec_wire.specs.Json.{number_data};
+ghost use Rattle.spec_jsonback.specs.Lists.{number_data};
 
 use serde_json::{Map, Value, put};
 use std::alloc::{AllocError, Global};

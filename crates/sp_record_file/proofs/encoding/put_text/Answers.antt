@@ -3,7 +3,7 @@ use Rattle.std.specs.Prelude.{codes}
 use Rattle.std.proofs.lemmas.Result.{on_ok_weaker}
 use Rattle.serde_json.specs.Data.{string, put}
 use Rattle.serde_json.specs.View.{members_view}
-use Rattle.spec_records.specs.RecordFile.{number_data}
+use Rattle.spec_jsonback.specs.Lists.{number_data}
 use Rattle.sp_record_file.proofs.encoding.put_text.Goals as goal
 
 pub returns-clause-members : goal.returns-clause-members

@@ -1,6 +1,6 @@
 use Rattle.std.proofs.Common.{sym, ◌∙◌}
 use Rattle.serde_json.specs.View.{view}
-use Rattle.spec_records.specs.Fields.{number_in}
+use Rattle.spec_jsonback.specs.Lists.{number_in}
 use Rattle.sp_record_file.proofs.Lists.{all-more}
 use Rattle.sp_record_file.proofs.reading.numbers_of.Goals as goal
 

@@ -4,7 +4,7 @@ use Rattle.serde_json.specs.Data.{Data, array}
 use Rattle.serde_json.proofs.Views.{view-Array}
 use Rattle.serde_json.specs.View.{view, items_of}
 use Rattle.spec_text.specs.Lines.{LineState}
-use Rattle.spec_records.specs.RecordFile.{number_data}
+use Rattle.spec_jsonback.specs.Lists.{number_data}
 use Rattle.sp_record_file.proofs.Lists.{values-more, map-twice}
 use Rattle.sp_record_file.proofs.writing.ids_value.Goals as goal
 

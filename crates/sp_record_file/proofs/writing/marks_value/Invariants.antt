@@ -1,7 +1,7 @@
 use Rattle.std.proofs.Common.{◌≡◌, take, map}
 use Rattle.serde_json.specs.View.{view}
 use Rattle.spec_text.specs.Lines.{LineState}
-use Rattle.spec_records.specs.RecordFile.{number_data}
+use Rattle.spec_jsonback.specs.Lists.{number_data}
 use Rattle.sp_record_file.proofs.writing.marks_value.Given as goal
 
 abbrev pub invariant-loop-i : goal.invariant-loop-i

@@ -1,6 +1,6 @@
 use Rattle.std.proofs.Common.{refl}
 use Rattle.serde_json.specs.View.{view}
-use Rattle.spec_wire.specs.Json.{number_data}
+use Rattle.spec_jsonback.specs.Lists.{number_data}
 use Rattle.sp_wire.proofs.Lists.{items-more}
 use Rattle.sp_wire.proofs.writing.numbers_value.Goals as goal
 
