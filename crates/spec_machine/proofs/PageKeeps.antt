@@ -14,7 +14,7 @@ use Rattle.spec_labels.proofs.PageRecordLaws.{carried-label, carried-labels}
 use Rattle.spec_labels.proofs.SceneLabels.{AllPairs-head, AllPairs-tail}
 use Rattle.spec_labels.proofs.SheetLaws.{page_label-later}
 use Rattle.spec_records.specs.Bounds.{locked_step_limit, IsBounded}
-use Rattle.spec_records.proofs.BoundLaws.{between-Bounded}
+use Rattle.spec_records.proofs.BoundLaws.{between-Bounded, IsBounded-weaker}
 use Rattle.spec_labels.specs.Spots.{Spot, AtMost}
 use Rattle.spec_text.specs.Ranges.{RangeOf}
 use Rattle.spec_text.specs.EditedLines.{HasIds}
@@ -219,13 +219,10 @@ numbered-pages round next lines keys rows pages ids are present low marks paged 
 
 -- ---- the next round
 
-bounded-more : {records more steps longer : ℕ} {it : LabelOf} → records ≤ more → steps ≤ longer → IsBounded records steps it → IsBounded more longer it
-bounded-more fewer shorter bounded = let n = bounded.number in let s = bounded.short in record { number = omega (arith, fewer, n); step = bounded.step; short = omega (arith, shorter, s) }
-
 page-more : (count more round : ℕ) (lines : List LineState) (it : PageRecordOf) → count ≤ more → IsPageKept count round lines it → IsPageKept more (round + 1) lines it
 page-more count more round lines it less is = record {
   above = is.above;
-  bounded = bounded-more less (omega arith) is.bounded;
+  bounded = IsBounded-weaker less (omega arith) is.bounded;
   anchored = is.anchored;
   low = is.low;
   last = (let l = is.last in omega (arith, l));
@@ -255,7 +252,7 @@ pages-kept count more round lines keys own m (page ∷ later) present low is nex
     (row-kept more (round + 1) lines keys (page_sheet own m page later) present low (All-head (λ p. p < length keys) page later inside) (omega (arith, last))
     (subst (Below (plain_label 0)) here (Below-transitive is.above (between-above own.owner.label own.next m some)))
     (subst (IsBounded more (16 + (round + 1))) here
-    (bounded-more (omega (arith, few)) (omega arith) (between-Bounded count (16 + round) own.owner.label own.next m (omega (arith, few, most)) is.bounded next.follows next.short))))
+    (IsBounded-weaker (omega (arith, few)) (omega arith) (between-Bounded count (16 + round) own.owner.label own.next m (omega (arith, few, most)) is.bounded next.follows next.short))))
     (pages-kept count more round lines keys own (m + 1) later present low is next (omega arith) (omega (arith, few)) most (All-tail (λ p. p < length keys) page later inside))
 
 overflow-kept : (count more round : ℕ) (lines : List LineState) (keys : List RowKey) (pages : List ℕ) (own : SegmentOf) → ArePresent lines keys → LowKeys keys → IsPageKept count round lines own.owner

@@ -10,9 +10,9 @@ use Rattle.spec_labels.proofs.HeadingLabels.{length-unlocked_labels}
 use Rattle.spec_labels.proofs.RecordsOf.{lines-All, length-records_of}
 use Rattle.spec_labels.proofs.LockedRecords.{locked_records-kept}
 use Rattle.spec_labels.proofs.ExtendedRecords.{extended_records-kept}
-use Rattle.spec_records.specs.Bounds.{locked_step_limit, IsBounded}
+use Rattle.spec_records.specs.Bounds.{locked_step_limit}
 use Rattle.spec_records.specs.Kept.{AreKeptScenes}
-use Rattle.spec_records.proofs.BoundLaws.{AreBounded, HasLowSteps, locked_records-Bounded, extended_records-Bounded}
+use Rattle.spec_records.proofs.BoundLaws.{AreBounded, HasLowSteps, locked_records-Bounded, extended_records-Bounded, IsBounded-weaker}
 use Rattle.spec_state.proofs.HeadingLaws.{HasLetters}
 use Rattle.spec_state.proofs.SoundLaws.{kept-records}
 
@@ -27,9 +27,6 @@ low-steps heading has = record { low = by heading.number has.low }
 pub record AreBelow (next : ℕ) (headings : List HeadingOf) : Type 0 where
   pub all : All (λ (h : HeadingOf). h.id < next) headings
 
-bounded-weaker : {records more steps longer : ℕ} {it : LabelOf} → records ≤ more → steps ≤ longer → IsBounded records steps it → IsBounded more longer it
-bounded-weaker fewer shorter bounded = let n = bounded.number in let s = bounded.short in record { number = omega (arith, fewer, n); step = bounded.step; short = omega (arith, shorter, s) }
-
 -- The records of a lock.
 pub locked-kept : (next steps : ℕ) (headings : List HeadingOf) → AreHeadings headings → All HasLetters headings → AreBelow next headings → unlockable_place headings ≡ None → disordered_place headings ≡ None
     → length headings ≤ scene_record_limit → scene_step_limit ≤ steps → AreKeptScenes next steps (locked_records headings)
@@ -42,7 +39,7 @@ locked-kept next steps headings known letters low form order few long =
       locked = λ k d h. record {
         is_label = kept.labels k d h;
         above = kept.above k d h;
-        bounded = bounded-weaker (omega (arith, count)) long (bounded.all k d h);
+        bounded = IsBounded-weaker (omega (arith, count)) long (bounded.all k d h);
       };
       rising = kept.rising;
       distinct = kept.distinct;
@@ -69,7 +66,7 @@ extended-kept next steps longer records headings are known low few long =
       locked = λ k d h. record {
         is_label = kept.labels k d h;
         above = kept.above k d h;
-        bounded = bounded-weaker (omega arith) long (bounded.all k d h);
+        bounded = IsBounded-weaker (omega arith) long (bounded.all k d h);
       };
       rising = kept.rising;
       distinct = kept.distinct;
