@@ -80,8 +80,8 @@ labels_since-above records since (None ∷ later) are within =
 locked_labels-above : (records : List SceneRecordOf) (headings : List HeadingOf) → AreSceneRecords records → All (Below (plain_label 0)) (locked_labels records headings)
 locked_labels-above records headings are = labels_since-above records 0 (record_places records headings) are (record_places-Within records headings)
 
--- Their numbers pass those of the records by no more than there are new headings.
-abbrev new_count : List (Option ℕ) → ℕ
+-- How many headings are new. The numbers of the labels pass those of the records by no more.
+abbrev pub new_count : List (Option ℕ) → ℕ
 new_count [] = 0
 new_count (Some place ∷ later) = new_count later
 new_count (None ∷ later) = new_count later + 1
@@ -142,11 +142,14 @@ length-new records (heading ∷ headings) (label ∷ labels) same = by (record_p
     by None count = omega (arith, count)
     by (Some place) count = count
 
+pub length-new_records : (records : List SceneRecordOf) (headings : List HeadingOf) → length (new_records records headings) ≡ new_count (record_places records headings)
+length-new_records records headings = length-new records headings (locked_labels records headings) (length-locked_labels records headings)
+
 pub extended_records-within : (limit : ℕ) (records : List SceneRecordOf) (headings : List HeadingOf) → AreWithin limit records → AreWithin limit (extended_records records headings)
 extended_records-within limit records headings are =
     let top : ℕ = limit + length (extended_records records headings) in
     let count : length (extended_records records headings) ≡ length records + length (new_records records headings) = length-extended_records records headings in
-    let new : length (new_records records headings) ≡ new_count (record_places records headings) = length-new records headings (locked_labels records headings) (length-locked_labels records headings) in
+    let new : length (new_records records headings) ≡ new_count (record_places records headings) = length-new_records records headings in
     record {
       low =
           extended-All (IsLow top) records headings

@@ -102,7 +102,7 @@ below-path number other path steps same less =
     record { less = ap (λ (o : Ordering). ordering_then o (slice_cmp nat_cmp path steps)) (sym (nat_cmp_is number other Equal same)) ∙ less }
 
 -- What stands behind a label in one that is above it and goes on behind it: some steps, which end above 0.
-rest-ends : (low high : LabelOf) → Below low high → IsLabel high → low.number ≡ high.number → high.path ≡ low.path ++ drop (length low.path) high.path
+pub rest-ends : (low high : LabelOf) → Below low high → IsLabel high → low.number ≡ high.number → high.path ≡ low.path ++ drop (length low.path) high.path
     → (0 < length (drop (length low.path) high.path)) × IfSome (last_step (drop (length low.path) high.path)) (λ step. 0 < step)
 rest-ends low high below label number path = by (drop (length low.path) high.path) path
   where
