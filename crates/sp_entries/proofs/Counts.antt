@@ -1,28 +1,19 @@
 -- Headings and their labels, rows and records.
-use Rattle.std.proofs.Common.{◌≡◌, ℕ, suc, ◌+◌, Bool, true, false, cond, Option, Some, None, List, [], ◌∷◌, ◌++◌, length, map, filter, refl, ap, ◌∙◌, arith}
-use Rattle.std.specs.Prelude.{All, AllPairs, unwrap_or, IfSome}
-use Rattle.std.proofs.lemmas.List.{length-map}
+use Rattle.std.proofs.Common.{◌≡◌, ℕ, ◌+◌, Bool, true, false, cond, Option, Some, None, List, [], ◌∷◌, ◌++◌, length, map, filter, refl, ap, ◌∙◌, arith}
+use Rattle.std.specs.Prelude.{All, AllPairs, IfSome}
 use Rattle.std.proofs.lemmas.List.Elements.{All-nil, All-cons, All-head, All-tail}
 use Rattle.std.proofs.lemmas.List.Kept.{AllPairs-filter, AllPairs-cons}
 use Rattle.spec_text.proofs.ListLaws.{pairs-head, pairs-tail}
-use Rattle.spec_labels.specs.Labels.{LabelOf, plain_label, Below}
-use Rattle.spec_labels.specs.Scenes.{HeadingOf, SceneRecordOf, AreSceneRecords, numbers_after, labels_since, record_place, record_places, scene_labels}
+use Rattle.spec_labels.specs.Labels.{LabelOf, Below}
+use Rattle.spec_labels.specs.Scenes.{HeadingOf, SceneRecordOf, AreSceneRecords, scene_labels}
+use Rattle.spec_labels.proofs.HeadingLabels.{length-unlocked_labels, length-locked_labels}
 use Rattle.spec_pages.specs.declared.Shape.{Shape}
 use Rattle.spec_machine.specs.Outlines.{begins_heading, heading_rows, is_gone, gone_labels}
 
-length-after : (before : ℕ) (headings : List HeadingOf) → length (numbers_after before headings) ≡ length headings
-length-after before [] = refl
-length-after before (heading ∷ later) = ap suc (length-after (unwrap_or heading.number (plain_label (before + 1))).number later)
-
-length-since : (records : List SceneRecordOf) (since : ℕ) (places : List (Option ℕ)) → length (labels_since records since places) ≡ length places
-length-since records since [] = refl
-length-since records since (Some place ∷ later) = ap suc (length-since records 0 later)
-length-since records since (None ∷ later) = ap suc (length-since records (since + 1) later)
-
 -- Each heading has one label.
 pub label-count : (headings : List HeadingOf) (scenes : Option (List SceneRecordOf)) → length (scene_labels headings scenes) ≡ length headings
-label-count headings None = length-after 0 headings
-label-count headings (Some records) = length-since records 0 (record_places records headings) ∙ length-map headings (record_place records)
+label-count headings None = length-unlocked_labels headings
+label-count headings (Some records) = length-locked_labels records headings
 
 -- One more row.
 pub heading_rows-push : (row : ℕ) (shapes : List Shape) (shape : Shape) → heading_rows row (shapes ++ shape ∷ []) ≡ heading_rows row shapes ++ cond (begins_heading shape) ((row + length shapes) ∷ []) []
