@@ -74,7 +74,7 @@ reading_of-text_bytes text is =
     read ∙ ap reading_of_texts (texts_of-text_bytes text.lines is.clean) ∙ ap (λ (o : Option ℕ). unwrap_or (option_map line_full o) whole) short ∙ ap (λ b. cond b text_full (all_lines texts)) fits
 
 -- The texts of lines that were read.
-texts-from : (id : ℕ) (texts : List (List ℕ)) → line_texts (lines_from id texts) ≡ texts
+pub texts-from : (id : ℕ) (texts : List (List ℕ)) → line_texts (lines_from id texts) ≡ texts
 texts-from id [] = refl
 texts-from id (text ∷ texts) = ap (λ (ts : List (List ℕ)). text ∷ ts) (texts-from (id + 1) texts)
 

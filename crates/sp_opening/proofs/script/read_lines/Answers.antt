@@ -1,15 +1,11 @@
-use Rattle.std.proofs.Common.{◌≡◌, ℕ, ◌+◌, List, [], ◌∷◌, length, ap, sym, ◌∙◌, refl}
+use Rattle.std.proofs.Common.{◌≡◌, ℕ, List, length, ap, sym, ◌∙◌}
 use Rattle.std.proofs.lemmas.List.{length-map}
-use Rattle.spec_text.specs.Lines.{LineState, lines, reading_of, lines_from, read_lines, line_texts}
+use Rattle.spec_text.specs.Lines.{LineState, lines, reading_of, read_lines, line_texts}
 use Rattle.sp_text.specs.Gap.{LinesState}
 use Rattle.sp_text.specs.Reading.{IsRead}
 use Rattle.sp_opening.specs.Unopened.{HasLines}
+use Rattle.sp_opening.proofs.SavedTexts.{texts-from}
 use Rattle.sp_opening.proofs.script.read_lines.Goals as goal
-
--- The texts of lines that were read.
-texts-from : (id : ℕ) (texts : List (List ℕ)) → line_texts (lines_from id texts) ≡ texts
-texts-from id [] = refl
-texts-from id (text ∷ texts) = ap (λ (ts : List (List ℕ)). text ∷ ts) (texts-from (id + 1) texts)
 
 -- A script that was read, by its lines.
 lines-read : (script : List ℕ) (text : LinesState) → IsRead (reading_of script) text → HasLines script text
