@@ -5,13 +5,14 @@ use Rattle.std.proofs.lemmas.Option.{get_or_from_slice_get}
 use Rattle.spec_text.specs.Lines.{LineState, line_texts}
 use Rattle.spec_text.specs.Parts.{SpanOf}
 use Rattle.spec_script.specs.Stanzas.{PlacedBlock}
+use Rattle.spec_script.specs.Elements.{line_of_block}
 use Rattle.spec_labels.specs.Labels.{LabelOf}
 use Rattle.spec_labels.specs.LabelReading.{label_read}
 use Rattle.spec_labels.specs.Scenes.{HeadingOf}
 use Rattle.spec_layout.specs.Cells.{text_at}
 use Rattle.spec_layout.proofs.RowLaws.{state-text}
 use Rattle.spec_pages.specs.Rows.{line_state}
-use Rattle.spec_state.specs.Headings.{line_of_block, is_numbered, as_scene_label, heading_of}
+use Rattle.spec_state.specs.Headings.{is_numbered, as_scene_label, heading_of}
 use Rattle.sp_numbers.specs.Numbers.{parts_text}
 
 abbrev pub number_of : List ℕ → List SpanOf → Option LabelOf

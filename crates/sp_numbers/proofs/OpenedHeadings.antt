@@ -8,7 +8,7 @@ use Rattle.std.proofs.lemmas.List.Elements.{All-head, All-tail, filter-append}
 use Rattle.spec_text.specs.Lines.{LineState, IsText, line_texts}
 use Rattle.spec_script.specs.declared.Kind.{Kind}
 use Rattle.spec_script.specs.declared.Kind.TheVariants as kinds
-use Rattle.spec_script.specs.Elements.{alone, pair, is_dual, is_speech_kind}
+use Rattle.spec_script.specs.Elements.{line_of_block, alone, pair, is_dual, is_speech_kind}
 use Rattle.spec_script.specs.LongestRuns.{Group, members}
 use Rattle.spec_script.specs.Stanzas.{PlacedBlock, blocks_of}
 use Rattle.spec_script.proofs.LongestRuns.{longest_runs-exist}
@@ -23,7 +23,6 @@ use Rattle.spec_state.specs.State.{State, text_of}
 use Rattle.spec_state.specs.Headings.{is_heading_kind, is_heading_block}
 use Rattle.spec_state.specs.StateSheets.{layout_in}
 use Rattle.spec_relayout.specs.TextItems.{Script, spoken_group}
-use Rattle.spec_relayout.specs.Touched.{line_of_block}
 use Rattle.spec_relayout.proofs.SoundElements.{SoundSteps, elements-sound}
 use Rattle.spec_locked_pages.proofs.HeadingBlocks.{PlacedLined, blocks-lined}
 use Rattle.spec_locked_pages.proofs.HeadingRows.{Begins, IsOf, alone-begins, pair-begins}

@@ -11,13 +11,13 @@ use Rattle.spec_text.specs.Ranges.{IsOutside, place_after}
 use Rattle.spec_script.specs.BlockParts.{Rise}
 use Rattle.spec_script.specs.LongestRuns.{Group}
 use Rattle.spec_script.specs.Stanzas.{PlacedBlock}
-use Rattle.spec_script.specs.Elements.{is_speech_kind, is_dual, alone, elements_in}
+use Rattle.spec_script.specs.Elements.{line_of_block, is_speech_kind, is_dual, alone, elements_in}
 use Rattle.spec_script.proofs.RunSteps.{longest_runs-map}
 use Rattle.spec_layout.proofs.ElementPlaces.{placed_from, placed_to}
 use Rattle.spec_reread.specs.Touched.{pushed, WindowBlocks, old_blocks, new_blocks, is_nil, joined_by, last_block, first_block, joins, front_relaid, rest_relaid, but_last, only_last, front_kept, front_half, rest_kept, rest_half, old_relaid, new_relaid}
 use Rattle.spec_reread.proofs.WindowElements.{pushed_group, elements-apart, elements-pushed}
 use Rattle.spec_reread.proofs.RelaidElements.{IsSome, relaid-old, relaid-new}
-use Rattle.spec_relayout.specs.Touched.{EditBlocks, line_of_block}
+use Rattle.spec_relayout.specs.Touched.{EditBlocks}
 use Rattle.spec_relayout.specs.TextItems.{Script}
 use Rattle.spec_relayout.proofs.ItemMoves.{LinesMoved}
 use Rattle.spec_relayout.proofs.ElementMoves.{after-front, after-behind, block_after, element_after}

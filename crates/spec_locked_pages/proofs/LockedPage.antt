@@ -6,7 +6,7 @@ use Rattle.spec_text.specs.Edits.{Replacement}
 use Rattle.spec_text.specs.Ranges.{IsOutside, range_of}
 use Rattle.spec_script.specs.LongestRuns.{Group}
 use Rattle.spec_script.specs.Stanzas.{PlacedBlock}
-use Rattle.spec_script.specs.Elements.{elements_in}
+use Rattle.spec_script.specs.Elements.{line_of_block, elements_in}
 use Rattle.spec_pages.specs.Pages.{rows_on}
 use Rattle.spec_pages.specs.Rows.{line_state}
 use Rattle.spec_labels.specs.PageRecords.{SegmentOf}
@@ -17,7 +17,7 @@ use Rattle.spec_state.specs.Keeping.{IsWhole}
 use Rattle.spec_state.specs.Changes.{CanEdit}
 use Rattle.spec_reread.specs.Touched.{old_blocks, new_blocks, window_blocks}
 use Rattle.spec_relayout.specs.Items.{Sight, rows_among, start_of}
-use Rattle.spec_relayout.specs.Touched.{line_of_block, EditBlocks, is_touched_old, is_touched_new, touches_element}
+use Rattle.spec_relayout.specs.Touched.{EditBlocks, is_touched_old, is_touched_new, touches_element}
 use Rattle.spec_relayout.specs.Standing.{NoneStands}
 use Rattle.spec_relayout.proofs.Steps.{touches, NoneTouchedStands}
 use Rattle.spec_relayout.proofs.ElementMoves.{block_after, BlockLeft, line-after}

@@ -9,7 +9,7 @@ use Rattle.spec_text.specs.Lines.{LineState, IsText, line_texts}
 use Rattle.spec_text.proofs.ListLaws.{take-All, drop-All}
 use Rattle.spec_script.specs.LongestRuns.{Group}
 use Rattle.spec_script.specs.Stanzas.{PlacedBlock, blocks_of}
-use Rattle.spec_script.specs.Elements.{alone, pair}
+use Rattle.spec_script.specs.Elements.{line_of_block, alone, pair}
 use Rattle.spec_script.proofs.RunSteps.{one_alone}
 use Rattle.spec_pages.specs.Pages.{is_heading, rows_on}
 use Rattle.spec_pages.specs.Rows.{Row, line_state, is_title, placed_rows}
@@ -38,7 +38,6 @@ use Rattle.spec_machine.proofs.WholeStates.{lock_pages-whole, round-whole}
 use Rattle.spec_rounds.proofs.SinglePages.{IsSingle}
 use Rattle.spec_rounds.proofs.OpeningLaw.{round-rows, lock-rows, rows-stay}
 use Rattle.spec_relayout.specs.Items.{rows_among, all_sights}
-use Rattle.spec_relayout.specs.Touched.{line_of_block}
 use Rattle.spec_relayout.specs.TextItems.{Script, spoken_by, spoken_group, element_label, text_rows}
 use Rattle.spec_relayout.proofs.ItemRows.{shown_texts}
 use Rattle.spec_relayout.proofs.SoundElements.{SoundSteps, elements-sound}

@@ -7,7 +7,7 @@ use Rattle.std.proofs.lemmas.List.Elements.{All-nil, All-cons, All-head, All-tai
 use Rattle.spec_text.specs.Lines.{LineState, IsText, line_texts}
 use Rattle.spec_script.specs.LongestRuns.{Group, members}
 use Rattle.spec_script.specs.Stanzas.{PlacedBlock, blocks_of}
-use Rattle.spec_script.specs.Elements.{is_speech_kind, is_dual, alone, pair}
+use Rattle.spec_script.specs.Elements.{line_of_block, is_speech_kind, is_dual, alone, pair}
 use Rattle.spec_script.specs.declared.Kind.{Kind}
 use Rattle.spec_script.specs.declared.Kind.TheVariants as kinds
 use Rattle.spec_script.proofs.LongestRuns.{longest_runs-exist}
@@ -27,7 +27,6 @@ use Rattle.spec_state.specs.State.{State, text_of}
 use Rattle.spec_state.specs.Headings.{is_heading_kind, is_heading_block, heading_of}
 use Rattle.spec_state.specs.StateSheets.{rows_in}
 use Rattle.spec_relayout.specs.Items.{all_sights, sight_of, rows_among}
-use Rattle.spec_relayout.specs.Touched.{line_of_block}
 use Rattle.spec_relayout.specs.TextItems.{Script, spoken_group, element_label, element_items}
 use Rattle.spec_relayout.proofs.AmongLaws.{rows_among-append}
 use Rattle.spec_relayout.proofs.ItemRows.{shown_texts, element-rows}

@@ -11,7 +11,7 @@ use Rattle.spec_text.proofs.ListLaws.{pairs-head, pairs-tail, pairs-unmap}
 use Rattle.spec_script.specs.LongestRuns.{Group, members}
 use Rattle.spec_script.specs.BlockParts.{Rise}
 use Rattle.spec_script.specs.Stanzas.{PlacedBlock, blocks_of}
-use Rattle.spec_script.specs.Elements.{is_dual, elements_of}
+use Rattle.spec_script.specs.Elements.{line_of_block, is_dual, elements_of}
 use Rattle.spec_script.proofs.LongestRuns.{longest_runs-exist}
 use Rattle.spec_script.proofs.RunSteps.{map_group}
 use Rattle.spec_pages.specs.Rows.{Row, line_state}
@@ -29,7 +29,7 @@ use Rattle.spec_layout.proofs.SpokenLaws.{placed_of, spoken_elements-placed}
 use Rattle.spec_state.specs.State.{State, text_of}
 use Rattle.spec_state.specs.StateSheets.{layout_in}
 use Rattle.spec_relayout.specs.Items.{Item, all_sights, sight_of, shapes_among, breaks_among}
-use Rattle.spec_relayout.specs.Touched.{line_of_block, is_continued, block_in}
+use Rattle.spec_relayout.specs.Touched.{is_continued, block_in}
 use Rattle.spec_relayout.specs.TextItems.{Script, spoken_by, spoken_group, element_label, text_rows, row_item, row_items, element_items}
 use Rattle.spec_relayout.proofs.AmongLaws.{breaks_among-append}
 use Rattle.spec_relayout.proofs.ItemRows.{break-some, no-break, element-count}

@@ -12,6 +12,7 @@ use Rattle.spec_text.proofs.EditedLaws.{text-HasIds}
 use Rattle.spec_text.proofs.ListLaws.{pairs-map}
 use Rattle.spec_script.specs.LongestRuns.{Group}
 use Rattle.spec_script.specs.Stanzas.{PlacedBlock}
+use Rattle.spec_script.specs.Elements.{line_of_block}
 use Rattle.spec_pages.specs.OwnPages.{AreJoined}
 use Rattle.spec_pages.specs.Rows.{Row, line_state}
 use Rattle.spec_labels.specs.declared.RowKey.{RowKey}
@@ -39,7 +40,6 @@ use Rattle.spec_relayout.specs.Items.{Sight, Item, page_break, row as shown_row,
 use Rattle.spec_relayout.specs.TextItems.{Script, text_rows, row_item, row_items, break_items, element_items, element_label}
 use Rattle.spec_layout.specs.Shown.{element_cue}
 use Rattle.spec_layout.specs.Layout.{is_page_break}
-use Rattle.spec_relayout.specs.Touched.{line_of_block}
 use Rattle.spec_relayout.proofs.Steps.{AreRising, IsOne, LiesBetween, IsLaidOut}
 use Rattle.spec_relayout.proofs.AmongLaws.{rows_among-append, shapes_among-append}
 use Rattle.spec_relayout.proofs.SplitLaws.{front-high, front-back, rising-front, text-parts}

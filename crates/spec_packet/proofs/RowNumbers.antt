@@ -7,7 +7,7 @@ use Rattle.std.proofs.lemmas.List.Elements.{All-nil, All-cons, All-head, All-tai
 use Rattle.spec_text.specs.Lines.{LineState, IsText, line_texts}
 use Rattle.spec_script.specs.LongestRuns.{Group}
 use Rattle.spec_script.specs.Stanzas.{PlacedBlock, blocks_of}
-use Rattle.spec_script.specs.Elements.{alone, pair}
+use Rattle.spec_script.specs.Elements.{line_of_block, alone, pair}
 use Rattle.spec_script.proofs.RunSteps.{one_alone}
 use Rattle.spec_pages.specs.Pages.{is_heading}
 use Rattle.spec_pages.specs.Rows.{Row, line_state, is_title, placed_rows, number_before, number_behind}
@@ -21,7 +21,6 @@ use Rattle.spec_state.specs.State.{State, text_of}
 use Rattle.spec_state.specs.Headings.{is_heading_block}
 use Rattle.spec_state.specs.StateSheets.{rows_in}
 use Rattle.spec_relayout.specs.Items.{all_sights, rows_among}
-use Rattle.spec_relayout.specs.Touched.{line_of_block}
 use Rattle.spec_relayout.specs.TextItems.{Script, spoken_by, spoken_group, element_label, text_rows}
 use Rattle.spec_relayout.proofs.ItemRows.{shown_texts}
 use Rattle.spec_relayout.proofs.SoundElements.{SoundSteps, elements-sound}

@@ -5,7 +5,7 @@ use Rattle.spec_text.specs.Lines.{LineState, line_texts}
 use Rattle.spec_text.specs.Ranges.{RangeOf}
 use Rattle.spec_script.specs.LongestRuns.{Group}
 use Rattle.spec_script.specs.Stanzas.{PlacedBlock}
-use Rattle.spec_script.specs.Elements.{elements_in}
+use Rattle.spec_script.specs.Elements.{line_of_block, elements_in}
 use Rattle.spec_pages.specs.Pages.{rows_on}
 use Rattle.spec_pages.specs.Rows.{Row, is_title, placed_rows}
 use Rattle.spec_layout.specs.Speakers.{Spoken}
@@ -13,7 +13,6 @@ use Rattle.spec_layout.specs.Layout.{laid_out}
 use Rattle.spec_state.specs.State.{State}
 use Rattle.spec_state.specs.StateSheets.{layout_in, rows_in, locked_starts}
 use Rattle.spec_reread.specs.Touched.{WindowBlocks, old_blocks, is_nil, front_kept, old_relaid, new_relaid, window_blocks}
-use Rattle.spec_relayout.specs.Touched.{line_of_block}
 use Rattle.spec_reflow.specs.Windows.{Exchange, page_window}
 use Rattle.spec_locked_pages.specs.Segments.{pages_of}
 

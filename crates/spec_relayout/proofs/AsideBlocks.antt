@@ -7,12 +7,12 @@ use Rattle.std.proofs.lemmas.List.Elements.{All-nil, All-cons, All-head, All-tai
 use Rattle.spec_script.specs.BlockParts.{Rise}
 use Rattle.spec_script.specs.LongestRuns.{Group, members}
 use Rattle.spec_script.specs.Stanzas.{PlacedBlock}
-use Rattle.spec_script.specs.Elements.{is_dual, elements_in}
+use Rattle.spec_script.specs.Elements.{line_of_block, is_dual, elements_in}
 use Rattle.spec_layout.proofs.ElementPlaces.{placed_from, placed_to}
 use Rattle.spec_reread.specs.Touched.{pushed, WindowBlocks, front_relaid, but_last, front_kept}
 use Rattle.spec_reread.proofs.WindowElements.{pushed_group}
 use Rattle.spec_text.specs.Ranges.{RangeOf, place_after}
-use Rattle.spec_relayout.specs.Touched.{line_of_block, EditBlocks, place_before, has_changed, is_touched_old, is_touched_new}
+use Rattle.spec_relayout.specs.Touched.{EditBlocks, place_before, has_changed, is_touched_old, is_touched_new}
 use Rattle.spec_script.proofs.RunSteps.{longest_runs-map}
 use Rattle.spec_relayout.proofs.ElementMoves.{after-front, after-behind, block_after, element_after, BlockLeft, LeftBeside, ElementLeft, line-after}
 use Rattle.spec_relayout.proofs.WindowSides.{EndsBy}

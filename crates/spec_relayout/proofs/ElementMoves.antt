@@ -8,7 +8,7 @@ use Rattle.spec_text.specs.Lines.{LineState, line_texts}
 use Rattle.spec_text.specs.Ranges.{RangeOf, IsOutside, place_after}
 use Rattle.spec_script.specs.LongestRuns.{Group, members}
 use Rattle.spec_script.specs.Stanzas.{PlacedBlock}
-use Rattle.spec_script.specs.Elements.{placed_at}
+use Rattle.spec_script.specs.Elements.{placed_at, line_of_block}
 use Rattle.spec_script.proofs.RunSteps.{map_group}
 use Rattle.spec_pages.specs.Rows.{Row, is_title, single_rows, dual_rows, shifted_row, placed_rows}
 use Rattle.spec_pages.specs.Rows as rows
@@ -19,7 +19,6 @@ use Rattle.spec_layout.specs.Layout.{is_page_break, laid_beside}
 use Rattle.spec_layout.specs.Shown.{Shown, element_cue}
 use Rattle.spec_layout.proofs.ElementPlaces.{LinesRise, placed_to}
 use Rattle.spec_relayout.specs.Items.{Item, page_break, row as shown_row}
-use Rattle.spec_relayout.specs.Touched.{line_of_block}
 use Rattle.spec_relayout.specs.TextItems.{Script, spoken_by, element_label, text_rows, row_item, row_items, break_items, element_items}
 use Rattle.spec_relayout.proofs.Steps.{item_after, IsLeft}
 use Rattle.spec_relayout.specs.RowLines.{RowAt}

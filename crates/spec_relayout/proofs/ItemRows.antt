@@ -7,7 +7,7 @@ use Rattle.spec_script.specs.declared.Kind.{Kind}
 use Rattle.spec_script.specs.declared.Kind.TheVariants as kinds
 use Rattle.spec_script.specs.LongestRuns.{Group}
 use Rattle.spec_script.specs.Stanzas.{PlacedBlock}
-use Rattle.spec_script.specs.Elements.{is_dual, alone}
+use Rattle.spec_script.specs.Elements.{line_of_block, is_dual, alone}
 use Rattle.spec_script.proofs.ElementLaws.{dual-speech}
 use Rattle.spec_pages.specs.declared.Shape.{Shape}
 use Rattle.spec_pages.specs.Columns.{has_rows}
@@ -17,7 +17,6 @@ use Rattle.spec_layout.specs.Cells.{ShownCell}
 use Rattle.spec_layout.specs.Layout.{is_page_break}
 use Rattle.spec_layout.specs.Shown.{Shown, element_cue, shown_of, shape_of}
 use Rattle.spec_relayout.specs.Items.{Item, page_break, all_sights, sight_of, rows_among, shapes_among}
-use Rattle.spec_relayout.specs.Touched.{line_of_block}
 use Rattle.spec_relayout.specs.TextItems.{Script, element_label, text_rows, row_item, row_items, break_items, element_items}
 use Rattle.spec_relayout.proofs.AmongLaws.{rows_among-append}
 

@@ -12,7 +12,7 @@ use Rattle.spec_text.specs.Lines.{LineState, line_texts}
 use Rattle.spec_text.proofs.ListLaws.{pairs-none, pairs-join, pairs-map}
 use Rattle.spec_script.specs.LongestRuns.{Group}
 use Rattle.spec_script.specs.Stanzas.{PlacedBlock}
-use Rattle.spec_script.specs.Elements.{is_dual, alone, pair, elements_of}
+use Rattle.spec_script.specs.Elements.{line_of_block, is_dual, alone, pair, elements_of}
 use Rattle.spec_pages.specs.Rows.{Row, is_title}
 use Rattle.spec_labels.specs.Labels.{LabelOf}
 use Rattle.spec_labels.specs.Spots.{is_ahead}
@@ -22,7 +22,6 @@ use Rattle.spec_layout.specs.Layout.{KeyBelow, is_page_break}
 use Rattle.spec_layout.specs.Shown.{element_cue}
 use Rattle.spec_layout.proofs.ElementPlaces.{placed_from, placed_to}
 use Rattle.spec_relayout.specs.Items.{Item, page_break}
-use Rattle.spec_relayout.specs.Touched.{line_of_block}
 use Rattle.spec_relayout.specs.TextItems.{Script, element_label, text_rows, row_item, row_items, break_items, element_items}
 use Rattle.spec_relayout.proofs.Steps.{AreRising}
 use Rattle.spec_relayout.specs.RowLines.{RowAt}

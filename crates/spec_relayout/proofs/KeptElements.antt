@@ -8,13 +8,13 @@ use Rattle.std.proofs.lemmas.List.Elements.{All-nil, All-cons, All-head, All-tai
 use Rattle.spec_text.specs.Lines.{LineState}
 use Rattle.spec_script.specs.LongestRuns.{Group, members}
 use Rattle.spec_script.specs.Stanzas.{PlacedBlock}
-use Rattle.spec_script.specs.Elements.{is_dual, elements_in}
+use Rattle.spec_script.specs.Elements.{line_of_block, is_dual, elements_in}
 use Rattle.spec_labels.specs.Labels.{LabelOf}
 use Rattle.spec_reread.specs.Touched.{pushed, WindowBlocks, old_blocks, new_blocks, is_nil, front_kept, rest_kept, old_relaid, new_relaid}
 use Rattle.spec_reread.proofs.WindowElements.{pushed_group, elements-pushed}
 use Rattle.spec_reread.proofs.RelaidElements.{IsSome, relaid-old, relaid-new}
 use Rattle.spec_text.specs.Ranges.{RangeOf, IsOutside, place_after}
-use Rattle.spec_relayout.specs.Touched.{line_of_block, is_continued, differs, EditBlocks, changes_partner, changes_speaker, is_touched_old, is_touched_new}
+use Rattle.spec_relayout.specs.Touched.{is_continued, differs, EditBlocks, changes_partner, changes_speaker, is_touched_old, is_touched_new}
 use Rattle.spec_relayout.proofs.Steps.{TextOf, touches}
 use Rattle.spec_script.proofs.RunSteps.{longest_runs-map}
 use Rattle.spec_relayout.proofs.ElementLaw.{Fair, Remains, Lost, Elements}

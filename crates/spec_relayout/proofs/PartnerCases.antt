@@ -5,10 +5,10 @@ use Rattle.std.proofs.lemmas.Bool.{cases_lt, true≢false, ne_eqb, lt-ltb, le-lt
 use Rattle.std.proofs.lemmas.List.{append-nil}
 use Rattle.std.proofs.lemmas.List.Elements.{All-head, All-tail}
 use Rattle.spec_script.specs.Stanzas.{PlacedBlock}
-use Rattle.spec_script.specs.Elements.{is_dual}
+use Rattle.spec_script.specs.Elements.{line_of_block, is_dual}
 use Rattle.spec_reread.specs.Touched.{pushed, is_nil, joined_by, last_block, first_block, joins, but_last, only_last}
 use Rattle.spec_text.specs.Ranges.{place_after}
-use Rattle.spec_relayout.specs.Touched.{line_of_block, EditBlocks, is_same_partner}
+use Rattle.spec_relayout.specs.Touched.{EditBlocks, is_same_partner}
 use Rattle.spec_relayout.proofs.Partners.{right_partner, left_partner}
 
 -- The last of some blocks.

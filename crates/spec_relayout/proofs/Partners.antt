@@ -5,9 +5,9 @@ use Rattle.std.proofs.lemmas.Bool.{eq-eqb, ne_eqb}
 use Rattle.std.proofs.lemmas.List.Elements.{All-nil, All-cons, All-head, All-tail}
 use Rattle.spec_script.specs.BlockParts.{Rise}
 use Rattle.spec_script.specs.Stanzas.{PlacedBlock}
-use Rattle.spec_script.specs.Elements.{is_dual}
+use Rattle.spec_script.specs.Elements.{line_of_block, is_dual}
 use Rattle.spec_layout.proofs.ElementPlaces.{placed_from, placed_to}
-use Rattle.spec_relayout.specs.Touched.{line_of_block, partner_from}
+use Rattle.spec_relayout.specs.Touched.{partner_from}
 
 -- The line of the block behind, where it is the partner.
 abbrev pub right_partner : PlacedBlock → List PlacedBlock → Option ℕ

@@ -4,11 +4,11 @@ use Rattle.std.specs.Prelude.{All}
 use Rattle.std.proofs.lemmas.Bool.{cases_Bool, cond-false, or_cases, true≢false, or_right, lt-ltb, le-leb}
 use Rattle.std.proofs.lemmas.List.{append-nil}
 use Rattle.spec_script.specs.Stanzas.{PlacedBlock}
-use Rattle.spec_script.specs.Elements.{is_dual, elements_in}
+use Rattle.spec_script.specs.Elements.{line_of_block, is_dual, elements_in}
 use Rattle.spec_reread.specs.Touched.{pushed, WindowBlocks, is_nil, joined_by, last_block, first_block, joins, front_relaid, rest_relaid, only_last, front_half, rest_half, old_relaid, new_relaid}
 use Rattle.spec_reread.proofs.WindowElements.{left-free, right-free}
 use Rattle.spec_reread.proofs.RelaidElements.{IsSome}
-use Rattle.spec_relayout.specs.Touched.{line_of_block, EditBlocks, place_before, has_changed, is_touched_old, is_touched_new}
+use Rattle.spec_relayout.specs.Touched.{EditBlocks, place_before, has_changed, is_touched_old, is_touched_new}
 use Rattle.spec_relayout.proofs.TouchedRuns.{IsTouched, HasTouched, all-touched, before-touched, behind-touched}
 use Rattle.spec_relayout.proofs.PartnerCases.{last-one}
 use Rattle.spec_relayout.proofs.WindowPartners.{Around, front-back, front-changes, rest-back, rest-changes}

@@ -6,12 +6,12 @@ use Rattle.std.proofs.lemmas.List.{append_assoc}
 use Rattle.std.proofs.lemmas.List.Elements.{All-head}
 use Rattle.spec_script.specs.BlockParts.{Rise}
 use Rattle.spec_script.specs.Stanzas.{PlacedBlock}
-use Rattle.spec_script.specs.Elements.{is_dual}
+use Rattle.spec_script.specs.Elements.{line_of_block, is_dual}
 use Rattle.spec_layout.proofs.ElementPlaces.{placed_from, placed_to}
 use Rattle.spec_reread.specs.Touched.{pushed, WindowBlocks, old_blocks, new_blocks, joined_by, last_block, first_block, joins}
 use Rattle.spec_reread.proofs.RelaidElements.{IsSome}
 use Rattle.spec_text.specs.Ranges.{RangeOf, place_after}
-use Rattle.spec_relayout.specs.Touched.{line_of_block, partner_of, EditBlocks, block_in, place_before, is_same_partner, changes_partner, changes_speaker, has_changed}
+use Rattle.spec_relayout.specs.Touched.{partner_of, EditBlocks, block_in, place_before, is_same_partner, changes_partner, changes_speaker, has_changed}
 use Rattle.spec_relayout.proofs.ElementMoves.{after-front, after-behind}
 use Rattle.spec_relayout.proofs.Partners.{right_partner, left_partner, BeginBefore, partner-right, partner-left, rise-before}
 use Rattle.spec_relayout.proofs.WindowSides.{EndsBy, StandsIn, all-back}

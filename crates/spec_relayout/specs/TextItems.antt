@@ -3,6 +3,7 @@ use Rattle.std.specs.Prelude.{ℕ, Bool, true, false, if◌then◌else◌, List,
 use Rattle.spec_text.specs.Lines.{LineState, line_texts}
 use Rattle.spec_script.specs.LongestRuns.{Group}
 use Rattle.spec_script.specs.Stanzas.{PlacedBlock}
+use Rattle.spec_script.specs.Elements.{line_of_block}
 use Rattle.spec_pages.specs.Rows.{Row, is_title, placed_rows}
 use Rattle.spec_labels.specs.Labels.{LabelOf}
 use Rattle.spec_layout.specs.Cells.{ShownCell}
@@ -10,7 +11,6 @@ use Rattle.spec_layout.specs.Speakers.{Spoken}
 use Rattle.spec_layout.specs.Layout.{is_page_break, laid_out}
 use Rattle.spec_layout.specs.Shown.{element_cue, shown_of}
 use Rattle.spec_relayout.specs.Items.{Item, page_break, row as shown_row}
-use Rattle.spec_relayout.specs.Touched.{line_of_block}
 
 -- A text's lines, and what else its rows show: which speeches are continued, and what labels stand beside headings, both by the
 -- line that a block begins with.

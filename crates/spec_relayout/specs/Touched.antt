@@ -1,15 +1,11 @@
 -- Blocks and elements that an edit relays and touches (docs/RULES.md, "Windows").
-use Rattle.std.specs.Prelude.{ℕ, ◌+◌, Bool, true, false, ◌&&◌, ◌||◌, not, ◌==◌, nat_lt, nat_le, if◌then◌else◌, List, [], ◌∷◌, map, Option, Some, None}
+use Rattle.std.specs.Prelude.{ℕ, Bool, true, false, ◌&&◌, ◌||◌, not, ◌==◌, nat_lt, nat_le, if◌then◌else◌, List, [], ◌∷◌, map, Option, Some, None}
 use Rattle.std.specs.List.{list_any}
 use Rattle.spec_text.specs.Ranges.{RangeOf, place_after}
 use Rattle.spec_script.specs.LongestRuns.{Group, members}
 use Rattle.spec_script.specs.Stanzas.{PlacedBlock}
-use Rattle.spec_script.specs.Elements.{is_dual}
+use Rattle.spec_script.specs.Elements.{line_of_block, is_dual}
 use Rattle.spec_layout.specs.Speakers.{Spoken}
-
--- The line that a block begins with.
-abbrev pub line_of_block : PlacedBlock → ℕ
-line_of_block placed = placed.first + placed.block.first
 
 abbrev pub block_in : Spoken → PlacedBlock
 block_in it = it.placed

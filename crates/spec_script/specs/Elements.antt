@@ -1,5 +1,5 @@
 -- Elements: blocks by themselves, and pairs of speeches (docs/RULES.md, "Elements").
-use Rattle.std.specs.Prelude.{ℕ, Bool, true, false, not, ◌&&◌, ◌≤◌, List, [], ◌∷◌}
+use Rattle.std.specs.Prelude.{ℕ, ◌+◌, Bool, true, false, not, ◌&&◌, ◌≤◌, List, [], ◌∷◌}
 use Rattle.spec_script.specs.declared.Kind.{Kind}
 use Rattle.spec_script.specs.declared.Kind.TheVariants as kinds
 use Rattle.spec_script.specs.LongestRuns.{Group, longest_runs}
@@ -10,6 +10,10 @@ use Rattle.spec_script.specs.Stanzas.{PlacedBlock, blocks_of}
 -- A block of the stanza that begins at a place.
 abbrev pub placed_at : ℕ → BlockOf → PlacedBlock
 placed_at first block = record { first = first; block = block }
+
+-- The line that a block begins with.
+abbrev pub line_of_block : PlacedBlock → ℕ
+line_of_block placed = placed.first + placed.block.first
 
 abbrev pub is_speech_kind : Kind → Bool
 is_speech_kind kinds.Speech = true

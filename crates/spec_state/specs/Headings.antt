@@ -1,20 +1,17 @@
 -- The headings of a text, and their labels (docs/RULES.md, "Scene numbers").
-use Rattle.std.specs.Prelude.{ℕ, ◌+◌, Bool, true, false, not, ◌&&◌, ◌==◌, nat_le, if◌then◌else◌, List, length, map, filter, slice_range, Option, Some, None, option_and_then, option_map}
+use Rattle.std.specs.Prelude.{ℕ, Bool, true, false, not, ◌&&◌, ◌==◌, nat_le, if◌then◌else◌, List, length, map, filter, slice_range, Option, Some, None, option_and_then, option_map}
 use Rattle.std.specs.List.{flat_map, list_all}
 use Rattle.spec_text.specs.Lines.{LineState, line_texts}
 use Rattle.spec_text.specs.Parts.{SpanOf}
 use Rattle.spec_script.specs.declared.Kind.{Kind}
 use Rattle.spec_script.specs.declared.Kind.TheVariants as kinds
 use Rattle.spec_script.specs.Stanzas.{PlacedBlock, blocks_of}
+use Rattle.spec_script.specs.Elements.{line_of_block}
 use Rattle.spec_pages.specs.Rows.{line_state}
 use Rattle.spec_labels.specs.Labels.{LabelOf}
 use Rattle.spec_labels.specs.LabelReading.{label_read}
 use Rattle.spec_labels.specs.Scenes.{HeadingOf, SceneRecordOf, scene_number_limit, scene_step_limit, locked_labels}
 use Rattle.spec_layout.specs.Cells.{text_at}
-
--- The line that a block begins with.
-abbrev pub line_of_block : PlacedBlock → ℕ
-line_of_block placed = placed.first + placed.block.first
 
 abbrev pub is_heading_kind : Kind → Bool
 is_heading_kind kinds.Heading = true

@@ -4,8 +4,8 @@ use Rattle.spec_text.specs.Lines.{LineState}
 use Rattle.spec_text.specs.Parts.{SpanOf}
 use Rattle.spec_script.specs.BlockValues.{BlockOf}
 use Rattle.spec_script.specs.Stanzas.{PlacedBlock}
-use Rattle.spec_script.specs.Elements.{placed_at}
-use Rattle.spec_state.specs.Headings.{line_of_block, is_numbered}
+use Rattle.spec_script.specs.Elements.{placed_at, line_of_block}
+use Rattle.spec_state.specs.Headings.{is_numbered}
 use Rattle.sp_numbers.proofs.HeadingMade.{number_of, heading_made, heading-made}
 use Rattle.sp_numbers.proofs.headings.heading_at.Goals as goal
 
