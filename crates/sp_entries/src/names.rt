@@ -2,19 +2,12 @@
 ghost use Rattle.std.specs.Prelude.{◌≡◌, map, string_bytes, All, IfOk};
 ghost use Rattle.spec_text.specs.Lines.{line_texts};
 ghost use Rattle.spec_script.specs.Elements.{PlacedLies};
-ghost use Rattle.spec_machine.specs.Outlines.{is_speech_block, speaker_names};
+ghost use Rattle.spec_machine.specs.Outlines.{speaker_names};
 
-use sp_blocks::{Kind, PlacedBlock};
+use sp_blocks::{PlacedBlock, is_speech_block};
 use sp_layout::speaker_name;
 use sp_text::Lines;
 use std::alloc::{AllocError, Global};
-
-pub fn is_speech(placed: &PlacedBlock<'_>) -> bool
-    ensures { result ≡ is_speech_block placed.now }
-{
-    let block = placed.block;
-    matches!(block.kind, Kind::Speech)
-}
 
 /// The names of the speeches among blocks, in order.
 pub fn speaker_names(
@@ -27,7 +20,7 @@ pub fn speaker_names(
 {
     let mut names = Vec::new(alloc);
     for placed in blocks {
-        if is_speech(placed) {
+        if is_speech_block(placed) {
             names.push(speaker_name(alloc, lines, placed)?)?;
         }
     }

@@ -1,16 +1,14 @@
 //! The speeches among blocks, each with its scene and its sheet.
 ghost use Rattle.std.specs.Prelude.{◌≡◌, ◌++◌, ◌+◌, ◌<◌, ◌^◌, ◌&&◌, not, if◌then◌else◌, All, IfOk, OnOk, option_copied, unwrap_or};
 ghost use Rattle.spec_text.specs.Lines.{line_texts};
-ghost use Rattle.spec_script.specs.Elements.{PlacedLies};
+ghost use Rattle.spec_script.specs.Elements.{is_speech_block, PlacedLies};
 ghost use Rattle.spec_labels.specs.Labels.{plain_label};
 ghost use Rattle.spec_state.specs.Headings.{is_heading_block};
-ghost use Rattle.spec_machine.specs.Outlines.{is_speech_block};
 ghost use Rattle.spec_cast.specs.Said.{begins_speech, block_said, first_label, is_first, last_label, said_by, said_from, speech_sheets, walk_start, walked};
 ghost use Rattle.sp_entries.specs.Sheets.{AreInTurn};
 
-use crate::names::is_speech;
 use crate::sheets::sheet_of;
-use sp_blocks::{Kind, PlacedBlock};
+use sp_blocks::{Kind, PlacedBlock, is_speech_block};
 use sp_cast::Said;
 use sp_labels::Label;
 use sp_layout::speaker_name;
@@ -99,14 +97,14 @@ fn is_first(walk: &Walk, placed: &PlacedBlock<'_>) -> bool
     ensures { result ≡ is_first walk.now placed.now }
 {
     let block = placed.block;
-    is_speech(placed) && !(walk.opened && block.caret)
+    is_speech_block(placed) && !(walk.opened && block.caret)
 }
 
 fn may_open(placed: &PlacedBlock<'_>) -> bool
     ensures { result ≡ (is_speech_block placed.now && not placed.now.block.caret) }
 {
     let block = placed.block;
-    is_speech(placed) && !block.caret
+    is_speech_block(placed) && !block.caret
 }
 
 fn one_more(count: usize, more: bool) -> usize
@@ -181,7 +179,7 @@ fn add_block(
     requires { PlacedLies (line_texts lines.now.lines) placed.now }
     ensures { OnOk result (said.new.items ≡ said.old.items ++ block_said scenes.now sheets.now (line_texts lines.now.lines) walk.now placed.now) }
 {
-    if is_speech(placed) {
+    if is_speech_block(placed) {
         said.push(said_by(alloc, lines, scenes, sheets, walk, placed)?)?;
     }
     Ok(())

@@ -4,7 +4,6 @@ use Rattle.std.specs.List.{list_any}
 use Rattle.spec_text.specs.Lines.{LineState, TextState, IsText, line_texts}
 use Rattle.spec_script.specs.BlockValues.{StanzaOf}
 use Rattle.spec_script.specs.Stanzas.{PlacedBlock, stanzas_of}
-use Rattle.spec_script.specs.Elements.{is_speech_kind}
 use Rattle.spec_layout.specs.Speakers.{spoken_elements}
 use Rattle.spec_layout.specs.Layout.{layout_of}
 use Rattle.spec_reread.specs.Windows.{stanza_lines_in}
@@ -45,6 +44,3 @@ windows_settle stanzas swapped = list_any stanza_settles swapped.stanzas || list
 pub record AreAlike (lines : List LineState) (blocks : List PlacedBlock) (speakers others : SpeakersOf) : Type 0 where
   pub on : speakers.on ≡ others.on
   pub same : spoken_elements others.on lines speakers.last blocks ≡ spoken_elements others.on lines others.last blocks
-
-abbrev pub is_speech : PlacedBlock → Bool
-is_speech placed = is_speech_kind placed.block.kind

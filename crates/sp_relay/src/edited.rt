@@ -3,19 +3,20 @@ ghost use Rattle.std.specs.Prelude.{◌≡◌, ◌⊎◌, ◌<◌, ◌≤◌, �
 ghost use Rattle.std.specs.List.{list_any};
 ghost use Rattle.spec_text.specs.Lines.{TextState, line_texts};
 ghost use Rattle.spec_script.specs.Stanzas.{blocks_from, stanzas_of};
+ghost use Rattle.spec_script.specs.Elements.{is_speech_block};
 ghost use Rattle.spec_layout.specs.Layout.{layout_of};
 ghost use Rattle.spec_reread.specs.Windows.{stanza_lines_in};
 ghost use Rattle.sp_layout.specs.LaidOut.{keyed};
 ghost use Rattle.sp_layout.specs.Speaking.{speakers_after};
 ghost use Rattle.spec_relay.specs.RelaidStanzas.{stanza_settles};
 ghost use Rattle.sp_relay.specs.Edges.{edge_places};
-ghost use Rattle.sp_relay.specs.Edited.{AreAlike, WasLaid, WasLaidOf, is_speech, windows_settle};
+ghost use Rattle.sp_relay.specs.Edited.{AreAlike, WasLaid, WasLaidOf, windows_settle};
 ghost use Rattle.sp_relay.specs.Kept.{CanSwap, HasPartRoom, KeepsRoom, laid_of, with_part};
 ghost use Rattle.sp_relay.specs.Outside.{StaysOutside};
 
 use crate::edges::{PartEdge, part_end, part_start, stanza_settles};
 use crate::{KeptLayout, LayoutPart, PartPlaces, relay};
-use sp_blocks::{Kind, PlacedBlock, Stanza};
+use sp_blocks::{PlacedBlock, Stanza, is_speech_block};
 use sp_layout::Speakers;
 use sp_reread::{Stanzas, Swapped, placed_blocks_between};
 use sp_text::Lines;
@@ -100,17 +101,10 @@ fn speakers_before(
     Speakers::behind(alloc, lines, &blocks, speakers)
 }
 
-fn is_speech(placed: &PlacedBlock<'_>) -> bool
-    ensures { result ≡ is_speech placed.now }
-{
-    let block = placed.block;
-    matches!(block.kind, Kind::Speech)
-}
-
 fn has_speech(blocks: &[PlacedBlock<'_>]) -> bool
-    ensures { result ≡ list_any is_speech blocks.now }
+    ensures { result ≡ list_any is_speech_block blocks.now }
 {
-    blocks.iter().any(|placed| is_speech(placed))
+    blocks.iter().any(|placed| is_speech_block(placed))
 }
 
 /// Speakers behind whom these blocks, which begin with a stanza, are the same elements as behind those who spoke before it.

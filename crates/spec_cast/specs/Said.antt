@@ -3,6 +3,7 @@ use Rattle.std.specs.Prelude.{ℕ, ◌+◌, ◌-◌, ◌==◌, ◌&&◌, not, Bo
 use Rattle.std.specs.Option.{option_map_or}
 use Rattle.spec_text.specs.Lines.{line_texts}
 use Rattle.spec_script.specs.Stanzas.{PlacedBlock, blocks_of}
+use Rattle.spec_script.specs.Elements.{is_speech_block}
 use Rattle.spec_pages.specs.declared.RowKind.{RowKind}
 use Rattle.spec_pages.specs.declared.RowKind.TheVariants as rows
 use Rattle.spec_pages.specs.declared.Shape.{Shape}
@@ -14,7 +15,7 @@ use Rattle.spec_layout.specs.Speakers.{cue_text, name_in}
 use Rattle.spec_state.specs.State.{State}
 use Rattle.spec_state.specs.Headings.{headings_of}
 use Rattle.spec_state.specs.StateSheets.{rows_in, body_sheets}
-use Rattle.spec_machine.specs.Outlines.{has_row, headings_behind, is_speech_block}
+use Rattle.spec_machine.specs.Outlines.{has_row, headings_behind}
 use Rattle.spec_cast.specs.Sides.{SaidOf}
 
 -- ---- the sheets of speeches

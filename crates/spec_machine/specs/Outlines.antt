@@ -7,7 +7,7 @@ use Rattle.spec_text.specs.Lines.{line_texts}
 use Rattle.spec_script.specs.declared.Kind.{Kind}
 use Rattle.spec_script.specs.declared.Kind.TheVariants as kinds
 use Rattle.spec_script.specs.Stanzas.{PlacedBlock, blocks_of}
-use Rattle.spec_script.specs.Elements.{is_speech_kind}
+use Rattle.spec_script.specs.Elements.{is_speech_block}
 use Rattle.spec_pages.specs.declared.Shape.{Shape}
 use Rattle.spec_pages.specs.Pages.{is_heading}
 use Rattle.spec_labels.specs.Labels.{LabelOf, plain_label, label_cmp, label_text}
@@ -109,9 +109,6 @@ abbrev pub entries_of : Scenes → List (List ℕ) → List PlacedBlock → List
 entries_of scenes texts blocks = entries_from scenes texts 0 blocks ++ omitted_at scenes (length scenes.labels)
 
 -- ---- speeches
-
-abbrev pub is_speech_block : PlacedBlock → Bool
-is_speech_block placed = is_speech_kind placed.block.kind
 
 -- The names of speeches, in order.
 abbrev pub speaker_names : List (List ℕ) → List PlacedBlock → List (List ℕ)

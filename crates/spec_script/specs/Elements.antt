@@ -19,6 +19,9 @@ abbrev pub is_speech_kind : Kind → Bool
 is_speech_kind kinds.Speech = true
 is_speech_kind _ = false
 
+abbrev pub is_speech_block : PlacedBlock → Bool
+is_speech_block placed = is_speech_kind placed.block.kind
+
 -- Neighbouring blocks are dual dialogue: both are speeches, and of their cues the second's alone ended in `^`.
 abbrev pub is_dual : PlacedBlock → PlacedBlock → Bool
 is_dual left right = is_speech_kind left.block.kind && not left.block.caret && is_speech_kind right.block.kind && right.block.caret

@@ -2,7 +2,7 @@ use Rattle.std.proofs.Common.{true, false, ◌++◌, ◌∷◌, [], List, ℕ, m
 use Rattle.std.proofs.lemmas.List.{map_push}
 use Rattle.spec_text.specs.Lines.{line_texts}
 use Rattle.sp_entries.proofs.Pushes.{names-step}
-use Rattle.sp_entries.proofs.names.speaker_names.Goals.{then-is_speech+in_ok-speaker_name+in_ok-push, else-is_speech}
+use Rattle.sp_entries.proofs.names.speaker_names.Goals.{then-is_speech_block+in_ok-speaker_name+in_ok-push, else-is_speech_block}
 use Rattle.sp_entries.proofs.names.speaker_names.Goals as goal
 
 pub loop-placed-preserved : goal.loop-placed-preserved
@@ -14,10 +14,10 @@ loop-placed-preserved c =
     let names = c.loop-placed.names.items in
     let old = map string_bytes names in
     let inside = c.loop-placed-test.true in
-    elim c.if-is_speech.branch [
-      | then-is_speech+in_ok-speaker_name+in_ok-push w ↦
-          names-step texts blocks i placed old _ true inside c.placed-item.is c.loop-placed.invariant (sym w.if-is_speech.true ∙ c.is_speech.ensures)
+    elim c.if-is_speech_block.branch [
+      | then-is_speech_block+in_ok-speaker_name+in_ok-push w ↦
+          names-step texts blocks i placed old _ true inside c.placed-item.is c.loop-placed.invariant (sym w.if-is_speech_block.true ∙ c.is_speech_block.ensures)
           (ap (λ v. map string_bytes v.items) w.names-is ∙ ap (map string_bytes) w.in_ok-push.ensures.items ∙ map_push string_bytes names _ ∙ ap (λ (name : List ℕ). old ++ name ∷ []) w.in_ok-speaker_name.ensures)
-      | else-is_speech w ↦
-          names-step texts blocks i placed old _ false inside c.placed-item.is c.loop-placed.invariant (sym w.if-is_speech.false ∙ c.is_speech.ensures) (ap (λ v. map string_bytes v.items) w.names-is ∙ sym (append-nil old))
+      | else-is_speech_block w ↦
+          names-step texts blocks i placed old _ false inside c.placed-item.is c.loop-placed.invariant (sym w.if-is_speech_block.false ∙ c.is_speech_block.ensures) (ap (λ v. map string_bytes v.items) w.names-is ∙ sym (append-nil old))
     ]
