@@ -14,11 +14,11 @@ ghost use Rattle.sp_splice.specs.Runs.{exchanged};
 use crate::moves::move_elements;
 use crate::page::Page;
 use crate::search::{last_start, starts_below};
-use crate::values::{Element, Row};
+use crate::values::{Element, Row, begins_heading};
 use sp_splice::{GapList, GapPlaces, exchange, make_room};
 use sp_text::Lines;
 use spec_labels::RowKey;
-use spec_pages::{RowKind, Shape};
+use spec_pages::Shape;
 use std::alloc::{AllocError, Global};
 use std::marker::Model;
 
@@ -27,7 +27,7 @@ fn is_heading_element(element: &Element) -> bool
     ensures { result ≡ is_heading_element element.now }
 {
     match element.rows.first() {
-        Some(row) => matches!(row.shape.kind, RowKind::Heading) && row.shape.index == 0,
+        Some(row) => begins_heading(&row.shape),
         None => false,
     }
 }

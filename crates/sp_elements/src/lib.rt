@@ -11,4 +11,4 @@ pub use body::Body;
 pub use page::Page;
 pub use search::{count_below, elements_before};
 pub use spec_pages::{RowKind, Shape};
-pub use values::{Cell, Element, Row};
+pub use values::{Cell, Element, Row, begins_heading};

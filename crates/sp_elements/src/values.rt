@@ -1,8 +1,9 @@
 //! Rows, their cells, and elements.
 ghost use Rattle.std.specs.Prelude.{◌≡◌, ◌∷◌, [], false, IfOk, IfSome};
+ghost use Rattle.spec_pages.specs.Pages.{begins_heading};
 ghost use Rattle.sp_elements.specs.Contents.{is_fixed, is_number, runs_in};
 
-use spec_pages::Shape;
+use spec_pages::{RowKind, Shape};
 use spec_script::Run;
 use std::alloc::{AllocError, Global};
 use std::marker::Model;
@@ -143,6 +144,13 @@ impl Model for Row {
     ghost Value = { RowValue };
 
     ghost view = { λ r. record { line = r.line; row = r.row; mark = r.mark; shape = r.shape; cells = r.cells.items } };
+}
+
+/// Whether a heading begins with this row.
+pub fn begins_heading(shape: &Shape) -> bool
+    ensures { result ≡ begins_heading shape.now }
+{
+    matches!(shape.kind, RowKind::Heading) && shape.index == 0
 }
 
 /// An element laid out: its rows, and the place of the line from which they count their lines.

@@ -8,7 +8,8 @@ use Rattle.spec_labels.specs.Labels.{LabelOf, Below}
 use Rattle.spec_labels.specs.Scenes.{HeadingOf, SceneRecordOf, AreSceneRecords, scene_labels}
 use Rattle.spec_labels.proofs.HeadingLabels.{length-unlocked_labels, length-locked_labels}
 use Rattle.spec_pages.specs.declared.Shape.{Shape}
-use Rattle.spec_machine.specs.Outlines.{begins_heading, heading_rows, is_gone, gone_labels}
+use Rattle.spec_pages.specs.Pages.{begins_heading}
+use Rattle.spec_machine.specs.Outlines.{heading_rows, is_gone, gone_labels}
 
 -- Each heading has one label.
 pub label-count : (headings : List HeadingOf) (scenes : Option (List SceneRecordOf)) → length (scene_labels headings scenes) ≡ length headings

@@ -8,6 +8,7 @@ use Rattle.std.proofs.lemmas.Bool.{cases_Bool}
 use Rattle.std.proofs.lemmas.List.{take_more, length-take}
 use Rattle.std.proofs.lemmas.Option.{slice_get_within, get_or_from_slice_get}
 use Rattle.spec_pages.specs.declared.Shape.{Shape}
+use Rattle.spec_pages.specs.Pages.{begins_heading}
 use Rattle.spec_script.specs.Stanzas.{PlacedBlock}
 use Rattle.spec_script.specs.Elements.{is_speech_block}
 use Rattle.spec_labels.specs.Labels.{LabelOf}
@@ -15,7 +16,7 @@ use Rattle.spec_labels.specs.Scenes.{HeadingOf, SceneRecordOf}
 use Rattle.spec_layout.specs.Speakers.{cue_text, name_in}
 use Rattle.spec_outline.specs.Outline.{EntryOf}
 use Rattle.spec_state.specs.Headings.{is_heading_block}
-use Rattle.spec_machine.specs.Outlines.{Scenes, begins_heading, heading_rows, is_gone, speaker_names, block_entries, entries_from, headings_behind}
+use Rattle.spec_machine.specs.Outlines.{Scenes, heading_rows, is_gone, speaker_names, block_entries, entries_from, headings_behind}
 use Rattle.sp_entries.specs.Gone.{has_line, gone_among}
 use Rattle.sp_entries.proofs.Counts.{heading_rows-push}
 

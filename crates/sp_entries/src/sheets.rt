@@ -1,21 +1,15 @@
 //! The sheets on which headings begin.
 ghost use Rattle.std.specs.Prelude.{◌≡◌, Some, map, find, slice_get, string_bytes, option_copied, IfOk};
-ghost use Rattle.spec_machine.specs.Outlines.{begins_heading, has_row, heading_rows, sheet_text};
+ghost use Rattle.spec_machine.specs.Outlines.{has_row, heading_rows, sheet_text};
 ghost use Rattle.sp_entries.specs.Sheets.{AreInTurn, EndBefore, if_begun};
 
 use sp_answers::sheet_label_text;
+use sp_elements::begins_heading;
 use sp_locks::Sheet;
 use sp_print::SheetLabel;
 use sp_splice::GapList;
-use spec_pages::{RowKind, Shape};
+use spec_pages::Shape;
 use std::alloc::{AllocError, Global};
-
-/// Whether a heading begins with this row.
-fn begins_heading(shape: &Shape) -> bool
-    ensures { result ≡ begins_heading shape.now }
-{
-    matches!(shape.kind, RowKind::Heading) && shape.index == 0
-}
 
 /// The places of the rows that headings begin with.
 pub fn heading_rows(alloc: Global, shapes: &GapList<Shape>) -> Result<Vec<usize>, AllocError>

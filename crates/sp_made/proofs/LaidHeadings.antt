@@ -6,6 +6,7 @@ use Rattle.std.proofs.lemmas.List.{map-append, length-map, length-take-le, appen
 use Rattle.spec_text.specs.Lines.{IsText, line_texts}
 use Rattle.spec_script.specs.Stanzas.{blocks_of}
 use Rattle.spec_pages.specs.declared.Shape.{Shape}
+use Rattle.spec_pages.specs.Pages.{begins_heading}
 use Rattle.spec_pages.specs.Rows.{Row, ElementOf, placed_rows, shifted_row}
 use Rattle.spec_labels.specs.declared.RowKey.{RowKey}
 use Rattle.spec_labels.specs.Labels.{LabelOf}
@@ -21,7 +22,7 @@ use Rattle.sp_layout.specs.LaidOut.{LayoutOf}
 use Rattle.sp_elements.proofs.BodyExchanges.{count-append, till-is}
 use Rattle.sp_scenes.specs.LineLabels.{line_labels}
 use Rattle.sp_made.specs.Made.{laid_in}
-use Rattle.sp_numbers.specs.HeadingIds.{body_headings, heading_ids, is_heading_start, laid_headings, laid_labels}
+use Rattle.sp_numbers.specs.HeadingIds.{body_headings, heading_ids, laid_headings, laid_labels}
 use Rattle.sp_numbers.proofs.LinesOfHeadings.{labels-of}
 use Rattle.sp_numbers.proofs.OpenedHeadings.{ids-opened, state-opened}
 
@@ -31,7 +32,7 @@ ids-append : (shapes others : List Shape) (keys more : List RowKey) → length k
 ids-append [] others [] more same = refl
 ids-append [] others (key ∷ keys) more same = absurd (omega (arith, same))
 ids-append (shape ∷ shapes) others [] more same = absurd (omega (arith, same))
-ids-append (shape ∷ shapes) others (key ∷ keys) more same = by (is_heading_start shape) (ids-append shapes others keys more (omega (arith, same)))
+ids-append (shape ∷ shapes) others (key ∷ keys) more same = by (begins_heading shape) (ids-append shapes others keys more (omega (arith, same)))
   where
     by : (b : Bool) → heading_ids (shapes ++ others) (keys ++ more) ≡ heading_ids shapes keys ++ heading_ids others more
         → cond b (key.line ∷ heading_ids (shapes ++ others) (keys ++ more)) (heading_ids (shapes ++ others) (keys ++ more)) ≡ cond b (key.line ∷ heading_ids shapes keys) (heading_ids shapes keys) ++ heading_ids others more

@@ -6,9 +6,10 @@ use Rattle.std.proofs.lemmas.List.{drop_all, drop_more}
 use Rattle.std.proofs.lemmas.Option.{get_or_from_slice_get}
 use Rattle.std.proofs.lemmas.Slice.{between_is}
 use Rattle.spec_pages.specs.declared.Shape.{Shape}
+use Rattle.spec_pages.specs.Pages.{begins_heading}
 use Rattle.spec_layout.specs.Shown.{no_row}
 use Rattle.spec_labels.specs.declared.RowKey.{RowKey}
-use Rattle.sp_numbers.specs.HeadingIds.{IsHeadingFrom, heading_ids, is_heading_start}
+use Rattle.sp_numbers.specs.HeadingIds.{IsHeadingFrom, heading_ids}
 
 pub below : (place end : ℕ) → place ≤ end → (place ≡ end → ⊥) → place < end
 below place end within other = elim (eq-or-lt_of_le within) [ inl is ↦ absurd (other is) | inr low ↦ low ]
@@ -18,19 +19,19 @@ abbrev pub ids_left : List Shape → List RowKey → ℕ → List ℕ
 ids_left shapes keys i = heading_ids (drop i shapes) (drop i keys)
 
 ids-here : (shapes : List Shape) (keys : List RowKey) (i : ℕ) (shape : Shape) (key : RowKey) → i < length shapes → length keys ≡ length shapes
-    → ids_left shapes keys i ≡ cond (is_heading_start (get_or shapes i shape)) ((get_or keys i key).line ∷ ids_left shapes keys (i + 1)) (ids_left shapes keys (i + 1))
+    → ids_left shapes keys i ≡ cond (begins_heading (get_or shapes i shape)) ((get_or keys i key).line ∷ ids_left shapes keys (i + 1)) (ids_left shapes keys (i + 1))
 ids-here shapes keys i shape key inside same =
     let here = drop_more shapes i shape inside in
     let there = drop_more keys i key (omega (arith, inside, same)) in
     ap₂ heading_ids here there
 
 -- The next row is the first of a heading, or not.
-pub ids-heading : (shapes : List Shape) (keys : List RowKey) (i : ℕ) (shape : Shape) (key : RowKey) → i < length shapes → length keys ≡ length shapes → is_heading_start (get_or shapes i shape) ≡ true
+pub ids-heading : (shapes : List Shape) (keys : List RowKey) (i : ℕ) (shape : Shape) (key : RowKey) → i < length shapes → length keys ≡ length shapes → begins_heading (get_or shapes i shape) ≡ true
     → ids_left shapes keys i ≡ (get_or keys i key).line ∷ ids_left shapes keys (i + 1)
 ids-heading shapes keys i shape key inside same is =
     ids-here shapes keys i shape key inside same ∙ ap (λ b. cond b ((get_or keys i key).line ∷ ids_left shapes keys (i + 1)) (ids_left shapes keys (i + 1))) is
 
-pub ids-plain : (shapes : List Shape) (keys : List RowKey) (i : ℕ) (shape : Shape) (key : RowKey) → i < length shapes → length keys ≡ length shapes → is_heading_start (get_or shapes i shape) ≡ false
+pub ids-plain : (shapes : List Shape) (keys : List RowKey) (i : ℕ) (shape : Shape) (key : RowKey) → i < length shapes → length keys ≡ length shapes → begins_heading (get_or shapes i shape) ≡ false
     → ids_left shapes keys i ≡ ids_left shapes keys (i + 1)
 ids-plain shapes keys i shape key inside same is =
     ids-here shapes keys i shape key inside same ∙ ap (λ b. cond b ((get_or keys i key).line ∷ ids_left shapes keys (i + 1)) (ids_left shapes keys (i + 1))) is
@@ -42,7 +43,7 @@ no_key = record { line = 0; row = 0 }
 pub ids-next : (shapes : List Shape) (keys : List RowKey) (from place : ℕ) → length keys ≡ length shapes → IsHeadingFrom shapes from place → ids_left shapes keys from ≡ ids_left shapes keys place
 ids-next shapes keys from place same is = by (place - from) from (omega (arith, is.low)) is.none
   where
-    by : (n at : ℕ) → at + n ≡ place → ((k : ℕ) (d : Shape) → at ≤ k → k < place → is_heading_start (get_or shapes k d) ≡ false) → ids_left shapes keys at ≡ ids_left shapes keys place
+    by : (n at : ℕ) → at + n ≡ place → ((k : ℕ) (d : Shape) → at ≤ k → k < place → begins_heading (get_or shapes k d) ≡ false) → ids_left shapes keys at ≡ ids_left shapes keys place
     by zero at sum none = ap (ids_left shapes keys) (let e : at ≡ place = omega (arith, sum) in e)
     by (suc n) at sum none =
         let inside : at < length shapes = omega (arith, sum, is.within) in
@@ -58,7 +59,7 @@ ids-over shapes keys i over = ap (λ (those : List Shape). heading_ids those (dr
 abbrev pub AreLeft : Type 0 → List ℕ → List ℕ → Type 0
 AreLeft all left lefts = all ↔ left ≡ lefts
 
-pub left-plain : (all : Type 0) (shapes : List Shape) (keys : List RowKey) (i : ℕ) (shape : Shape) (lefts : List ℕ) → i < length shapes → length keys ≡ length shapes → is_heading_start (get_or shapes i shape) ≡ false
+pub left-plain : (all : Type 0) (shapes : List Shape) (keys : List RowKey) (i : ℕ) (shape : Shape) (lefts : List ℕ) → i < length shapes → length keys ≡ length shapes → begins_heading (get_or shapes i shape) ≡ false
     → AreLeft all (ids_left shapes keys i) lefts → AreLeft all (ids_left shapes keys (i + 1)) lefts
 left-plain all shapes keys i shape lefts inside same is are =
     let one = ids-plain shapes keys i shape no_key inside same is in
@@ -70,7 +71,7 @@ record BothHead (shapes : List Shape) (keys : List RowKey) (i : ℕ) (others : L
   pub two : ids_left others other_keys next ≡ other ∷ ids_left others other_keys (next + 1)
 
 both-head : (shapes : List Shape) (keys : List RowKey) (i : ℕ) (others : List Shape) (other_keys : List RowKey) (from next : ℕ) (shape : Shape) (key other : RowKey) → i < length shapes → length keys ≡ length shapes
-    → length other_keys ≡ length others → next < length others → IsHeadingFrom others from next → is_heading_start (get_or shapes i shape) ≡ true
+    → length other_keys ≡ length others → next < length others → IsHeadingFrom others from next → begins_heading (get_or shapes i shape) ≡ true
     → BothHead shapes keys i others other_keys next (get_or keys i key).line (get_or other_keys next other).line
 both-head shapes keys i others other_keys from next shape key other inside same sames some is opens = record {
   one = ids-heading shapes keys i shape key inside same opens;
@@ -78,7 +79,7 @@ both-head shapes keys i others other_keys from next shape key other inside same 
 }
 
 pub left-heading : (all : Type 0) (shapes : List Shape) (keys : List RowKey) (i : ℕ) (others : List Shape) (other_keys : List RowKey) (from next behind : ℕ) (shape : Shape) (key other : RowKey) → i < length shapes → length keys ≡ length shapes
-    → length other_keys ≡ length others → next < length others → IsHeadingFrom others from next → is_heading_start (get_or shapes i shape) ≡ true → (get_or other_keys next other).line ≡ (get_or keys i key).line
+    → length other_keys ≡ length others → next < length others → IsHeadingFrom others from next → begins_heading (get_or shapes i shape) ≡ true → (get_or other_keys next other).line ≡ (get_or keys i key).line
     → IsHeadingFrom others (next + 1) behind → AreLeft all (ids_left shapes keys i) (ids_left others other_keys next) → AreLeft all (ids_left shapes keys (i + 1)) (ids_left others other_keys behind)
 left-heading all shapes keys i others other_keys from next behind shape key other inside same sames some is opens line after are =
     let both = both-head shapes keys i others other_keys from next shape key other inside same sames some is opens in
@@ -90,7 +91,7 @@ left-heading all shapes keys i others other_keys from next behind shape key othe
 
 -- They are of other lines.
 pub left-other : (all : Type 0) (shapes : List Shape) (keys : List RowKey) (i : ℕ) (others : List Shape) (other_keys : List RowKey) (from next : ℕ) (shape : Shape) (key other : RowKey) → i < length shapes → length keys ≡ length shapes
-    → length other_keys ≡ length others → next < length others → IsHeadingFrom others from next → is_heading_start (get_or shapes i shape) ≡ true → ((get_or other_keys next other).line ≡ (get_or keys i key).line → ⊥)
+    → length other_keys ≡ length others → next < length others → IsHeadingFrom others from next → begins_heading (get_or shapes i shape) ≡ true → ((get_or other_keys next other).line ≡ (get_or keys i key).line → ⊥)
     → AreLeft all (ids_left shapes keys i) (ids_left others other_keys next) → all → ⊥
 left-other all shapes keys i others other_keys from next shape key other inside same sames some is opens line are h =
     let both = both-head shapes keys i others other_keys from next shape key other inside same sames some is opens in
@@ -99,7 +100,7 @@ left-other all shapes keys i others other_keys from next shape key other inside 
 
 -- There is none on the other side.
 pub left-over : (all : Type 0) (shapes : List Shape) (keys : List RowKey) (i : ℕ) (others : List Shape) (other_keys : List RowKey) (next : ℕ) (shape : Shape) → i < length shapes → length keys ≡ length shapes → length others ≤ next
-    → is_heading_start (get_or shapes i shape) ≡ true → AreLeft all (ids_left shapes keys i) (ids_left others other_keys next) → all → ⊥
+    → begins_heading (get_or shapes i shape) ≡ true → AreLeft all (ids_left shapes keys i) (ids_left others other_keys next) → all → ⊥
 left-over all shapes keys i others other_keys next shape inside same over opens are h =
     let one = ids-heading shapes keys i shape no_key inside same opens in
     let e : (get_or keys i no_key).line ∷ ids_left shapes keys (i + 1) ≡ [] = sym one ∙ are.0 h ∙ ids-over others other_keys next over in

@@ -3,20 +3,13 @@ ghost use Rattle.std.specs.Prelude.{◌≡◌, ℕ, ◌≤◌, ◌↔◌, IsTrue
 ghost use Rattle.sp_elements.specs.Bodies.{keyed_elements, row_count};
 ghost use Rattle.sp_elements.specs.Exchanges.{with_run};
 ghost use Rattle.sp_relay.specs.Kept.{CanSwap, laid_of, with_part};
-ghost use Rattle.sp_numbers.specs.HeadingIds.{IsHeadingFrom, body_headings, heading_ids, is_heading_start, laid_headings};
+ghost use Rattle.sp_numbers.specs.HeadingIds.{IsHeadingFrom, body_headings, heading_ids, laid_headings};
 
-use sp_elements::Body;
+use sp_elements::{Body, begins_heading};
 use sp_relay::{KeptLayout, LayoutPart};
 use sp_splice::GapList;
 use spec_labels::RowKey;
-use spec_pages::{RowKind, Shape};
-
-/// Whether the row is the first of a heading.
-fn is_heading_start(shape: &Shape) -> bool
-    ensures { result ≡ is_heading_start shape.now }
-{
-    matches!(shape.kind, RowKind::Heading) && shape.index == 0
-}
+use spec_pages::Shape;
 
 /// The first row of a heading from a place on, or the number of rows.
 fn next_heading(shapes: &GapList<Shape>, from: usize) -> usize
@@ -24,7 +17,7 @@ fn next_heading(shapes: &GapList<Shape>, from: usize) -> usize
     ensures { IsHeadingFrom shapes.now.items from result }
 {
     for place in from..shapes.len() {
-        if is_heading_start(shapes.at(place)) {
+        if begins_heading(shapes.at(place)) {
             return place;
         }
     }
@@ -48,7 +41,7 @@ fn same_headings(
 {
     let mut next = next_heading(others, 0);
     for place in from..to {
-        if is_heading_start(shapes.at(place)) {
+        if begins_heading(shapes.at(place)) {
             if next == others.len() || other_keys.at(next).line != keys.at(place).line {
                 return false;
             }

@@ -9,7 +9,7 @@ use Rattle.spec_script.specs.declared.Kind.TheVariants as kinds
 use Rattle.spec_script.specs.Stanzas.{PlacedBlock, blocks_of}
 use Rattle.spec_script.specs.Elements.{is_speech_block}
 use Rattle.spec_pages.specs.declared.Shape.{Shape}
-use Rattle.spec_pages.specs.Pages.{is_heading}
+use Rattle.spec_pages.specs.Pages.{begins_heading}
 use Rattle.spec_labels.specs.Labels.{LabelOf, plain_label, label_cmp, label_text}
 use Rattle.spec_labels.specs.Scenes.{HeadingOf, SceneRecordOf, scene_labels}
 use Rattle.spec_labels.specs.PageRecords.{SheetOf}
@@ -22,10 +22,6 @@ use Rattle.spec_state.specs.Headings.{headings_of, is_heading_block, is_numbered
 use Rattle.spec_state.specs.StateSheets.{rows_in, body_sheets}
 
 -- ---- the sheets of headings
-
--- A heading begins with this row.
-abbrev pub begins_heading : Shape → Bool
-begins_heading shape = is_heading shape.kind && (shape.index == 0)
 
 -- The places of the rows that headings begin with, where so many rows stand before these.
 abbrev pub heading_rows : ℕ → List Shape → List ℕ

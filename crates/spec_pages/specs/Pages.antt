@@ -41,6 +41,10 @@ continues_speech row = is_speech row.kind && nat_lt 0 row.index
 abbrev pub goes_on : Shape → Bool
 goes_on row = is_speech row.kind && nat_lt 0 row.rest
 
+-- The first row of a heading.
+abbrev pub begins_heading : Shape → Bool
+begins_heading row = is_heading row.kind && (row.index == 0)
+
 -- A page may end between these two rows.
 abbrev pub may_part : Shape → Shape → Bool
 may_part above below =

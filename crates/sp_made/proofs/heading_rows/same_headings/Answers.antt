@@ -1,10 +1,11 @@
 use Rattle.std.proofs.Common.{◌≡◌, ℕ, ◌+◌, ◌<◌, ◌↔◌, false, length, take, sym, ap, ◌∙◌, subst, arith}
 use Rattle.std.specs.Prelude.{IsTrue, slice_range}
 use Rattle.std.proofs.lemmas.Bool.{eq-eqb, eqb-true, true≢false}
-use Rattle.sp_numbers.specs.HeadingIds.{IsHeadingFrom, heading_ids, is_heading_start}
+use Rattle.spec_pages.specs.Pages.{begins_heading}
+use Rattle.sp_numbers.specs.HeadingIds.{IsHeadingFrom, heading_ids}
 use Rattle.sp_made.proofs.SameHeadings.{AreLeft, below, ids_left, ids-next, ids-run, left-end, left-heading, left-other, left-over, left-plain, same-lines, same-till, till-inside, till-over, till-read}
 use Rattle.sp_made.proofs.heading_rows.same_headings.Goals as goal
-use Rattle.sp_made.proofs.heading_rows.same_headings.Goals.{then-next-len-via-then-next-len, then-next-len-via-else-next-len+then-at, then-is_heading_start+else-next-len+else-at, else-is_heading_start}
+use Rattle.sp_made.proofs.heading_rows.same_headings.Goals.{then-next-len-via-then-next-len, then-next-len-via-else-next-len+then-at, then-begins_heading+else-next-len+else-at, else-begins_heading}
 
 pub loop-place-init : goal.loop-place-init
 loop-place-init c =
@@ -41,7 +42,7 @@ returns-then-next-len c =
     let low : place < to = c.loop-place-test.true in
     let inside = till-inside shapes to place low c.requires.within in
     let same = same-till shapes keys to c.requires.keys in
-    let opens = ap is_heading_start (till-read shapes to place c.at.result.now c.at.result.now low c.at.ensures) ∙ sym c.is_heading_start.ensures ∙ c.if-is_heading_start.true in
+    let opens = ap begins_heading (till-read shapes to place c.at.result.now c.at.result.now low c.at.ensures) ∙ sym c.begins_heading.ensures ∙ c.if-begins_heading.true in
     let differ : (all → ⊥) → (IsTrue false ↔ all) = λ other. (λ is. absurd (true≢false (sym is)), λ h. absurd (other h)) in
     elim c.then-next-len.branch [
       | then-next-len-via-then-next-len w ↦
@@ -67,18 +68,18 @@ loop-place-preserved c =
     let low : place < to = c.loop-place-test.true in
     let inside = till-inside shapes to place low c.requires.within in
     let same = same-till shapes keys to c.requires.keys in
-    let read = ap is_heading_start (till-read shapes to place c.at.result.now c.at.result.now low c.at.ensures) ∙ sym c.is_heading_start.ensures in
+    let read = ap begins_heading (till-read shapes to place c.at.result.now c.at.result.now low c.at.ensures) ∙ sym c.begins_heading.ensures in
     let P : ℕ → Type 0 = λ next. ((x : ℕ) × IsHeadingFrom others x next) × AreLeft all (ids_left (take to shapes) (take to keys) (place + 1)) (ids_left others other_keys next) in
-    elim c.if-is_heading_start.branch [
-      | then-is_heading_start+else-next-len+else-at w ↦
+    elim c.if-begins_heading.branch [
+      | then-begins_heading+else-next-len+else-at w ↦
           let some : c.loop-place.next < length others = below c.loop-place.next (length others) (start.1).within (λ e. w.if-next-len.false (e ∙ sym w.len.ensures.len)) in
           let lines = same-lines keys other_keys to place c.loop-place.next w.at-else-next-len-2.result.now w.at-else-next-len.result.now low w.at-else-next-len-2.ensures w.at-else-next-len.ensures in
-          let after = w.next_heading-next-then-is_heading_start.ensures in
-          let behind = w.next_heading-next-then-is_heading_start.result in
+          let after = w.next_heading-next-then-begins_heading.ensures in
+          let behind = w.next_heading-next-then-begins_heading.result in
           subst P (sym w.next-is) (
             (c.loop-place.next + 1, after),
-            left-heading all (take to shapes) (take to keys) place others other_keys start.0 c.loop-place.next behind _ _ _ inside same c.requires.other_keys some start.1 (read ∙ w.if-is_heading_start.true) (lines.1 w.if-at.false) after left,
+            left-heading all (take to shapes) (take to keys) place others other_keys start.0 c.loop-place.next behind _ _ _ inside same c.requires.other_keys some start.1 (read ∙ w.if-begins_heading.true) (lines.1 w.if-at.false) after left,
           )
-      | else-is_heading_start w ↦
-          subst P (sym w.next-is) (start, left-plain all (take to shapes) (take to keys) place _ (ids_left others other_keys c.loop-place.next) inside same (read ∙ w.if-is_heading_start.false) left)
+      | else-begins_heading w ↦
+          subst P (sym w.next-is) (start, left-plain all (take to shapes) (take to keys) place _ (ids_left others other_keys c.loop-place.next) inside same (read ∙ w.if-begins_heading.false) left)
     ]
