@@ -1,55 +1,24 @@
 -- A lock of pages and a new round leave the first rows of pages as they were.
-use Rattle.std.proofs.Common.{◌≡◌, ℕ, zero, suc, ◌<◌, cond, Option, Some, None, List, [], ◌∷◌, ◌++◌, map, length, refl, sym, ap, subst, ◌∙◌, arith}
+use Rattle.std.proofs.Common.{◌≡◌, ℕ, ◌<◌, Option, Some, None, List, [], ◌∷◌, ◌++◌, map, length, refl, sym, ap, subst, ◌∙◌, arith}
 use Rattle.std.specs.Prelude.{IfSome}
-use Rattle.std.proofs.lemmas.Bool.{lt-ltb}
 use Rattle.std.proofs.lemmas.List.{length-map}
 use Rattle.spec_text.specs.Lines.{LineState}
-use Rattle.spec_pages.specs.declared.Shape.{Shape}
 use Rattle.spec_pages.specs.declared.Paper.{Paper}
-use Rattle.spec_pages.specs.declared.Paper.TheVariants.{Letter, A4}
-use Rattle.spec_pages.specs.Heights.{Heights, starts_of, next_of, starts_behind}
+use Rattle.spec_pages.specs.Heights.{Heights, starts_of}
 use Rattle.spec_pages.specs.Pages.{text_heights, rows_on}
-use Rattle.spec_pages.proofs.PageLaws.{height_of-one}
-use Rattle.spec_pages.proofs.OpenedPages.{OneFits}
 use Rattle.spec_pages.proofs.StartLists.{starts-are}
 use Rattle.spec_labels.specs.declared.RowKey.{RowKey}
 use Rattle.spec_labels.specs.Anchors.{AreKeys}
-use Rattle.spec_labels.specs.PageRecords.{PageRecordOf, SheetOf, record_starts, sheets_of_records, extended_page_records}
+use Rattle.spec_labels.specs.PageRecords.{PageRecordOf, SheetOf, extended_page_records}
 use Rattle.spec_layout.specs.Shown.{Shown, shape_of, key_of}
 use Rattle.spec_state.specs.State.{State}
-use Rattle.spec_state.specs.StateSheets.{numbered_sheets, layout_in, rows_in, locked_starts, pages_in, sheets_in}
+use Rattle.spec_state.specs.StateSheets.{numbered_sheets, layout_in, rows_in, pages_in, sheets_in}
 use Rattle.spec_state.specs.Openings.{pages_extended, pages_locked, round_begun}
 use Rattle.spec_state.specs.SoundStates.{AreLocked, IsSound}
 use Rattle.spec_state.proofs.StateKeys.{state-keys}
-use Rattle.spec_rounds.proofs.OpeningLaw.{first_records, next_records, numbered-Locking, rows-stay}
+use Rattle.spec_rounds.proofs.OpeningLaw.{one-fits, first-start, pages-count, sheets-count, first_records, next_records, numbered-Locking, rows-stay}
 use Rattle.spec_rounds.proofs.RoundLaw.{round_records, round-stays-in, Locking, LockStays, lock-stays-in}
 use Rattle.spec_locked_pages.specs.Segments.{pages_of}
-
-one-fits : (paper : Paper) (shapes : List Shape) → OneFits (rows_on paper) (text_heights shapes)
-one-fits Letter shapes = record { low = λ p. (let h = height_of-one shapes p in omega (arith, h)) }
-one-fits A4 shapes = record { low = λ p. (let h = height_of-one shapes p in omega (arith, h)) }
-
-first-start : (limit : ℕ) (heights : Heights) (count : ℕ) (stops : List ℕ) → 0 < count → (later : List ℕ) × (starts_of limit heights count stops ≡ 0 ∷ later)
-first-start limit heights zero stops some = absurd (omega (arith, some))
-first-start limit heights (suc n) stops some = (
-  starts_behind limit heights (suc n) stops n (next_of limit heights (suc n) stops 0),
-  ap (λ b. cond b (0 ∷ starts_behind limit heights (suc n) stops n (next_of limit heights (suc n) stops 0)) []) (lt-ltb 0 (suc n) some),
-)
-
--- Pages and sheets, by how many rows there are.
-abbrev pages_by : ℕ → ℕ → List LineState → List Shown → List ℕ → Option (List PageRecordOf) → List ℕ
-pages_by count limit lines rows breaks records = starts_of limit (text_heights (map shape_of rows)) count (breaks ++ locked_starts lines rows records)
-
-abbrev sheets_by : ℕ → ℕ → List LineState → List Shown → List ℕ → Option (List PageRecordOf) → List SheetOf
-sheets_by count limit lines rows breaks None = numbered_sheets rows 1 (pages_by count limit lines rows breaks None)
-sheets_by count limit lines rows breaks (Some records) = sheets_of_records (length rows) records (record_starts lines (map key_of rows) records) (pages_by count limit lines rows breaks (Some records))
-
-pages-count : (limit : ℕ) (lines : List LineState) (rows : List Shown) (breaks : List ℕ) (records : Option (List PageRecordOf)) → pages_in limit lines rows breaks records ≡ pages_by (length rows) limit lines rows breaks records
-pages-count limit lines rows breaks records = ap (λ n. pages_by n limit lines rows breaks records) (length-map rows shape_of)
-
-sheets-count : (limit : ℕ) (lines : List LineState) (rows : List Shown) (breaks : List ℕ) (records : Option (List PageRecordOf)) → sheets_in limit lines rows breaks records ≡ sheets_by (length rows) limit lines rows breaks records
-sheets-count limit lines rows breaks None = ap (λ n. sheets_by n limit lines rows breaks None) (length-map rows shape_of)
-sheets-count limit lines rows breaks (Some records) = ap (λ n. sheets_by n limit lines rows breaks (Some records)) (length-map rows shape_of)
 
 round-pages : (paper : Paper) (lines : List LineState) (rows : List Shown) (breaks : List ℕ) (records : List PageRecordOf) → AreKeys lines (map key_of rows) → AreLocked records
     → pages_in (rows_on paper) lines rows breaks (Some (next_records paper lines rows breaks records)) ≡ pages_in (rows_on paper) lines rows breaks (Some records)

@@ -90,7 +90,7 @@ numbered-Locking rows number pages are = record {
 
 -- ---- the labels that are shown
 
-one-fits : (paper : Paper) (shapes : List Shape) → OneFits (rows_on paper) (text_heights shapes)
+pub one-fits : (paper : Paper) (shapes : List Shape) → OneFits (rows_on paper) (text_heights shapes)
 one-fits Letter shapes = record { low = λ p. (let h = height_of-one shapes p in omega (arith, h)) }
 one-fits A4 shapes = record { low = λ p. (let h = height_of-one shapes p in omega (arith, h)) }
 
@@ -101,7 +101,7 @@ labels-stay lines None known are = refl
 labels-stay lines (Some records) known are = ap (λ (labels : List LabelOf). Some labels) (extended-labels records (headings_of lines) are known)
 
 -- The first page begins with the rows.
-first-start : (limit : ℕ) (heights : Heights) (count : ℕ) (stops : List ℕ) → 0 < count → (later : List ℕ) × (starts_of limit heights count stops ≡ 0 ∷ later)
+pub first-start : (limit : ℕ) (heights : Heights) (count : ℕ) (stops : List ℕ) → 0 < count → (later : List ℕ) × (starts_of limit heights count stops ≡ 0 ∷ later)
 first-start limit heights zero stops some = absurd (omega (arith, some))
 first-start limit heights (suc n) stops some = (
   starts_behind limit heights (suc n) stops n (next_of limit heights (suc n) stops 0),
@@ -110,17 +110,17 @@ first-start limit heights (suc n) stops some = (
 
 -- ---- the sheets of rows, by how many they are
 
-abbrev pages_by : ℕ → ℕ → List LineState → List Shown → List ℕ → Option (List PageRecordOf) → List ℕ
+abbrev pub pages_by : ℕ → ℕ → List LineState → List Shown → List ℕ → Option (List PageRecordOf) → List ℕ
 pages_by count limit lines rows breaks records = starts_of limit (text_heights (map shape_of rows)) count (breaks ++ locked_starts lines rows records)
 
-abbrev sheets_by : ℕ → ℕ → List LineState → List Shown → List ℕ → Option (List PageRecordOf) → List SheetOf
+abbrev pub sheets_by : ℕ → ℕ → List LineState → List Shown → List ℕ → Option (List PageRecordOf) → List SheetOf
 sheets_by count limit lines rows breaks None = numbered_sheets rows 1 (pages_by count limit lines rows breaks None)
 sheets_by count limit lines rows breaks (Some records) = sheets_of_records (length rows) records (record_starts lines (map key_of rows) records) (pages_by count limit lines rows breaks (Some records))
 
-pages-count : (limit : ℕ) (lines : List LineState) (rows : List Shown) (breaks : List ℕ) (records : Option (List PageRecordOf)) → pages_in limit lines rows breaks records ≡ pages_by (length rows) limit lines rows breaks records
+pub pages-count : (limit : ℕ) (lines : List LineState) (rows : List Shown) (breaks : List ℕ) (records : Option (List PageRecordOf)) → pages_in limit lines rows breaks records ≡ pages_by (length rows) limit lines rows breaks records
 pages-count limit lines rows breaks records = ap (λ n. pages_by n limit lines rows breaks records) (length-map rows shape_of)
 
-sheets-count : (limit : ℕ) (lines : List LineState) (rows : List Shown) (breaks : List ℕ) (records : Option (List PageRecordOf)) → sheets_in limit lines rows breaks records ≡ sheets_by (length rows) limit lines rows breaks records
+pub sheets-count : (limit : ℕ) (lines : List LineState) (rows : List Shown) (breaks : List ℕ) (records : Option (List PageRecordOf)) → sheets_in limit lines rows breaks records ≡ sheets_by (length rows) limit lines rows breaks records
 sheets-count limit lines rows breaks None = ap (λ n. sheets_by n limit lines rows breaks None) (length-map rows shape_of)
 sheets-count limit lines rows breaks (Some records) = ap (λ n. sheets_by n limit lines rows breaks (Some records)) (length-map rows shape_of)
 
