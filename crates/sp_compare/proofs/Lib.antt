@@ -3,5 +3,4 @@ pub mod CellLists
 pub mod RowLists
 pub mod RowPlaces
 pub mod OldRowLaws
-pub mod SameLaws
 pub mod StayLaws

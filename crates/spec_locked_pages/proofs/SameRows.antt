@@ -1,62 +1,16 @@
 -- Rows are the same as themselves, and a record whose rows an edit leaves keeps its round.
-use Rattle.std.proofs.Common.{◌≡◌, ℕ, zero, suc, ◌+◌, ◌<◌, Bool, true, false, ◌&&◌, ◌==◌, List, [], ◌∷◌, length, map, get_or, refl, ap, ap₂, ◌∙◌, arith}
+use Rattle.std.proofs.Common.{◌≡◌, ℕ, zero, suc, ◌+◌, ◌<◌, Bool, true, false, List, [], ◌∷◌, length, map, get_or, refl, ap, ap₂, ◌∙◌, arith}
 use Rattle.std.specs.Prelude.{slice_range}
-use Rattle.std.specs.Ordering.{is_eq}
-use Rattle.std.proofs.lemmas.Bool.{eq-eqb}
-use Rattle.std.proofs.lemmas.Cmp.{tied_itself}
-use Rattle.std.proofs.lemmas.Slice.Eq.{bytes_eq-Decides}
-use Rattle.spec_pages.specs.declared.Shape.{Shape}
 use Rattle.spec_labels.specs.declared.RowKey.{RowKey}
 use Rattle.spec_labels.specs.PageRecords.{PageRecordOf, record_start, record_starts}
-use Rattle.spec_labels.proofs.LabelOrder.{label_cmp_total}
-use Rattle.spec_layout.specs.Cells.{ShownText, slice, label, ShownPart, ShownCell}
 use Rattle.spec_layout.specs.Shown.{Shown}
 use Rattle.spec_text.specs.Lines.{LineState}
 use Rattle.spec_state.specs.State.{State}
 use Rattle.spec_state.specs.StateSheets.{rows_in, keys_in}
-use Rattle.spec_state.specs.SameRows.{BareRow, bare_of, kind_place, same_flag, same_key, same_shape, same_text, same_part, same_parts, same_cell, same_cells, same_row, same_list, same_rows}
+use Rattle.spec_state.specs.SameRows.{bare_of, same_rows}
 use Rattle.spec_state.specs.Changes.{segment_rows, rows_by_record, raised, raised_records}
+use Rattle.spec_state.proofs.SameLaws.{list-itself}
 use Rattle.spec_locked_pages.specs.Segments.{no_record}
-
-and-both : (a b : Bool) → a ≡ true → b ≡ true → (a && b) ≡ true
-and-both a b one other = ap₂ (λ x y. x && y) one other
-
-same-number : (n : ℕ) → (n == n) ≡ true
-same-number n = eq-eqb n n refl
-
-flag-itself : (b : Bool) → same_flag b b ≡ true
-flag-itself true = refl
-flag-itself false = refl
-
-text-itself : (text : ShownText) → same_text text text ≡ true
-text-itself (slice bytes) = (bytes_eq-Decides bytes bytes).1 refl
-text-itself (label it) = ap is_eq (tied_itself label_cmp_total it)
-
-parts-itself : (parts : List ShownPart) → same_parts parts parts ≡ true
-parts-itself [] = refl
-parts-itself (part ∷ parts) = and-both (same_part part part) (same_parts parts parts) (and-both (part.style == part.style) (same_text part.text part.text) (same-number part.style) (text-itself part.text)) (parts-itself parts)
-
-cells-itself : (cells : List ShownCell) → same_cells cells cells ≡ true
-cells-itself [] = refl
-cells-itself (cell ∷ cells) = and-both (same_cell cell cell) (same_cells cells cells) (and-both (cell.column == cell.column) (same_parts cell.parts cell.parts) (same-number cell.column) (parts-itself cell.parts)) (cells-itself cells)
-
-shape-itself : (shape : Shape) → same_shape shape shape ≡ true
-shape-itself shape =
-    and-both (shape.lead == shape.lead) ((kind_place shape.kind == kind_place shape.kind) && ((shape.index == shape.index) && ((shape.rest == shape.rest) && same_flag shape.sentence_end shape.sentence_end))) (same-number shape.lead)
-    (and-both (kind_place shape.kind == kind_place shape.kind) ((shape.index == shape.index) && ((shape.rest == shape.rest) && same_flag shape.sentence_end shape.sentence_end)) (same-number (kind_place shape.kind))
-    (and-both (shape.index == shape.index) ((shape.rest == shape.rest) && same_flag shape.sentence_end shape.sentence_end) (same-number shape.index)
-    (and-both (shape.rest == shape.rest) (same_flag shape.sentence_end shape.sentence_end) (same-number shape.rest) (flag-itself shape.sentence_end))))
-
-row-itself : (it : BareRow) → same_row it it ≡ true
-row-itself it =
-    and-both (same_key it.key it.key) (same_shape it.shape it.shape && ((it.mark == it.mark) && same_cells it.cells it.cells))
-    (and-both (it.key.line == it.key.line) (it.key.row == it.key.row) (same-number it.key.line) (same-number it.key.row))
-    (and-both (same_shape it.shape it.shape) ((it.mark == it.mark) && same_cells it.cells it.cells) (shape-itself it.shape)
-    (and-both (it.mark == it.mark) (same_cells it.cells it.cells) (same-number it.mark) (cells-itself it.cells)))
-
-list-itself : (rows : List BareRow) → same_list rows rows ≡ true
-list-itself [] = refl
-list-itself (it ∷ rows) = and-both (same_row it it) (same_list rows rows) (row-itself it) (list-itself rows)
 
 pub rows-itself : (one other : List Shown) → other ≡ one → same_rows one other ≡ true
 rows-itself one other same = ap (same_rows one) same ∙ list-itself (map bare_of one)

@@ -11,3 +11,4 @@ pub mod SheetHeights
 pub mod SheetGets
 pub mod OpenedLaws
 pub mod SheetTexts
+pub mod SameLaws

@@ -1,9 +1,9 @@
 use Rattle.std.proofs.Common.{◌≡◌, ◌+◌, ◌-◌, ℕ, true, false, ap, ap₂, sym, subst, ◌∙◌, arith}
 use Rattle.std.specs.Bool.{OnTrue}
 use Rattle.spec_state.specs.SameRows.{same_list}
+use Rattle.spec_state.proofs.SameLaws.{list-itself}
 use Rattle.sp_compare.specs.BareRows.{bare_rows}
 use Rattle.sp_compare.proofs.RowLists.{length-bare, list-differ, slice-bare}
-use Rattle.sp_compare.proofs.SameLaws.{list-itself}
 use Rattle.sp_compare.proofs.both.BothTexts.same_rows.Goals as goal
 
 pub returns-then-to-from : goal.returns-then-to-from

@@ -1,5 +1,5 @@
 -- A row is the same as itself.
-use Rattle.std.proofs.Common.{◌≡◌, Bool, true, false, ◌&&◌, List, [], ◌∷◌, refl, ap, ◌∙◌, eq-eqb}
+use Rattle.std.proofs.Common.{◌≡◌, Bool, true, false, ◌&&◌, List, [], ◌∷◌, refl, ap, eq-eqb}
 use Rattle.std.specs.Prelude.{nat_eq}
 use Rattle.std.specs.Ordering.{is_eq}
 use Rattle.std.proofs.lemmas.Bool.{and_from}
@@ -7,7 +7,6 @@ use Rattle.std.proofs.lemmas.Cmp.{tied_itself}
 use Rattle.std.proofs.lemmas.Slice.Eq.{bytes_eq-Decides}
 use Rattle.spec_pages.specs.declared.Shape.{Shape}
 use Rattle.spec_labels.specs.declared.RowKey.{RowKey}
-use Rattle.spec_labels.specs.Labels.{label_cmp}
 use Rattle.spec_labels.proofs.LabelOrder.{label_cmp_total}
 use Rattle.spec_layout.specs.Cells.{ShownText, slice, label, ShownPart, ShownCell}
 use Rattle.spec_state.specs.SameRows.{BareRow, kind_place, same_flag, same_key, same_shape, same_text, same_part, same_parts, same_cell, same_cells, same_row, same_list}
