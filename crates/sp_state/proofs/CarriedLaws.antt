@@ -37,6 +37,7 @@ use Rattle.spec_machine.proofs.PageKeeps.{edited-pages}
 use Rattle.spec_machine.proofs.WholeStates.{edit-whole}
 use Rattle.spec_state.proofs.StateKeys.{state-row_keys}
 use Rattle.spec_state.proofs.StateLaws.{state-AreAnchored, state-AreStarts}
+use Rattle.spec_locked_pages.proofs.SameRows.{starts-raised}
 use Rattle.sp_elements.specs.Bodies.{KeyedElements, row_count}
 use Rattle.sp_compare.specs.BareRows.{AreLaid, Both}
 use Rattle.sp_exchange.specs.Restoring.{CanRestoreText}
@@ -44,7 +45,7 @@ use Rattle.sp_state.specs.TextEntries.{TextEntryState, FitRecords, LeadsTextBack
 use Rattle.sp_made.specs.Made.{first_rows, key_starts}
 use Rattle.sp_state.specs.Raised.{AreCarried, AreSegments, CanCarry, FitPages, put_back_in, raises, raises_in, records_carried, records_raised, state_before, with_pages}
 use Rattle.sp_made.proofs.MadeLaws.{count-rows}
-use Rattle.sp_state.proofs.RaisedLaws.{raised-starts, raises-distinct, raises-raised, raises-within}
+use Rattle.sp_state.proofs.RaisedLaws.{raises-distinct, raises-raised, raises-within}
 
 -- ---- a carried state is whole
 
@@ -219,7 +220,7 @@ raised-firsts text back records = by records.pages
 
     by : (pages : Option (List PageRecordOf)) → key_starts text.lines (keys_in after) (pages_raised old after pages (option_map (carried_records text.lines place) pages)) ≡ key_starts text.lines (keys_in after) (option_map (carried_records text.lines place) pages)
     by None = refl
-    by (Some those) = raised-starts text.lines (keys_in after) records.round (rows_by_record old those) (rows_by_record after (carried_records text.lines place those)) (carried_records text.lines place those)
+    by (Some those) = starts-raised text.lines (keys_in after) records.round (rows_by_record old those) (rows_by_record after (carried_records text.lines place those)) (carried_records text.lines place those)
 
 -- They fit the records.
 pub raised-fit : (olds : List (List Shown)) (state : State) (records : RecordsOf) (moved : List Moved) → moved ≡ raises_in olds state records.pages → FitPages records moved

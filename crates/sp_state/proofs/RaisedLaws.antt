@@ -1,11 +1,9 @@
 -- The rounds that an edit gives page records.
 use Rattle.std.proofs.Common.{◌≡◌, ◌≢◌, ℕ, zero, suc, ◌+◌, ◌<◌, ◌≤◌, Bool, true, false, cond, Option, Some, None, List, [], ◌∷◌, ◌++◌, length, drop, get_or, append_assoc, eq-eqb, ne_eqb, refl, ap, ap₂, sym, ◌∙◌, arith}
-use Rattle.std.specs.Prelude.{All, AllPairs, map, slice_index, slice_index_or, slice_range}
+use Rattle.std.specs.Prelude.{All, AllPairs, slice_index, slice_index_or, slice_range}
 use Rattle.std.proofs.lemmas.List.{drop_more, get_or-drop}
-use Rattle.spec_text.specs.Lines.{LineState}
 use Rattle.spec_labels.specs.declared.Moved.{Moved}
-use Rattle.spec_labels.specs.declared.RowKey.{RowKey}
-use Rattle.spec_labels.specs.PageRecords.{PageRecordOf, moved_at, moved_of, put_back_from, put_back_records, record_start, record_starts, with_anchor}
+use Rattle.spec_labels.specs.PageRecords.{PageRecordOf, moved_at, moved_of, put_back_from, put_back_records, with_anchor}
 use Rattle.spec_layout.specs.Shown.{Shown}
 use Rattle.spec_state.specs.Changes.{raised, raised_records, segment_rows}
 use Rattle.spec_state.specs.SameRows.{same_rows}
@@ -112,26 +110,6 @@ raises-from-raised round index (old ∷ olds) (new ∷ news) (it ∷ records) = 
 -- Putting them in raises the records whose rows differ.
 pub raises-raised : (round : ℕ) (olds news : List (List Shown)) (records : List PageRecordOf) → put_back_records (raises round 0 olds news records) records ≡ raised_records round olds news records
 raises-raised round olds news records = raises-from-raised round 0 olds news records
-
--- ---- first rows
-
--- A round leaves the first row of a record where it is.
-raised-start : (lines : List LineState) (rows : List RowKey) (round : ℕ) (same : Bool) (it : PageRecordOf) → record_start lines rows (raised round same it) ≡ record_start lines rows it
-raised-start lines rows round true it = refl
-raised-start lines rows round false it = refl
-
-later-starts : (lines : List LineState) (rows : List RowKey) (round : ℕ) (olds news : List (List Shown)) (records : List PageRecordOf) → map (record_start lines rows) (raised_records round olds news records) ≡ map (record_start lines rows) records
-later-starts lines rows round [] news records = refl
-later-starts lines rows round (old ∷ olds) [] records = refl
-later-starts lines rows round (old ∷ olds) (new ∷ news) [] = refl
-later-starts lines rows round (old ∷ olds) (new ∷ news) (it ∷ records) =
-    ap₂ (λ (x : ℕ) (xs : List ℕ). x ∷ xs) (raised-start lines rows round (same_rows old new) it) (later-starts lines rows round olds news records)
-
-pub raised-starts : (lines : List LineState) (rows : List RowKey) (round : ℕ) (olds news : List (List Shown)) (records : List PageRecordOf) → record_starts lines rows (raised_records round olds news records) ≡ record_starts lines rows records
-raised-starts lines rows round [] news records = refl
-raised-starts lines rows round (old ∷ olds) [] records = refl
-raised-starts lines rows round (old ∷ olds) (new ∷ news) [] = refl
-raised-starts lines rows round (old ∷ olds) (new ∷ news) (it ∷ records) = ap (λ (xs : List ℕ). 0 ∷ xs) (later-starts lines rows round olds news records)
 
 -- ---- one by one
 
