@@ -17,7 +17,7 @@ use Rattle.spec_session.specs.Runs.{Answered, Runs, output_of, left_by}
 use Rattle.spec_session.specs.Sessions.{Streams, AreFirst, SessionEnds, Tells, Settles, AnswersAll, FailedNothing}
 use Rattle.spec_session.proofs.CutLaws.{lines-split, command_lines-behind}
 use Rattle.spec_session.proofs.LimitLaws.{goes-on, all-first, last-behind}
-use Rattle.spec_session.proofs.RunLaws.{runs-keep, runs-append, run-exists, left_by-push, output_of-push}
+use Rattle.spec_session.proofs.RunLaws.{runs-append, run-exists, output_of-push}
 
 -- ---- limits exclude one another
 
@@ -282,30 +282,3 @@ ends-go_on answers stops answer old new before after end it input is =
       subst (λ lines. Runs answers before lines (it.course.steps ++ later.steps)) whole
           (runs-append answers before it.course.lines behind it.course.steps later.steps it.went.runs later.runs),
     )
-
--- ---- what answers, after the session
-
--- What answers is as the last line left it, or as want of memory did.
-pub ends-left : {R : Type 0} (answers : R → List ℕ → R → List ℕ → Type 0) (stops : R → List ℕ → R → Type 0) (old new : Streams) (before after : R) (end : SessionEnd)
-    (it : SessionEnds answers stops old new before after end)
-    → (after ≡ left_by before it.course.steps) ⊎ ((line : List ℕ) × stops (left_by before it.course.steps) line after)
-ends-left answers stops old new before after endings.Done it = inl it.ends.replied.left
-ends-left answers stops old new before after endings.ReadFault it = inl it.ends.replied.left
-ends-left answers stops old new before after endings.WriteFault it =
-    inl (it.ends.left ∙ sym (ap (left_by before) it.ends.split ∙ left_by-push before it.ends.done it.ends.last))
-ends-left answers stops old new before after endings.NoMemory it =
-    elim it.ends.ran_out [ inl left ↦ inl left | inr stopped ↦ inr (stopped.0, stopped.2) ]
-ends-left answers stops old new before after (endings.CommandLong number) it = inl it.ends.replied.left
-ends-left answers stops old new before after endings.InputFull it = inl it.ends.replied.left
-
--- What each answer keeps, and want of memory too, a session keeps.
-pub ends-keep : {R : Type 0} (answers : R → List ℕ → R → List ℕ → Type 0) (stops : R → List ℕ → R → Type 0) (P : R → Type 0)
-    → ((before : R) (line : List ℕ) (after : R) (reply : List ℕ) → answers before line after reply → P before → P after)
-    → ((before : R) (line : List ℕ) (after : R) → stops before line after → P before → P after)
-    → (old new : Streams) (before after : R) (end : SessionEnd) → SessionEnds answers stops old new before after end → P before → P after
-ends-keep answers stops P keeps stays old new before after end it holds =
-    let behind = runs-keep answers P keeps before it.course.lines it.course.steps it.went.runs holds in
-    elim (ends-left answers stops old new before after end it) [
-      | inl left ↦ subst P (sym left) behind
-      | inr stopped ↦ stays (left_by before it.course.steps) stopped.0 after stopped.1 behind
-    ]
