@@ -6,6 +6,7 @@ use Rattle.spec_script.specs.BlockValues.{BlockOf, StanzaOf}
 use Rattle.spec_script.specs.Stanzas.{PlacedBlock, blocks_from}
 use Rattle.spec_script.specs.Elements.{placed_at}
 use Rattle.spec_reread.specs.Touched.{WindowBlocks, is_nil, joined_by, last_block, first_block, joins, front_relaid}
+use Rattle.spec_reread.proofs.RelaidElements.{last-behind}
 use Rattle.sp_refill.specs.Neighbours.{is_pair, is_there, nearer, first_one, last_one, first_in, last_in, relays_front, parts_rest, relays_before}
 
 abbrev pub block_by : Option PlacedBlock → Option BlockOf
@@ -30,11 +31,6 @@ last-in-append [] ys = sym (nearer-none (last_in ys))
 last-in-append (x ∷ xs) ys = ap (λ o. nearer o (last_one x)) (last-in-append xs ys) ∙ nearer-assoc (last_in ys) (last_in xs) (last_one x)
 
 -- ---- first and last blocks of lists
-
-last-behind : (xs : List PlacedBlock) (y : PlacedBlock) (ys : List PlacedBlock) → last_block (xs ++ y ∷ ys) ≡ last_block (y ∷ ys)
-last-behind [] y ys = refl
-last-behind (x ∷ []) y ys = refl
-last-behind (x ∷ z ∷ xs) y ys = last-behind (z ∷ xs) y ys
 
 pub last-there : (y : PlacedBlock) (ys : List PlacedBlock) (o : Option BlockOf) → nearer (block_by (last_block (y ∷ ys))) o ≡ block_by (last_block (y ∷ ys))
 last-there y [] o = refl

@@ -16,7 +16,7 @@ use Rattle.spec_script.proofs.RunSteps.{longest_runs-map}
 use Rattle.spec_layout.proofs.ElementPlaces.{placed_from, placed_to}
 use Rattle.spec_reread.specs.Touched.{pushed, WindowBlocks, old_blocks, new_blocks, is_nil, joined_by, last_block, first_block, joins, front_relaid, rest_relaid, but_last, only_last, front_kept, front_half, rest_kept, rest_half, old_relaid, new_relaid}
 use Rattle.spec_reread.proofs.WindowElements.{pushed_group, elements-apart, elements-pushed}
-use Rattle.spec_reread.proofs.RelaidElements.{IsSome, relaid-old, relaid-new}
+use Rattle.spec_reread.proofs.RelaidElements.{last-parts, last-only, IsSome, relaid-old, relaid-new}
 use Rattle.spec_relayout.specs.Touched.{EditBlocks}
 use Rattle.spec_relayout.specs.TextItems.{Script}
 use Rattle.spec_relayout.proofs.ItemMoves.{LinesMoved}
@@ -54,16 +54,6 @@ while-parts p [] (y ∷ ys) one other = take_while-cons p y ys ∙ ap (λ b. con
 while-parts p (x ∷ xs) ys one other =
     take_while-cons p x (xs ++ ys) ∙ ap (λ b. cond b (x ∷ take_while p (xs ++ ys)) []) (All-head (λ x. p x ≡ true) x xs one)
     ∙ ap (λ l. x ∷ l) (while-parts p xs ys (All-tail (λ x. p x ≡ true) x xs one) other)
-
-last-parts : (xs : List PlacedBlock) → but_last xs ++ only_last xs ≡ xs
-last-parts [] = refl
-last-parts (x ∷ []) = refl
-last-parts (x ∷ y ∷ xs) = ap (λ (zs : List PlacedBlock). x ∷ zs) (last-parts (y ∷ xs))
-
-last-only : (xs : List PlacedBlock) → last_block (only_last xs) ≡ last_block xs
-last-only [] = refl
-last-only (x ∷ []) = refl
-last-only (x ∷ y ∷ xs) = last-only (y ∷ xs)
 
 all-lower : (low high : ℕ) (xs : List PlacedBlock) → low ≤ high → All (Low low) xs → All (Low high) xs
 all-lower low high xs order all k d h = let x = all k d h in omega (arith, x, order)
