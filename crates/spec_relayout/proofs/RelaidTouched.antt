@@ -7,7 +7,7 @@ use Rattle.spec_script.specs.Stanzas.{PlacedBlock}
 use Rattle.spec_script.specs.Elements.{line_of_block, is_dual, elements_in}
 use Rattle.spec_reread.specs.Touched.{pushed, WindowBlocks, is_nil, joined_by, last_block, first_block, joins, front_relaid, rest_relaid, only_last, front_half, rest_half, old_relaid, new_relaid}
 use Rattle.spec_reread.proofs.WindowElements.{left-free, right-free}
-use Rattle.spec_reread.proofs.RelaidElements.{IsSome}
+use Rattle.spec_reread.proofs.RelaidElements.{none-behind, none-before, one-pushed, IsSome}
 use Rattle.spec_relayout.specs.Touched.{EditBlocks, place_before, has_changed, is_touched_old, is_touched_new}
 use Rattle.spec_relayout.proofs.TouchedRuns.{IsTouched, HasTouched, all-touched, before-touched, behind-touched}
 use Rattle.spec_relayout.proofs.PartnerCases.{last-one}
@@ -30,14 +30,6 @@ joins-left : (o : Option PlacedBlock) (c : PlacedBlock) → joined_by o (Some c)
 joins-left None c h z = absurd (true≢false (sym h))
 joins-left (Some x) c h z = right-free x c z h
 
-none-joins : (o : Option PlacedBlock) → joined_by None o ≡ false
-none-joins None = refl
-none-joins (Some x) = refl
-
-joins-none : (o : Option PlacedBlock) → joined_by o None ≡ false
-joins-none None = refl
-joins-none (Some x) = refl
-
 front-half_of : (w : WindowBlocks) → IsSome w → front_relaid w ≡ true → FrontHalf w
 front-half_of w some relaid = by w.front refl
   where
@@ -47,7 +39,7 @@ front-half_of w some relaid = by w.front refl
     by : (front : List PlacedBlock) → w.front ≡ front → FrontHalf w
     by [] is =
         absurd (true≢false (sym joined ∙ ap (λ l. joins l (w.gone ++ w.rest) || joins l (w.come ++ w.rest)) is
-        ∙ ap₂ (λ a b. a || b) (none-joins (first_block (w.gone ++ w.rest))) (none-joins (first_block (w.come ++ w.rest)))))
+        ∙ ap₂ (λ a b. a || b) (none-before (first_block (w.gone ++ w.rest))) (none-before (first_block (w.come ++ w.rest)))))
     by (block ∷ blocks) is =
         let l = last-one block blocks in
         let own : (joined_by (Some l.one) (first_block (w.gone ++ w.rest)) || joined_by (Some l.one) (first_block (w.come ++ w.rest))) ≡ true =
@@ -84,7 +76,7 @@ rest-half_of w some relaid = by w.rest refl
     by : (rest : List PlacedBlock) → w.rest ≡ rest → RestHalf w
     by [] is =
         absurd (true≢false (sym joined ∙ ap (λ l. joins (w.front ++ w.gone) l || joins (w.front ++ w.come) l) is
-        ∙ ap₂ (λ a b. a || b) (joins-none (last_block (w.front ++ w.gone))) (joins-none (last_block (w.front ++ w.come)))))
+        ∙ ap₂ (λ a b. a || b) (none-behind (last_block (w.front ++ w.gone))) (none-behind (last_block (w.front ++ w.come)))))
     by (block ∷ blocks) is =
         let own : (joined_by (last_block (w.front ++ w.gone)) (Some block) || joined_by (last_block (w.front ++ w.come)) (Some block)) ≡ true =
         sym (ap (λ l. joins (w.front ++ w.gone) l || joins (w.front ++ w.come) l) is) ∙ joined in
@@ -106,10 +98,6 @@ in-window low high first rest above below = ap₂ (λ a b. (a && b) || rest) (le
 joins-more : (f : PlacedBlock) (own more : List PlacedBlock) → joins (f ∷ []) own ≡ true → joins (f ∷ []) (own ++ more) ≡ true
 joins-more f [] more h = absurd (true≢false (sym h))
 joins-more f (x ∷ own) more h = h
-
-joins-moved : (n : ℕ) (o : Option PlacedBlock) (c : PlacedBlock) → joined_by o (Some (pushed n c)) ≡ joined_by o (Some c)
-joins-moved n None c = refl
-joins-moved n (Some x) c = refl
 
 -- Relaid blocks in order: perhaps one before the window, those in it, and perhaps one behind it.
 half-touched : (touched : PlacedBlock → Bool) (n : ℕ) (w : WindowBlocks) (own : List PlacedBlock) → IsSome w → All (IsTouched touched) own
@@ -136,7 +124,7 @@ half-touched touched n w own some all front rest =
               let h = rest-half_of w some relaid in
               subst (λ (l : List PlacedBlock). All (HasTouched touched) (elements_in (own ++ map (pushed n) l)))
               (sym (ap₂ (λ b (l : List PlacedBlock). cond b (take 1 l) []) relaid h.whole))
-              (behind-touched touched own (pushed n h.one) all (elim (rest h) [ inl is ↦ inl is | inr joined ↦ inr (joins-moved n (last_block own) h.one ∙ joined) ]))
+              (behind-touched touched own (pushed n h.one) all (elim (rest h) [ inl is ↦ inl is | inr joined ↦ inr (one-pushed n (last_block own) h.one ∙ joined) ]))
           | inr stays ↦
               subst (λ (l : List PlacedBlock). All (HasTouched touched) (elements_in l))
               (sym (append-nil own) ∙ ap (λ (l : List PlacedBlock). own ++ map (pushed n) l) (sym (ap (λ b. cond b (take 1 w.rest) []) stays)))
