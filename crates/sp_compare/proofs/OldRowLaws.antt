@@ -13,9 +13,10 @@ use Rattle.sp_splice.specs.Runs.{exchanged}
 use Rattle.sp_elements.specs.Bodies.{KeyedElements, StandsIn, row_count}
 use Rattle.sp_elements.specs.Exchanges.{CanMove, moved_element, with_run}
 use Rattle.sp_elements.proofs.BodyExchanges.{count-append, count-moved}
+use Rattle.sp_elements.proofs.BodyLaws.{placed_in-append}
 use Rattle.sp_compare.specs.BareRows.{AreSameAround, StayOutside, bare_row, bare_rows}
 use Rattle.sp_compare.proofs.RowLists.{map-slice}
-use Rattle.sp_compare.proofs.RowPlaces.{placed_in-append, row-there}
+use Rattle.sp_compare.proofs.RowPlaces.{row-there}
 
 -- ---- how many rows
 

@@ -1,18 +1,11 @@
 -- A row of elements, by the element that it stands in.
-use Rattle.std.proofs.Common.{◌≡◌, ℕ, ◌+◌, ◌-◌, ◌<◌, List, [], ◌∷◌, ◌++◌, length, take, get_or, append_assoc, append-nil, refl, sym, ap, subst, ◌∙◌, arith, length-append}
+use Rattle.std.proofs.Common.{◌≡◌, ℕ, ◌+◌, ◌-◌, ◌<◌, List, [], ◌∷◌, ◌++◌, length, take, get_or, sym, ap, subst, ◌∙◌, arith, length-append}
 use Rattle.std.proofs.lemmas.List.{get_or-map, length-map, take_more}
 use Rattle.std.proofs.lemmas.List.Concat.{get_or-flat_map}
 use Rattle.spec_pages.specs.Rows.{Row, ElementOf, placed_rows, shifted_row}
 use Rattle.spec_layout.specs.Layout.{placed_in}
 use Rattle.sp_elements.specs.Bodies.{StandsIn, row_count}
-
-pub placed_in-append : (elements others : List ElementOf) → placed_in (elements ++ others) ≡ placed_in elements ++ placed_in others
-placed_in-append [] others = refl
-placed_in-append (element ∷ elements) others =
-    ap (λ (rows : List Row). placed_rows element ++ rows) (placed_in-append elements others) ∙ sym (append_assoc (placed_rows element) (placed_in elements) (placed_in others))
-
-placed_in-push : (elements : List ElementOf) (element : ElementOf) → placed_in (elements ++ element ∷ []) ≡ placed_in elements ++ placed_rows element
-placed_in-push elements element = placed_in-append elements (element ∷ []) ∙ ap (λ (rows : List Row). placed_in elements ++ rows) (append-nil (placed_rows element))
+use Rattle.sp_elements.proofs.BodyLaws.{placed_in-push}
 
 pub row-there : (elements : List ElementOf) (row place start : ℕ) (element : ElementOf) (it d : Row) → StandsIn elements row place → start ≡ row_count (take place elements)
     → element ≡ get_or elements place element → it ≡ get_or element.rows (row - start) it → get_or (placed_in elements) row d ≡ shifted_row element.first it

@@ -1,8 +1,8 @@
 -- The rows of a page, by the elements that it has.
-use Rattle.std.proofs.Common.{◌≡◌, ℕ, ◌+◌, ◌<◌, Option, List, [], ◌∷◌, ◌++◌, refl, sym, ap, ap₂, subst, ◌∙◌, append_assoc, arith}
+use Rattle.std.proofs.Common.{◌≡◌, ℕ, ◌+◌, ◌<◌, Option, List, ◌++◌, sym, ap, ap₂, subst, ◌∙◌, arith}
 use Rattle.std.specs.Prelude.{All, slice_range}
 use Rattle.spec_text.specs.Lines.{LineState}
-use Rattle.spec_pages.specs.Rows.{Row, ElementOf, placed_rows}
+use Rattle.spec_pages.specs.Rows.{Row, ElementOf}
 use Rattle.spec_labels.specs.Labels.{LabelOf}
 use Rattle.spec_labels.proofs.SheetLaws.{All-front, All-back}
 use Rattle.spec_layout.specs.Cells.{RowShows}
@@ -10,16 +10,13 @@ use Rattle.spec_layout.specs.Layout.{placed_in}
 use Rattle.spec_layout.specs.Shown.{shown_rows, labels_past}
 use Rattle.spec_layout.proofs.ShownLaws.{shown_rows-slice}
 use Rattle.sp_elements.specs.Bodies.{IsPageOf, PageOf, row_count}
-
-placed-append : (ones others : List ElementOf) → placed_in (ones ++ others) ≡ placed_in ones ++ placed_in others
-placed-append [] others = refl
-placed-append (one ∷ ones) others = ap (λ (rows : List Row). placed_rows one ++ rows) (placed-append ones others) ∙ sym (append_assoc (placed_rows one) (placed_in ones) (placed_in others))
+use Rattle.sp_elements.proofs.BodyLaws.{placed_in-append}
 
 -- They show parts of the lines, as all rows do.
 pub page-show : (texts : List (List ℕ)) (elements : List ElementOf) (from to : ℕ) (page : PageOf) → IsPageOf elements from to page → All (RowShows texts) (placed_in elements) → All (RowShows texts) (placed_in page.elements)
 page-show texts elements from to page is all =
     let split : placed_in elements ≡ placed_in is.front ++ (placed_in page.elements ++ placed_in is.back) =
-    ap placed_in is.split ∙ placed-append is.front (page.elements ++ is.back) ∙ ap (λ (rows : List Row). placed_in is.front ++ rows) (placed-append page.elements is.back) in
+    ap placed_in is.split ∙ placed_in-append is.front (page.elements ++ is.back) ∙ ap (λ (rows : List Row). placed_in is.front ++ rows) (placed_in-append page.elements is.back) in
     All-front (RowShows texts) (placed_in page.elements) (placed_in is.back)
     (All-back (RowShows texts) (placed_in is.front) (placed_in page.elements ++ placed_in is.back) (subst (All (RowShows texts)) split all))
 

@@ -1,10 +1,10 @@
 -- A part of a layout exchanged gives the layout of the text after an edit.
-use Rattle.std.proofs.Common.{◌≡◌, ℕ, ◌+◌, ◌-◌, Bool, List, [], ◌∷◌, ◌++◌, length, map, take, drop, refl, sym, ap, ap₂, ◌∙◌, arith, append_assoc, take_at}
+use Rattle.std.proofs.Common.{◌≡◌, ℕ, ◌+◌, ◌-◌, Bool, List, ◌++◌, length, map, take, drop, refl, sym, ap, ap₂, ◌∙◌, arith, take_at}
 use Rattle.std.specs.Prelude.{All}
 use Rattle.std.proofs.lemmas.List.{map-append, length-map}
 use Rattle.spec_text.specs.Lines.{LineState}
 use Rattle.spec_script.specs.LongestRuns.{Group}
-use Rattle.spec_pages.specs.Rows.{Row, ElementOf, placed_rows}
+use Rattle.spec_pages.specs.Rows.{ElementOf}
 use Rattle.spec_labels.specs.declared.RowKey.{RowKey}
 use Rattle.spec_layout.specs.Shown.{row_key}
 use Rattle.spec_script.specs.Stanzas.{PlacedBlock}
@@ -19,19 +19,15 @@ use Rattle.sp_elements.specs.Exchanges.{moved_element, with_run}
 use Rattle.sp_layout.specs.Speaking.{SpeakersOf}
 use Rattle.sp_layout.specs.LaidOut.{LayoutOf, keyed, layout_behind}
 use Rattle.sp_elements.proofs.BodyExchanges.{count-append}
+use Rattle.sp_elements.proofs.BodyLaws.{placed_in-append}
 use Rattle.sp_relay.specs.declared.kept.PartPlaces.{PartPlaces}
 use Rattle.sp_relay.specs.Runs.{with_breaks}
 use Rattle.sp_relay.specs.Kept.{with_part}
 use Rattle.sp_relay.specs.Relaid.{places_of, IsRelaid}
 use Rattle.sp_relay.proofs.RunsBack.{front-of}
 
-placed-append : (one other : List ElementOf) → placed_in (one ++ other) ≡ placed_in one ++ placed_in other
-placed-append [] other = refl
-placed-append (element ∷ one) other =
-    ap (λ (rows : List Row). placed_rows element ++ rows) (placed-append one other) ∙ sym (append_assoc (placed_rows element) (placed_in one) (placed_in other))
-
 keys-append : (lines : List LineState) (one other : List ElementOf) → map (row_key lines) (placed_in (one ++ other)) ≡ map (row_key lines) (placed_in one) ++ map (row_key lines) (placed_in other)
-keys-append lines one other = ap (map (row_key lines)) (placed-append one other) ∙ map-append (row_key lines) (placed_in one) (placed_in other)
+keys-append lines one other = ap (map (row_key lines)) (placed_in-append one other) ∙ map-append (row_key lines) (placed_in one) (placed_in other)
 
 -- Elements of lines, of which some are exchanged for others of other lines.
 run-is : (lines later : List LineState) (front gone come rest : List ElementOf) (less more : ℕ) → map (row_key later) (placed_in front) ≡ map (row_key lines) (placed_in front)
