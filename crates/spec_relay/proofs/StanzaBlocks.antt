@@ -9,6 +9,7 @@ use Rattle.std.proofs.lemmas.List.Sums.{sum_by-append}
 use Rattle.spec_script.specs.BlockValues.{StanzaOf, BlockOf}
 use Rattle.spec_script.specs.Stanzas.{PlacedBlock, blocks_from}
 use Rattle.spec_script.specs.Elements.{placed_at, PlacesRise}
+use Rattle.spec_script.proofs.BlockPlaces.{stanza-rises}
 use Rattle.spec_reread.specs.Windows.{stanza_lines_in}
 use Rattle.spec_reread.proofs.WindowBlocks.{blocks-append}
 use Rattle.spec_relay.specs.Moved.{moved_place, moved_block, BeginsApart, settles}
@@ -46,17 +47,9 @@ blocks-past low p [] order = All-nil (BeginsFrom low)
 blocks-past low p (s ∷ ss) order =
     All-append (BeginsFrom low) (map (placed_at p) s.blocks) (blocks_from (p + s.lines) ss) (stanza-past low p s.blocks order) (blocks-past low (p + s.lines) ss (omega (arith, order)))
 
-rise-lower : (low high : ℕ) (blocks : List PlacedBlock) → low ≤ high → PlacesRise high blocks → PlacesRise low blocks
-rise-lower low high [] order rise = tt
-rise-lower low high (b ∷ bs) order rise = (omega (arith, order, rise.0), rise.1)
-
-stanza-rises : (low p : ℕ) (blocks : List BlockOf) (later : List PlacedBlock) → low ≤ p → PlacesRise p later → PlacesRise low (map (placed_at p) blocks ++ later)
-stanza-rises low p [] later order rise = rise-lower low p later order rise
-stanza-rises low p (b ∷ bs) later order rise = (order, stanza-rises p p bs later (omega arith) rise)
-
 pub places-rise : (low p : ℕ) (stanzas : List StanzaOf) → low ≤ p → PlacesRise low (blocks_from p stanzas)
 places-rise low p [] order = tt
-places-rise low p (s ∷ ss) order = stanza-rises low p s.blocks (blocks_from (p + s.lines) ss) order (places-rise p (p + s.lines) ss (omega arith))
+places-rise low p (s ∷ ss) order = stanza-rises p low s.blocks (blocks_from (p + s.lines) ss) order (places-rise p (p + s.lines) ss (omega arith))
 
 -- Where a heading or a speech stands among them.
 any-placed : (p : ℕ) (blocks : List BlockOf) → list_any settles (map (placed_at p) blocks) ≡ list_any block_settles blocks

@@ -47,7 +47,7 @@ PlacesRise-lower low high [] below rise = tt
 PlacesRise-lower low high (placed ∷ blocks) below rise = (omega (arith, below, rise.0), rise.1)
 
 -- The blocks of one stanza, before those of later ones.
-stanza-rises : (first low : ℕ) (blocks : List BlockOf) (later : List PlacedBlock) → low ≤ first → PlacesRise first later → PlacesRise low (map (placed_at first) blocks ++ later)
+pub stanza-rises : (first low : ℕ) (blocks : List BlockOf) (later : List PlacedBlock) → low ≤ first → PlacesRise first later → PlacesRise low (map (placed_at first) blocks ++ later)
 stanza-rises first low [] later below rise = PlacesRise-lower low first later below rise
 stanza-rises first low (block ∷ blocks) later below rise = (below, stanza-rises first first blocks later (omega arith) rise)
 
