@@ -3,22 +3,19 @@ ghost use Rattle.std.specs.Prelude.{◌≡◌, ◌≤◌, length, map, option_ma
 ghost use Rattle.std.specs.List.{flat_map};
 ghost use Rattle.spec_text.specs.Limits.{line_count_limit};
 ghost use Rattle.spec_text.specs.Lines.{line_texts};
-ghost use Rattle.spec_text.specs.Parts.{Parts};
 ghost use Rattle.spec_script.specs.BlockParts.{LineLies};
 ghost use Rattle.spec_script.specs.Elements.{PlacedLies, elements_in, is_speech_kind};
 ghost use Rattle.spec_script.specs.Runs.{RunParts};
 ghost use Rattle.spec_script.specs.Stanzas.{stanzas_of};
 ghost use Rattle.spec_layout.specs.Speakers.{first_text, shown_text, visible_text};
 ghost use Rattle.spec_machine.specs.Blocks.{block_reply, block_replies, element_replies, kind_name, written_number};
-ghost use Rattle.sp_answers.specs.Numbers.{parts_text};
 ghost use Rattle.sp_answers.specs.Pairs.{is_second, opens_pair};
 
-use sp_blocks::{BlockLine, Kind, PlacedBlock};
+use sp_blocks::{BlockLine, Kind, PlacedBlock, parts_text};
 use sp_commands::BlockReply;
 use sp_reread::{Stanzas, placed_blocks};
 use sp_text::Lines;
 use spec_script::Run;
-use spec_text::Span;
 use std::alloc::{AllocError, Global};
 
 /// The name of a kind of blocks.
@@ -59,18 +56,6 @@ fn is_second(opened: bool, placed: &PlacedBlock<'_>) -> bool
 {
     let block = placed.block;
     opened && is_speech(block.kind) && block.caret
-}
-
-/// The parts of a text, joined.
-fn parts_text(alloc: Global, text: &str, parts: &[Span]) -> Result<String, AllocError>
-    requires { Parts text.now 0 parts.now }
-    ensures { IfOk result (λ joined. string_bytes joined ≡ parts_text text.now parts.now) }
-{
-    let mut joined = String::new(alloc);
-    for part in parts {
-        joined.push_str(&text[part.0 as usize..part.1 as usize])?;
-    }
-    Ok(joined)
 }
 
 /// The text that runs show.

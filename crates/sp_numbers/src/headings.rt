@@ -1,17 +1,17 @@
 //! The headings of a script.
-ghost use Rattle.std.specs.Prelude.{◌≡◌, ◌++◌, ◌==◌, None, if◌then◌else◌, length, map, filter, nat_le, option_and_then, string_bytes, All, IfOk, OnOk};
+ghost use Rattle.std.specs.Prelude.{◌≡◌, ◌++◌, ◌==◌, None, if◌then◌else◌, length, map, filter, nat_le, option_and_then, All, IfOk, OnOk};
 ghost use Rattle.std.specs.List.{list_all};
 ghost use Rattle.spec_text.specs.Lines.{line_texts};
 ghost use Rattle.spec_text.specs.Parts.{Parts};
 ghost use Rattle.spec_script.specs.BlockParts.{BlockLies};
 ghost use Rattle.spec_script.specs.Elements.{placed_at, PlacedLies};
+ghost use Rattle.spec_script.specs.Spans.{text_in};
 ghost use Rattle.spec_script.specs.Stanzas.{blocks_from};
 ghost use Rattle.spec_labels.specs.LabelReading.{label_read};
 ghost use Rattle.spec_state.specs.Headings.{as_scene_label, heading_of, is_heading_block, is_heading_kind, letter_limit};
 ghost use Rattle.sp_numbers.specs.HeadingLines.{heading_line, heading_lines};
-ghost use Rattle.sp_numbers.specs.Numbers.{parts_text};
 
-use sp_blocks::{Block, Kind, PlacedBlock, Stanza};
+use sp_blocks::{Block, Kind, PlacedBlock, Stanza, parts_text};
 use sp_labels::{Label, parse};
 use sp_reread::Stanzas;
 use sp_scenes::HeadingAt;
@@ -26,18 +26,6 @@ const STEP_COUNT_LIMIT: usize = 16;
 
 /// The greatest step that is written as a letter.
 const LETTER_LIMIT: u32 = 24;
-
-/// The parts of a text, joined.
-fn parts_text(alloc: Global, text: &str, parts: &[Span]) -> Result<String, AllocError>
-    requires { Parts text.now 0 parts.now }
-    ensures { IfOk result (λ joined. string_bytes joined ≡ parts_text text.now parts.now) }
-{
-    let mut joined = String::new(alloc);
-    for part in parts {
-        joined.push_str(&text[part.0 as usize..part.1 as usize])?;
-    }
-    Ok(joined)
-}
 
 /// Whether all steps are written as letters or dots.
 fn are_letters(path: &[u32]) -> bool
@@ -63,7 +51,7 @@ fn as_scene_label(label: Label) -> Option<Label>
 /// The scene number that parts of a line are, where they are one.
 fn written_label(alloc: Global, text: &str, parts: &[Span]) -> Result<Option<Label>, AllocError>
     requires { Parts text.now 0 parts.now }
-    ensures { IfOk result (λ label. label ≡ (if length parts.now == 0 then None else option_and_then as_scene_label (label_read (parts_text text.now parts.now)))) }
+    ensures { IfOk result (λ label. label ≡ (if length parts.now == 0 then None else option_and_then as_scene_label (label_read (text_in text.now parts.now)))) }
 {
     if parts.is_empty() {
         return Ok(None);

@@ -4,4 +4,3 @@ pub mod OutsideParts
 pub mod NoteOpening
 pub mod ScanWalk
 pub mod StanzaRead
-pub mod Each

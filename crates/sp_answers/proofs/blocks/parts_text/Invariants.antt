@@ -1,6 +1,0 @@
-use Rattle.std.proofs.Common.{◌≡◌, take, string_bytes}
-use Rattle.sp_answers.specs.Numbers.{parts_text}
-use Rattle.sp_answers.proofs.blocks.parts_text.Given as goal
-
-abbrev pub invariant-loop-part : goal.invariant-loop-part
-invariant-loop-part l = string_bytes l.joined ≡ parts_text l.text (take l.part-index l.parts)
