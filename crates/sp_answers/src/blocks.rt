@@ -5,17 +5,15 @@ ghost use Rattle.spec_text.specs.Limits.{line_count_limit};
 ghost use Rattle.spec_text.specs.Lines.{line_texts};
 ghost use Rattle.spec_script.specs.BlockParts.{LineLies};
 ghost use Rattle.spec_script.specs.Elements.{PlacedLies, elements_in, is_speech_kind};
-ghost use Rattle.spec_script.specs.Runs.{RunParts};
 ghost use Rattle.spec_script.specs.Stanzas.{stanzas_of};
-ghost use Rattle.spec_layout.specs.Speakers.{first_text, shown_text, visible_text};
+ghost use Rattle.spec_layout.specs.Speakers.{first_text, visible_text};
 ghost use Rattle.spec_machine.specs.Blocks.{block_reply, block_replies, element_replies, kind_name, written_number};
 ghost use Rattle.sp_answers.specs.Pairs.{is_second, opens_pair};
 
-use sp_blocks::{BlockLine, Kind, PlacedBlock, parts_text};
+use sp_blocks::{BlockLine, Kind, PlacedBlock, parts_text, shown_text};
 use sp_commands::BlockReply;
 use sp_reread::{Stanzas, placed_blocks};
 use sp_text::Lines;
-use spec_script::Run;
 use std::alloc::{AllocError, Global};
 
 /// The name of a kind of blocks.
@@ -56,18 +54,6 @@ fn is_second(opened: bool, placed: &PlacedBlock<'_>) -> bool
 {
     let block = placed.block;
     opened && is_speech(block.kind) && block.caret
-}
-
-/// The text that runs show.
-fn shown_text(alloc: Global, text: &str, runs: &[Run]) -> Result<String, AllocError>
-    requires { RunParts text.now runs.now }
-    ensures { IfOk result (λ shown. string_bytes shown ≡ shown_text text.now runs.now) }
-{
-    let mut shown = String::new(alloc);
-    for run in runs {
-        shown.push_str(&text[run.from as usize..run.to as usize])?;
-    }
-    Ok(shown)
 }
 
 /// The number that is written in the line of a block that lies in the lines; None where there is none. `AllocError` comes

@@ -10,7 +10,7 @@ ghost use Rattle.spec_layout.specs.Cells.{continued};
 ghost use Rattle.spec_layout.specs.Speakers.{block_text, cue_ends_continued, cue_text, is_last_speaker, last_row_continued, name_in, named_block, settled, shown_text, speaker_after};
 ghost use Rattle.sp_layout.specs.Speaking.{last_speaker, speakers_after, speakers_before, speakers_behind};
 
-use sp_blocks::{BlockLine, Kind, PlacedBlock};
+use sp_blocks::{BlockLine, Kind, PlacedBlock, shown_text};
 use sp_columns::width_of;
 use sp_forms::letters::ends;
 use sp_forms::spaces::trim;
@@ -20,18 +20,6 @@ use spec_pages::Side;
 use spec_script::Run;
 use std::alloc::{AllocError, Global};
 use std::marker::Model;
-
-/// The text that runs show.
-fn shown_text(alloc: Global, text: &str, runs: &[Run]) -> Result<String, AllocError>
-    requires { RunParts text.now runs.now }
-    ensures { IfOk result (λ shown. string_bytes shown ≡ shown_text text.now runs.now) }
-{
-    let mut shown = String::new(alloc);
-    for run in runs {
-        shown.push_str(&text[run.from as usize..run.to as usize])?;
-    }
-    Ok(shown)
-}
 
 /// The text of a line of a block.
 fn block_text<'a>(lines: &'a Lines, first: usize, line: &BlockLine) -> &'a str
