@@ -3,39 +3,23 @@ ghost use Rattle.std.specs.Prelude.{◌≡◌, ◌+◌, ◌*◌, ◌^◌, ◌<�
 ghost use Rattle.spec_text.specs.Limits.{line_count_limit};
 ghost use Rattle.spec_text.specs.Lines.{line_texts};
 ghost use Rattle.spec_script.specs.BlockParts.{BlockLies};
-ghost use Rattle.spec_pages.specs.Rows.{block_alone, blocks_beside, dual_rows, half_row, is_title, joined_row, joined_rows, lead_at, number_cell, number_runs, numbered_cells, shaped_row, shaped_rows, single_rows, title_row, with_number};
+ghost use Rattle.spec_pages.specs.Rows.{block_alone, blocks_beside, dual_rows, half_row, is_title, joined_row, joined_rows, lead_at, number_cell, numbered_cells, shaped_row, shaped_rows, single_rows, title_row, with_number};
 
 use crate::columns::{first_lead, has_rows};
 use crate::lines::block_rows;
 use crate::speakers::tell_speakers;
-use sp_blocks::Block;
+use sp_blocks::{Block, plain_runs};
 use sp_elements::{Cell, Row};
 use sp_text::Lines;
 use spec_pages::{NUMBER_BEFORE, NUMBER_BEHIND, RowKind, Shape, Side};
-use spec_script::{Kind, Run};
-use spec_text::Span;
+use spec_script::Kind;
 use std::alloc::{AllocError, Global};
-
-/// A written number as runs without a style.
-fn number_runs(alloc: Global, spans: &[Span]) -> Result<Vec<Run>, AllocError>
-    ensures { IfOk result (λ runs. runs.items ≡ number_runs spans.now) }
-{
-    let mut runs = Vec::with_capacity(alloc, spans.len())?;
-    for span in spans {
-        runs.push(Run {
-            from: span.0,
-            to: span.1,
-            style: 0,
-        })?;
-    }
-    Ok(runs)
-}
 
 /// A heading's written number, at a column.
 fn number_cell(alloc: Global, block: &Block, column: u32) -> Result<Cell, AllocError>
     ensures { IfOk result (λ cell. cell ≡ number_cell block.now column) }
 {
-    let runs = number_runs(alloc, &block.number)?;
+    let runs = plain_runs(alloc, &block.number)?;
     Cell::number(alloc, column, block.first, runs)
 }
 

@@ -7,19 +7,20 @@ use Rattle.std.proofs.lemmas.List.{get_or-map, length-map}
 use Rattle.std.proofs.lemmas.List.Elements.{All-nil, All-cons, All-head, All-tail, All-append}
 use Rattle.spec_text.specs.Limits.{line_count_limit}
 use Rattle.spec_text.specs.Lines.{LineState, line_texts}
-use Rattle.spec_text.specs.Parts.{SpanOf, Parts}
+use Rattle.spec_text.specs.Parts.{Parts}
 use Rattle.spec_script.specs.declared.Kind.{Kind}
 use Rattle.spec_script.specs.declared.Kind.TheVariants as kinds
 use Rattle.spec_script.specs.declared.Part.{Part}
 use Rattle.spec_script.specs.declared.Part.TheVariants as parts
 use Rattle.spec_script.specs.BlockParts.{line_at, LineLies, BlockLies}
 use Rattle.spec_script.specs.BlockValues.{LineOf, BlockOf}
-use Rattle.spec_script.specs.Runs.{span_of, RunParts}
+use Rattle.spec_script.specs.Runs.{RunParts}
+use Rattle.spec_script.proofs.WindowParts.{plain_runs-RunParts}
 use Rattle.spec_pages.specs.declared.Side.{Side}
 use Rattle.spec_pages.specs.declared.Side.TheVariants as sides
 use Rattle.spec_pages.specs.CellParts.{CellLies, RowLies}
 use Rattle.spec_pages.specs.Columns.{centred_column, text_column, own_column, column_of, width_of, first_lead}
-use Rattle.spec_pages.specs.Rows.{Cell, Row, LineContext, line_state, line_context, line_row, line_rows_from, line_rows, block_rows, number_before, number_behind, number_cell, number_runs, numbered_cells, with_number, half_row, joined_row, joined_rows, shaped_row, shaped_rows, block_alone, blocks_beside}
+use Rattle.spec_pages.specs.Rows.{Cell, Row, LineContext, line_state, line_context, line_row, line_rows_from, line_rows, block_rows, number_before, number_behind, number_cell, numbered_cells, with_number, half_row, joined_row, joined_rows, shaped_row, shaped_rows, block_alone, blocks_beside}
 use Rattle.spec_pages.specs.Wrapping.{WrappedRow, wrapped}
 use Rattle.spec_pages.proofs.RowParts.{RunParts-wrapped}
 
@@ -105,11 +106,6 @@ block_rows-lie lines first base shift side block is lies =
     All-flat_map (RowLies lines first) (line_rows lines base shift side block.kind) block.lines
     (λ k d h. line_rows-lie lines first base shift side block.kind _ is (omega (arith, lies.low, size)) (lies.lines k d h))
 
--- A written number as runs.
-number-parts : (text : List ℕ) (at : ℕ) (spans : List SpanOf) → Parts text at spans → Parts text at (map span_of (number_runs spans))
-number-parts text at [] parts = tt
-number-parts text at (span ∷ spans) parts = (parts.0, parts.1, number-parts text span.1 spans parts.2)
-
 number-lies : (lines : List LineState) (first column : ℕ) (block : BlockOf) → column ≤ number_behind → BlockLies (line_texts lines) first block
     → CellLies lines first (number_cell block column)
 number-lies lines first column block near lies =
@@ -118,7 +114,7 @@ number-lies lines first column block near lies =
       near = near;
       low = omega (arith, lies.low, size);
       place = omega (arith, lies.place, size);
-      parts = λ utf8. number-parts (line_state lines (first + block.first)).text 0 block.number
+      parts = λ utf8. plain_runs-RunParts (line_state lines (first + block.first)).text block.number
           (subst (λ (text : List ℕ). Parts text 0 block.number) (state-text lines first block.first lies.place) lies.number);
     }
 

@@ -9,13 +9,14 @@ use Rattle.spec_script.specs.declared.Kind.{Kind}
 use Rattle.spec_script.specs.BlockValues.{LineOf, BlockOf}
 use Rattle.spec_script.specs.BlockParts.{Rise, line_from, line_to}
 use Rattle.spec_script.specs.Stanzas.{PlacedBlock}
+use Rattle.spec_script.specs.Visible.{plain_runs}
 use Rattle.spec_pages.specs.declared.Side.{Side}
 use Rattle.spec_pages.specs.declared.Side.TheVariants as sides
 use Rattle.spec_pages.specs.Columns.{column_of, width_of, row_kind, first_lead, has_rows}
 use Rattle.spec_pages.specs.Pages.{is_dialogue}
 use Rattle.spec_pages.specs.Sentences.{ends_sentence, shown_chars}
 use Rattle.spec_pages.specs.Wrapping.{WrappedRow, wrapped}
-use Rattle.spec_pages.specs.Rows.{Cell, Row, LineContext, line_state, own_lead, line_rows_from, line_rows, number_runs, with_number, shaped_row, shaped_rows, continued_cell, spoken_cells, put_cell, in_column_order, spoken_rows, with_speakers, is_title, title_row, half_row, joined_rows, single_rows, dual_rows, shifted_row, blocks_beside, block_alone}
+use Rattle.spec_pages.specs.Rows.{Cell, Row, LineContext, line_state, own_lead, line_rows_from, line_rows, with_number, shaped_row, shaped_rows, continued_cell, spoken_cells, put_cell, in_column_order, spoken_rows, with_speakers, is_title, title_row, half_row, joined_rows, single_rows, dual_rows, shifted_row, blocks_beside, block_alone}
 use Rattle.spec_pages.specs.Rows as rows
 use Rattle.spec_layout.proofs.ElementPlaces.{LinesRise}
 use Rattle.spec_relayout.specs.RowLines.{RowAt}
@@ -140,7 +141,7 @@ joined-to to (row ∷ left) (other ∷ right) =
 
 -- A heading's number, where its line stands at a place.
 abbrev pub number_on : ℕ → BlockOf → ℕ → Cell
-number_on place block column = record { column = column; line = place; runs = number_runs block.number; fixed = false; number = true }
+number_on place block column = record { column = column; line = place; runs = plain_runs block.number; fixed = false; number = true }
 
 abbrev pub numbered_on : ℕ → BlockOf → List Row → List Row
 numbered_on place block [] = []

@@ -1,6 +1,0 @@
-use Rattle.std.proofs.Common.{arith}
-use Rattle.std.proofs.lemmas.Grind.{common_steps}
-use Rattle.sp_columns.proofs.elements.number_runs.Goals as goal
-
-pub loop-span-preserved : goal.loop-span-preserved
-loop-span-preserved c = grind (arith, common_steps)
