@@ -2,7 +2,6 @@
 #![tactic(auto)]
 
 mod blocks;
-mod growing;
 mod rounds;
 mod sheets;
 

@@ -2,7 +2,7 @@
 ghost use Rattle.std.specs.Prelude.{◌≡◌, string_bytes, IfOk};
 ghost use Rattle.spec_print.specs.Rounds.{round_name};
 
-use crate::growing::GrowingSink;
+use sp_kit::GrowingSink;
 use sp_print::write_round_name;
 use std::alloc::{AllocError, Global};
 

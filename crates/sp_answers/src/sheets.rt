@@ -7,8 +7,8 @@ ghost use Rattle.spec_machine.specs.Answers.{label_of_sheet, sheet_reply};
 ghost use Rattle.sp_print.specs.Views.{label_of};
 ghost use Rattle.sp_commands.specs.Values.{reply_of};
 
-use crate::growing::GrowingSink;
 use sp_commands::Reply;
+use sp_kit::GrowingSink;
 use sp_labels::{Label, write};
 use sp_print::{PageView, SheetLabel, print_sheet, write_sheet_label};
 use std::alloc::{AllocError, Global};

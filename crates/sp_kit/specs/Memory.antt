@@ -26,6 +26,11 @@ pub record MemorySinkState : Type 0 where
   pub call : ℕ
   pub faults : ℕ
 
+-- A sink in memory that grows: the bytes that it took, and the count of faults.
+pub record GrowingSinkState : Type 0 where
+  pub taken : List ℕ
+  pub faults : ℕ
+
 -- The files of a map, each with its name, in the order of the names.
 abbrev pub files_of : BTreeMap (String Global) (Vec ℕ Global) → List (List ℕ × List ℕ)
 files_of names = map (λ e. (string_bytes e.0, e.1.items)) names.entries

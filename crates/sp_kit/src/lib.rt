@@ -2,6 +2,7 @@
 //! objects in memory that stand for the real ones.
 #![tactic(auto)]
 
+mod growing_sink;
 mod memory_shelf;
 mod memory_sink;
 mod memory_source;
@@ -9,6 +10,7 @@ mod outside;
 mod shelf;
 mod steps;
 
+pub use growing_sink::GrowingSink;
 pub use memory_shelf::MemoryShelf;
 pub use memory_sink::MemorySink;
 pub use memory_source::MemorySource;

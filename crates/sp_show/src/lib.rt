@@ -1,7 +1,6 @@
 //! What is written of a script: its sheets, its outline, its page for a browser, the sides of its cast or its packet.
 #![tactic(auto)]
 
-mod sheet_buffer;
 mod sheets;
 mod show;
 

@@ -12,9 +12,8 @@ ghost use Rattle.spec_state.specs.StateSheets.{sheets_of_state};
 ghost use Rattle.sp_show.specs.SheetForms.{sheet_in};
 ghost use Rattle.sp_words.specs.Written.{IsWritten};
 
-use crate::sheet_buffer::SheetBytes;
 use sp_html::write_html;
-use sp_kit::{Failed, Sink, write_whole};
+use sp_kit::{Failed, GrowingSink, Sink, write_whole};
 use sp_packet::{PacketFault, packet};
 use sp_print::{PageView, print_sheet};
 use sp_state::Script;
@@ -45,7 +44,7 @@ fn write_in<O: Sink>(form: SheetForm, page: &PageView<'_>, sink: &mut O) -> Resu
 /// Puts the bytes of a sheet behind those that the buffer has.
 fn add_sheet(
     form: SheetForm,
-    buffer: &mut SheetBytes,
+    buffer: &mut GrowingSink,
     page: &PageView<'_>,
 ) -> Result<(), AllocError>
     ensures { OnOk result (buffer.new.taken ≡ buffer.old.taken ++ sheet_in form page.now) }
@@ -59,7 +58,7 @@ fn add_sheet(
 /// Writes a sheet, which is made whole in an empty buffer first, and leaves the buffer empty.
 fn write_sheet<O: Sink>(
     form: SheetForm,
-    buffer: &mut SheetBytes,
+    buffer: &mut GrowingSink,
     page: &PageView<'_>,
     output: &mut O,
 ) -> Result<(), Status>
@@ -82,7 +81,7 @@ fn write_all<O: Sink>(
 ) -> Result<(), Status>
     ensures { IsWritten (O.state output.old) (O.state output.new) (flat_map (sheet_in form) (sheets_of_state script.now)) result }
 {
-    let mut buffer = SheetBytes::new(alloc);
+    let mut buffer = GrowingSink::new(alloc);
     for i in 0..script.sheets() {
         let Some(page) = script.sheet(i) else {
             unreachable!();
@@ -109,7 +108,7 @@ fn write_places<O: Sink>(
     requires { All (λ (place : ℕ). place < length (sheets_of_state script.now)) places.now }
     ensures { IsWritten (O.state output.old) (O.state output.new) (flat_map sheet_bytes (sheets_at (sheets_of_state script.now) places.now)) result }
 {
-    let mut buffer = SheetBytes::new(alloc);
+    let mut buffer = GrowingSink::new(alloc);
     for place in places {
         let Some(page) = script.sheet(*place as usize) else {
             unreachable!();

@@ -1,30 +1,32 @@
-//! A sheet in memory.
-ghost use Rattle.std.specs.Prelude.{◌≡◌, List, []};
+ghost use Rattle.std.specs.Prelude.{◌≡◌, [], string_bytes};
+ghost use Rattle.std.specs.Str.{IsUtf8};
 
-use sp_kit::{Failed, Sink};
+use crate::outside::{Failed, Sink};
 use std::alloc::Global;
 use std::marker::Model;
 
-/// The bytes of a sheet, as a sink that grows. It fails where there is no memory.
+/// A sink in memory that grows. It fails where there is no memory.
 #[derive(Drop)]
-pub struct SheetBytes {
+pub struct GrowingSink {
     bytes: Vec<u8>,
     faults: u64,
 }
 
-impl Model for SheetBytes {
-    ghost use Rattle.sp_show.specs.SheetBuffer.{Gathered};
+impl Model for GrowingSink {
+    ghost use Rattle.sp_kit.specs.Memory.{GrowingSinkState};
 
-    ghost Value = { Gathered };
+    ghost Value = { GrowingSinkState };
 
     ghost view = { λ s. record { taken = s.bytes.items; faults = s.faults } };
 }
 
-impl SheetBytes {
-    pub fn new(alloc: Global) -> SheetBytes
-        ensures { result.taken ≡ [] }
+impl GrowingSink {
+    /// An empty one. Takes no memory.
+    pub fn new(alloc: Global) -> GrowingSink
+        ensures taken { result.taken ≡ [] }
+        ensures faults { result.faults ≡ 0 }
     {
-        SheetBytes {
+        GrowingSink {
             bytes: Vec::new(alloc),
             faults: 0,
         }
@@ -44,9 +46,20 @@ impl SheetBytes {
     {
         self.bytes.clear();
     }
+
+    /// What it took, as a text.
+    pub fn into_text(self) -> String
+        requires { IsUtf8 self.taken }
+        ensures { string_bytes result ≡ self.taken }
+    {
+        match String::from_utf8(self.bytes) {
+            Ok(text) => text,
+            Err(_) => unreachable!(),
+        }
+    }
 }
 
-impl Sink for SheetBytes {
+impl Sink for GrowingSink {
     ghost use Rattle.std.specs.declared.option.Option.TheVariants.{Some};
 
     ghost state = { λ s. record { taken = Some s.taken; faults = s.faults } };
