@@ -7,14 +7,12 @@ use Rattle.std.proofs.lemmas.List.Sums.{passes_at_first, fails_before_first, spl
 use Rattle.std.proofs.lemmas.List.Splits.{slice_split_none, slice_split_first}
 use Rattle.spec_collation.proofs.Words.{any-behind, any-none}
 use Rattle.std.specs.Str.{IsUtf8}
-use Rattle.std.proofs.lemmas.List.{get_or_past, drop_more, take_rest, take-append-drop}
-use Rattle.std.proofs.lemmas.Str.{IsUtf8-from_ascii}
-use Rattle.spec_labels.specs.Labels.{LabelOf, label_text}
-use Rattle.spec_labels.specs.LabelReading.{Spells, IsReading, label_read}
-use Rattle.spec_labels.proofs.LabelTexts.{small_steps}
+use Rattle.std.proofs.lemmas.List.{drop_more, take_rest, take-append-drop}
+use Rattle.spec_labels.specs.Labels.{LabelOf}
+use Rattle.spec_labels.specs.LabelReading.{IsReading, label_read}
+use Rattle.spec_labels.proofs.LabelBytes.{label-utf8}
 use Rattle.spec_labels.proofs.LabelReadings.{label_read-IsReading}
 use Rattle.spec_collation.specs.SheetReadings.{last_word, later_word}
-use Rattle.spec_collation.proofs.LabelBytes.{label-bytes}
 use Rattle.sp_collation.specs.Cuts.{IsUncut, IsCut}
 
 pub record FoundAt (p : ℕ → Bool) (bytes : List ℕ) (place : ℕ) : Type 0 where
@@ -73,18 +71,9 @@ word-at header at some low space none =
     ap (λ (w : List ℕ). Some w) (take_rest header at) ∙ sym (ap last_word whole ∙ last-some (take (at - 1) header) (32 ∷ rest) rest here)
 
 -- Bytes that aren't UTF-8 spell no label.
-label-utf8 : (it : LabelOf) (bytes : List ℕ) → Spells bytes it → IsUtf8 bytes
-label-utf8 it bytes spells =
-    let low = spells.low in
-    let text = label-bytes it (omega (arith, low)) (small_steps it.path spells.steps) in
-    subst IsUtf8 spells.written (IsUtf8-from_ascii (label_text it) (λ k. elim (cases_lt k (length (label_text it))) [
-      | inl within ↦ let h = (text k 0 within).high in omega (arith, h)
-      | inr past ↦ let e = get_or_past (label_text it) k 0 past in omega (arith, e)
-    ]))
-
 pub no-label : (bytes : List ℕ) → (IsUtf8 bytes → ⊥) → None ≡ label_read bytes
 no-label bytes never = by (label_read bytes) (label_read-IsReading bytes)
   where
     by : (label : Option LabelOf) → IsReading bytes label → None ≡ label
     by None reading = refl
-    by (Some it) reading = absurd (never (label-utf8 it bytes reading))
+    by (Some it) reading = absurd (never (subst IsUtf8 reading.written (label-utf8 it)))

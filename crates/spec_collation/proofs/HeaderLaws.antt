@@ -10,7 +10,7 @@ use Rattle.std.proofs.lemmas.List.{replicate-append-replicate}
 use Rattle.spec_labels.specs.Labels.{LabelOf, label_cmp, label_text, Below}
 use Rattle.spec_labels.specs.LabelReading.{label_read}
 use Rattle.spec_labels.proofs.LabelOrder.{label_cmp_total, label_cmp-Equal}
-use Rattle.spec_labels.proofs.LabelTexts.{small_steps}
+use Rattle.spec_labels.proofs.LabelBytes.{IsLabelByte, label-bytes}
 use Rattle.spec_labels.proofs.LabelReadings.{label_read-IsReading, IsReading-unique}
 use Rattle.spec_layout.specs.Cells.{fixed_cell}
 use Rattle.spec_print.specs.RowBytes.{cell_bytes, gap, spaces, untabbed}
@@ -19,7 +19,6 @@ use Rattle.spec_collation.specs.SheetLists.{UpTo}
 use Rattle.spec_collation.specs.SheetReadings.{is_dash, one_label, two_labels, labels_in}
 use Rattle.spec_collation.specs.Pieces.{IsReadable}
 use Rattle.spec_collation.proofs.Words.{before-first, after-first, any-behind, any-none}
-use Rattle.spec_collation.proofs.LabelBytes.{IsLabelByte, label-bytes}
 use Rattle.spec_collation.proofs.LabelTests.{below-test}
 
 -- Both labels of a sheet are, and the first isn't behind the last.
@@ -32,9 +31,6 @@ read-back : (it : LabelOf) → IsReadable it → label_read (label_text it) ≡ 
 read-back it is =
     IsReading-unique (label_text it) (label_read (label_text it)) (Some it) (label_read-IsReading (label_text it)) is
 
-text-bytes : (it : LabelOf) → IsReadable it → All IsLabelByte (label_text it)
-text-bytes it is = label-bytes it (let low = is.low in omega (arith, low)) (small_steps it.path is.steps)
-
 no-dash : (text : List ℕ) → All IsLabelByte text → All (λ b. is_dash b ≡ false) text
 no-dash text all = All-weaker IsLabelByte (λ b. is_dash b ≡ false) (λ b is. ne_eqb b 45 is.dash) text all
 
@@ -46,11 +42,11 @@ pub record IsHeaderByte (byte : ℕ) : Type 0 where
 label-header : (text : List ℕ) → All IsLabelByte text → All IsHeaderByte text
 label-header text all = All-weaker IsLabelByte IsHeaderByte (λ b is. let l = is.low in let h = is.high in record { low = omega (arith, l); high = omega (arith, h) }) text all
 
-pub sheet-label-bytes : (it : SheetLabelOf) → AreReadable it → All IsHeaderByte (sheet_label_text it)
-sheet-label-bytes it are = by (is_eq (label_cmp it.first it.last))
+pub sheet-label-bytes : (it : SheetLabelOf) → All IsHeaderByte (sheet_label_text it)
+sheet-label-bytes it = by (is_eq (label_cmp it.first it.last))
   where
     one : All IsHeaderByte (label_text it.first)
-    one = label-header (label_text it.first) (text-bytes it.first are.first)
+    one = label-header (label_text it.first) (label-bytes it.first)
 
     by : (b : Bool) → All IsHeaderByte (cond b (label_text it.first) (label_text it.first ++ codes "-" ++ label_text it.last))
     by true = one
@@ -58,7 +54,7 @@ sheet-label-bytes it are = by (is_eq (label_cmp it.first it.last))
         All-append IsHeaderByte (label_text it.first ++ codes "-") (label_text it.last)
         (All-append IsHeaderByte (label_text it.first) (codes "-") one
         (All-cons IsHeaderByte 45 [] (record { low = omega arith; high = omega arith }) (All-nil IsHeaderByte)))
-        (label-header (label_text it.last) (text-bytes it.last are.last))
+        (label-header (label_text it.last) (label-bytes it.last))
 
 -- The written labels of a sheet are read back.
 pub labels-back : (it : SheetLabelOf) → AreReadable it → labels_in (sheet_label_text it) ≡ Some it
@@ -73,13 +69,13 @@ labels-back it are = by (label_cmp it.first it.last) refl
     alone : it.first ≡ it.last → labels_in one ≡ Some it
     alone same =
         ap (λ b. cond b (two_labels (label_read (before_first is_dash one)) (label_read (after_first is_dash one))) (option_map one_label (label_read one)))
-        (any-none is_dash one (no-dash one (text-bytes it.first are.first)))
+        (any-none is_dash one (no-dash one (label-bytes it.first)))
         ∙ ap (option_map one_label) (read-back it.first are.first)
         ∙ ap (λ (last : LabelOf). Some (record { first = it.first; last = last })) same
 
     both : Below it.first it.last → labels_in (one ++ codes "-" ++ two) ≡ Some it
     both below =
-        let none = no-dash one (text-bytes it.first are.first) in
+        let none = no-dash one (label-bytes it.first) in
         let text : one ++ codes "-" ++ two ≡ one ++ (45 ∷ two) = append_assoc one (codes "-") two in
         ap labels_in text
         ∙ ap (λ b. cond b (two_labels (label_read (before_first is_dash (one ++ (45 ∷ two)))) (label_read (after_first is_dash (one ++ (45 ∷ two))))) (option_map one_label (label_read (one ++ (45 ∷ two)))))

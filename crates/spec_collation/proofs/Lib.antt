@@ -2,7 +2,6 @@ pub mod Lists
 pub mod LabelTests
 pub mod CollationLaws
 pub mod Words
-pub mod LabelBytes
 pub mod HeaderLaws
 pub mod PieceLaws
 pub mod ReadingLaws

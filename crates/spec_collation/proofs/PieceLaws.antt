@@ -1,19 +1,20 @@
 -- A printed sheet is one piece, which is read as what it is.
-use Rattle.std.proofs.Common.{◌≡◌, inl, inr, ℕ, zero, suc, ◌+◌, ◌-◌, ◌<◌, ◌≤◌, max, Bool, true, false, not, ◌&&◌, ◌==◌, ◌^◌, ◌/◌, ◌%◌, cond, List, [], ◌∷◌, ◌++◌, length, take, refl, ap, sym, subst, ◌∙◌, append_assoc, append-nil, length-append, ne_eqb, leb-true, le-leb, ltb-true, arith}
-use Rattle.std.specs.Prelude.{All, Some, None, codes, nat_le, nat_lt, decimal}
-use Rattle.std.specs.List.{list_all, flat_map}
+use Rattle.std.proofs.Common.{◌≡◌, ℕ, zero, suc, ◌-◌, ◌<◌, max, Bool, true, false, not, ◌&&◌, cond, List, [], ◌∷◌, ◌++◌, length, take, refl, ap, sym, subst, ◌∙◌, append_assoc, append-nil, length-append, ne_eqb, arith}
+use Rattle.std.specs.Prelude.{All, Some, None, codes, nat_lt, slice_index}
+use Rattle.std.specs.List.{flat_map}
 use Rattle.std.specs.Option.{option_and_then}
-use Rattle.std.proofs.lemmas.Bool.{and_parts, cases_lt, lt-leb}
+use Rattle.std.proofs.Math.Bool.{and-false}
 use Rattle.std.proofs.lemmas.List.Elements.{All-nil, All-cons, All-append, All-weaker}
 use Rattle.spec_script.specs.Letters.{ends}
 use Rattle.spec_layout.specs.Cells.{ShownCell, fixed_cell}
 use Rattle.spec_print.specs.RowBytes.{ShownRow, cell_bytes, cells_bytes, columns_behind, gap, spaces, row_bytes, row_line}
-use Rattle.spec_print.specs.Rounds.{round_colour, ordinal, round_name}
+use Rattle.spec_print.specs.Rounds.{round_name}
 use Rattle.spec_print.specs.Sheets.{SheetLabelOf, sheet_label_text, ending_cell, round_cells, header_row, sheet_bytes}
+use Rattle.spec_print.proofs.RoundBytes.{IsRoundByte}
+use Rattle.spec_print.proofs.RoundBytes as names
 use Rattle.spec_collation.specs.SheetReadings.{is_line_end, is_sheet_end, header_in, last_word, labels_in, header_labels, title, labelled, no_sheet, kind_by_labels, kind_of}
 use Rattle.spec_collation.specs.Pieces.{IsPiece, IsPlain}
 use Rattle.spec_collation.proofs.Words.{before-first, any-behind, is_space, last-word, ends-behind, ends-append, take-last}
-use Rattle.spec_collation.proofs.LabelBytes.{IsLabelByte, decimal-bytes, all_below, all_below-at}
 use Rattle.spec_collation.proofs.HeaderLaws.{IsHeaderByte, IsNameByte, header-name, AreReadable, sheet-label-bytes, labels-back, gap-some, spaces-more, cell-text}
 
 -- Neither the end of a line nor that of a sheet.
@@ -21,75 +22,23 @@ pub record Inner (byte : ℕ) : Type 0 where
   pub line : is_line_end byte ≡ false
   pub sheet : is_sheet_end byte ≡ false
 
--- The names of colours have no ends of lines or sheets, and end in no full stop.
-is_name_byte : ℕ → Bool
-is_name_byte byte = nat_le 32 byte
+-- The names of rounds have no ends of lines or sheets, and end in no full stop.
+record IsName (text : List ℕ) : Type 0 where
+  bytes : All IsNameByte text
+  stop : ends 46 text ≡ false
+  some : 0 < length text
 
-colour_test : ℕ → Bool
-colour_test k = list_all is_name_byte (round_colour k) && (not (ends 46 (round_colour k)) && nat_lt 0 (length (round_colour k)))
-
-colours-all : all_below colour_test 10 ≡ true
-unfolding all_below colour_test is_name_byte
-colours-all = refl
-
-pub record IsName (text : List ℕ) : Type 0 where
-  pub bytes : All IsNameByte text
-  pub stop : ends 46 text ≡ false
-  pub some : 0 < length text
-
-all-name : (bytes : List ℕ) → list_all is_name_byte bytes ≡ true → All IsNameByte bytes
-unfolding is_name_byte
-all-name [] passes = All-nil IsNameByte
-all-name (b ∷ bytes) passes =
-    let (here, later) = and_parts (nat_le 32 b) (list_all is_name_byte bytes) passes in
-    All-cons IsNameByte b bytes (record { low = leb-true 32 b here }) (all-name bytes later)
-
-un-not : (b : Bool) → not b ≡ true → b ≡ false
-un-not true h = cc
-un-not false h = refl
-
-colour-name : (k : ℕ) → k < 10 → IsName (round_colour k)
-unfolding colour_test
-colour-name k low =
-    let (bytes, others) = and_parts (list_all is_name_byte (round_colour k)) (not (ends 46 (round_colour k)) && nat_lt 0 (length (round_colour k))) (all_below-at colour_test 10 k colours-all low) in
-    let (stop, some) = and_parts (not (ends 46 (round_colour k))) (nat_lt 0 (length (round_colour k))) others in
-    record { bytes = all-name (round_colour k) bytes; stop = un-not (ends 46 (round_colour k)) stop; some = ltb-true 0 (length (round_colour k)) some }
-
-label-name : (text : List ℕ) → All IsLabelByte text → All IsNameByte text
-label-name text all = All-weaker IsLabelByte IsNameByte (λ b is. let l = is.low in record { low = omega (arith, l) }) text all
-
-ordinal-bytes : (n : ℕ) → n < 2 ^ 64 → All IsNameByte (ordinal n)
-ordinal-bytes n small = All-append IsNameByte (decimal n) (cond (n == 2) (codes "nd") (cond (n == 3) (codes "rd") (codes "th"))) (label-name (decimal n) (decimal-bytes n small)) (by (n == 2) (n == 3))
-  where
-    two : (a b : ℕ) → 32 ≤ a → 32 ≤ b → All IsNameByte (a ∷ b ∷ [])
-    two a b one other = All-cons IsNameByte a (b ∷ []) (record { low = one }) (All-cons IsNameByte b [] (record { low = other }) (All-nil IsNameByte))
-
-    by : (second third : Bool) → All IsNameByte (cond second (codes "nd") (cond third (codes "rd") (codes "th")))
-    by true third = two 110 100 (omega arith) (omega arith)
-    by false true = two 114 100 (omega arith) (omega arith)
-    by false false = two 116 104 (omega arith) (omega arith)
-
--- The name of a round.
-round-name : (round : ℕ) → round ≤ 99 → IsName (round_name round)
-round-name round low = elim (cases_lt 9 round) [
-  | inl high ↦
-      let turn = (round - 1) / 9 + 1 in
-      let colour = (round - 1) % 9 + 1 in
-      let few : turn < 2 ^ 64 = omega (arith, low) in
-      let is = colour-name colour (omega arith) in
-      let front : List ℕ = ordinal turn ++ codes " " in
-      subst IsName (sym (ap (λ b. cond b (round_colour round) (front ++ round_colour colour)) (lt-leb round 9 high)))
-      (record {
-        bytes = All-append IsNameByte front (round_colour colour)
-            (All-append IsNameByte (ordinal turn) (codes " ") (ordinal-bytes turn few) (All-cons IsNameByte 32 [] (record { low = omega arith }) (All-nil IsNameByte)))
-            is.bytes;
-        stop = ends-append 46 front (round_colour colour) is.some ∙ is.stop;
-        some = let l = length-append front (round_colour colour) in let s = is.some in omega (arith, l, s);
-      })
-  | inr near ↦
-      subst IsName (sym (ap (λ b. cond b (round_colour round) (ordinal ((round - 1) / 9 + 1) ++ codes " " ++ round_colour ((round - 1) % 9 + 1))) (le-leb round 9 near)))
-      (colour-name round (omega (arith, near)))
-]
+round-name : (round : ℕ) → IsName (round_name round)
+round-name round =
+    let text = round_name round in
+    let name = names.round-name round in
+    let place = length text - 1 in
+    let last = name.bytes place 0 (let some = name.some in omega (arith, some)) in
+    record {
+      bytes = All-weaker IsRoundByte IsNameByte (λ b is. record { low = is.low }) text name.bytes;
+      stop = ap (λ t. nat_lt 0 (length text) && t) (ne_eqb (slice_index text place) 46 last.stop) ∙ and-false (nat_lt 0 (length text));
+      some = name.some;
+    }
 
 name-inner : (text : List ℕ) → All IsNameByte text → All Inner text
 name-inner text all = All-weaker IsNameByte Inner (λ b is. let l = is.low in record { line = ne_eqb b 10 (λ e. omega (arith, l, e)); sheet = ne_eqb b 12 (λ e. omega (arith, l, e)) }) text all
@@ -103,12 +52,12 @@ spaces-inner : (n : ℕ) → All Inner (spaces n)
 spaces-inner zero = All-nil Inner
 spaces-inner (suc n) = All-cons Inner 32 (spaces n) (record { line = refl; sheet = refl }) (spaces-inner n)
 
-round-front : (round : ℕ) → round ≤ 99 → IsFront (cells_bytes 0 (round_cells round))
-round-front round low = by (nat_lt 0 round)
+round-front : (round : ℕ) → IsFront (cells_bytes 0 (round_cells round))
+round-front round = by (nat_lt 0 round)
   where
     named : IsFront (cells_bytes 0 (fixed_cell 15 (round_name round) ∷ []))
     named =
-        let name = round-name round low in
+        let name = round-name round in
         let text : cells_bytes 0 (fixed_cell 15 (round_name round) ∷ []) ≡ spaces (gap 15 0) ++ round_name round =
         append-nil (cell_bytes 0 (fixed_cell 15 (round_name round))) ∙ cell-text 15 0 (round_name round) name.some name.bytes in
         subst IsFront (sym text)
@@ -137,15 +86,15 @@ pub record HasWord (header text : List ℕ) : Type 0 where
 header-inner : (bytes : List ℕ) → All IsHeaderByte bytes → All Inner bytes
 header-inner bytes all = All-weaker IsHeaderByte Inner (λ b is. let l = is.low in record { line = ne_eqb b 10 (λ e. omega (arith, l, e)); sheet = ne_eqb b 12 (λ e. omega (arith, l, e)) }) bytes all
 
-header-word : (round : ℕ) (it : SheetLabelOf) (rows : List ShownRow) → round ≤ 99 → AreReadable it
+header-word : (round : ℕ) (it : SheetLabelOf) (rows : List ShownRow)
     → HasWord (row_bytes (header_row (record { label = Some it; round = round; rows = rows }))) (sheet_label_text it)
-header-word round it rows low are =
+header-word round it rows =
     let text = sheet_label_text it in
     let word = text ++ codes "." in
     let column = max 15 (75 - length word) in
     let (m, is) = cells-last 0 (round_cells round) (ending_cell word) in
     let (n, some) = gap-some column m (omega arith) in
-    let bytes : All IsHeaderByte word = All-append IsHeaderByte text (codes ".") (sheet-label-bytes it are) (All-cons IsHeaderByte 46 [] (record { low = omega arith; high = omega arith }) (All-nil IsHeaderByte)) in
+    let bytes : All IsHeaderByte word = All-append IsHeaderByte text (codes ".") (sheet-label-bytes it) (All-cons IsHeaderByte 46 [] (record { low = omega arith; high = omega arith }) (All-nil IsHeaderByte)) in
     let name = cells_bytes 0 (round_cells round) in
     let long : 0 < length word = (let l = length-append text (codes ".") in omega (arith, l)) in
     record {
@@ -154,7 +103,7 @@ header-word round it rows low are =
           ∙ ap (λ (t : List ℕ). name ++ t)
           (cell-text column m word long (header-name word bytes) ∙ ap (λ k. spaces k ++ word) some ∙ ap (λ (t : List ℕ). t ++ word) (spaces-more n) ∙ append_assoc (spaces n) (32 ∷ []) word)
           ∙ sym (append_assoc name (spaces n) (32 ∷ word));
-      inner = All-append Inner name (spaces n) (round-front round low).inner (spaces-inner n);
+      inner = All-append Inner name (spaces n) (round-front round).inner (spaces-inner n);
     }
 
 -- What is read behind a header.
@@ -177,15 +126,15 @@ piece-whole header body inner whole =
     (All-cons P 10 (10 ∷ body) refl (All-cons P 10 body refl whole))
 
 -- A sheet with labels is read as one with these labels.
-pub labelled-piece : (round : ℕ) (it : SheetLabelOf) (rows : List ShownRow) → round ≤ 99 → IsPlain rows → AreReadable it
+pub labelled-piece : (round : ℕ) (it : SheetLabelOf) (rows : List ShownRow) → IsPlain rows → AreReadable it
     → IsPiece (labelled it) (sheet_bytes (record { label = Some it; round = round; rows = rows }))
-labelled-piece round it rows low plain are =
+labelled-piece round it rows plain are =
     let text = sheet_label_text it in
     let header = row_bytes (header_row (record { label = Some it; round = round; rows = rows })) in
     let body = flat_map row_line rows in
-    let has = header-word round it rows low are in
+    let has = header-word round it rows in
     let word : List ℕ = text ++ (46 ∷ []) in
-    let header_bytes : All IsHeaderByte word = All-append IsHeaderByte text (46 ∷ []) (sheet-label-bytes it are) (All-cons IsHeaderByte 46 [] (record { low = omega arith; high = omega arith }) (All-nil IsHeaderByte)) in
+    let header_bytes : All IsHeaderByte word = All-append IsHeaderByte text (46 ∷ []) (sheet-label-bytes it) (All-cons IsHeaderByte 46 [] (record { low = omega arith; high = omega arith }) (All-nil IsHeaderByte)) in
     let no_space : All (λ b. is_space b ≡ false) word = All-weaker IsHeaderByte (λ b. is_space b ≡ false) (λ b is. let l = is.low in ne_eqb b 32 (λ e. omega (arith, l, e))) word header_bytes in
     let inner : All Inner header = subst (All Inner) (sym has.is)
     (All-append Inner has.front (32 ∷ word) has.inner (All-cons Inner 32 word (record { line = refl; sheet = refl }) (header-inner word header_bytes))) in
@@ -201,11 +150,11 @@ labelled-piece round it rows low plain are =
     }
 
 -- A title sheet is read as one.
-pub title-piece : (round : ℕ) (rows : List ShownRow) → round ≤ 99 → IsPlain rows → IsPiece title (sheet_bytes (record { label = None; round = round; rows = rows }))
-title-piece round rows low plain =
+pub title-piece : (round : ℕ) (rows : List ShownRow) → IsPlain rows → IsPiece title (sheet_bytes (record { label = None; round = round; rows = rows }))
+title-piece round rows plain =
     let header = row_bytes (header_row (record { label = None; round = round; rows = rows })) in
     let body = flat_map row_line rows in
-    let name = round-front round low in
+    let name = round-front round in
     let same : header ≡ cells_bytes 0 (round_cells round) = ap (cells_bytes 0) (append-nil (round_cells round ++ []) ∙ append-nil (round_cells round)) in
     let inner : All Inner header = subst (All Inner) (sym same) name.inner in
     record {

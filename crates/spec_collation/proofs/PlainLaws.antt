@@ -1,17 +1,14 @@
 -- Rows whose texts have no form feed are written without one.
-use Rattle.std.proofs.Common.{◌≡◌, inl, inr, ℕ, zero, suc, ◌==◌, Bool, true, false, cond, List, [], ◌∷◌, ◌++◌, refl, subst, ne_eqb, arith}
+use Rattle.std.proofs.Common.{◌≡◌, inl, inr, ℕ, zero, suc, ◌==◌, Bool, true, false, cond, List, [], ◌∷◌, ◌++◌, refl, subst}
 use Rattle.std.specs.Prelude.{All}
 use Rattle.std.specs.List.{flat_map}
 use Rattle.std.proofs.lemmas.List.Elements.{All-nil, All-cons, All-head, All-tail, All-append, All-weaker}
-use Rattle.spec_labels.specs.Labels.{LabelOf, label_text}
-use Rattle.spec_labels.proofs.LabelTexts.{small_steps}
 use Rattle.spec_layout.specs.Cells.{ShownPart, ShownCell, part_text}
 use Rattle.spec_print.specs.RowBytes.{ShownRow, spaces, untabbed, part_bytes, is_blank, gap, cell_bytes, cells_bytes, columns_behind, star_cells, row_bytes, row_line}
 use Rattle.spec_collation.specs.SheetLists.{IsIn}
 use Rattle.spec_collation.specs.SheetReadings.{is_sheet_end}
-use Rattle.spec_collation.specs.Pieces.{IsReadable, IsPlain}
+use Rattle.spec_collation.specs.Pieces.{IsPlain}
 use Rattle.spec_collation.proofs.Lists.{append-in}
-use Rattle.spec_collation.proofs.LabelBytes.{IsLabelByte, label-bytes}
 
 -- No form feed.
 pub record Whole (byte : ℕ) : Type 0 where
@@ -74,10 +71,3 @@ rows-whole (row ∷ rows) all = All-append Whole (row_line row) (flat_map row_li
 -- Rows of plain cells are plain.
 pub rows-plain : (rows : List ShownRow) → ((row : ShownRow) → IsIn row rows → (cell : ShownCell) → IsIn cell row.cells → PlainCell cell) → IsPlain rows
 rows-plain rows all = record { whole = All-weaker Whole (λ b. is_sheet_end b ≡ false) (λ b h. h.is) (flat_map row_line rows) (rows-whole rows all) }
-
--- A label's text has no form feed; a slice of a text without one has none, by `All` of its part.
-pub label-whole : (it : LabelOf) → IsReadable it → All Whole (label_text it)
-label-whole it is =
-    let low = is.low in
-    let bytes = label-bytes it (omega (arith, low)) (small_steps it.path is.steps) in
-    All-weaker IsLabelByte Whole (λ b h. let l = h.low in record { is = ne_eqb b 12 (λ e. omega (arith, l, e)) }) (label_text it) bytes

@@ -52,10 +52,10 @@ label-plain : (it : SheetLabelOf) → IsPlain (sheet_label_text it)
 label-plain it = by (is_eq (label_cmp it.first it.last))
   where
     by : (b : Bool) → IsPlain (cond b (label_text it.first) (label_text it.first ++ codes "-" ++ label_text it.last))
-    by true = (labels.label it.first).plain
+    by true = labels.label it.first
     by false =
-        labels.append (label_text it.first ++ codes "-") (label_text it.last) (labels.append (label_text it.first) (codes "-") (labels.label it.first).plain (record { each = refl }))
-        (labels.label it.last).plain
+        labels.append (label_text it.first ++ codes "-") (label_text it.last) (labels.append (label_text it.first) (codes "-") (labels.label it.first) (record { each = refl }))
+        (labels.label it.last)
 
 label-same : (label : Option SheetLabelOf) → AreSame (label_cells label ++ [])
 label-same None = none-same
@@ -67,7 +67,7 @@ header-same : (sheet : Sheet) → AreSame ((round_cells sheet.round ++ label_cel
 header-same sheet = by (nat_lt 0 sheet.round)
   where
     by : (b : Bool) → AreSame ((cond b (fixed_cell 15 (round_name sheet.round) ∷ []) [] ++ label_cells sheet.label) ++ [])
-    by true = more-same 15 (round_name sheet.round) (label_cells sheet.label ++ []) (labels.round sheet.round).plain (label-same sheet.label)
+    by true = more-same 15 (round_name sheet.round) (label_cells sheet.label ++ []) (labels.round sheet.round) (label-same sheet.label)
     by false = label-same sheet.label
 
 -- The header is written as it stands.

@@ -40,11 +40,11 @@ behind_number-decimal n rest small none =
     ap (λ k. drop k (decimal n ++ rest)) count ∙ drop_at (decimal n) rest (length (decimal n)) refl
 
 -- A test of each number below a bound, by computing it.
-all_below : (ℕ → Bool) → ℕ → Bool
+unfoldable pub all_below : (ℕ → Bool) → ℕ → Bool
 all_below p zero = true
 all_below p (suc n) = p n && all_below p n
 
-all_below-at : (p : ℕ → Bool) (n i : ℕ) → all_below p n ≡ true → i < n → p i ≡ true
+pub all_below-at : (p : ℕ → Bool) (n i : ℕ) → all_below p n ≡ true → i < n → p i ≡ true
 unfolding all_below
 all_below-at p zero i all less = absurd (omega (arith, less))
 all_below-at p (suc n) i all less =
@@ -79,6 +79,9 @@ step_letter i less =
 
 pub step_letters-above : (i : ℕ) → i < 24 → 65 ≤ slice_index step_letters i
 step_letters-above i less = (step_letter i less).low
+
+pub step_letters-below : (i : ℕ) → i < 24 → slice_index step_letters i ≤ 90
+step_letters-below i less = (step_letter i less).high
 
 -- The three kinds of steps.
 pub step_text-letter : (step : ℕ) → 0 < step → step ≤ 24 → step_text step ≡ slice_index step_letters (step - 1) ∷ []

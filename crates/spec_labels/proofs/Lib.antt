@@ -2,6 +2,7 @@ pub mod LabelRows
 pub mod LabelOrder
 pub mod LabelsBetween
 pub mod LabelTexts
+pub mod LabelBytes
 pub mod LabelReadings
 pub mod SceneRows
 pub mod SceneSpots

@@ -89,12 +89,12 @@ laid-rising rows records starts laid is labels rising =
 
 -- A printed text is a list of sheets, and so is each choice among its sheets.
 title-is : (bytes : List ℕ) → PrintsTitle bytes → IsPiece title bytes
-title-is bytes is = subst (IsPiece title) (sym is.is) (title-piece is.round is.rows is.low is.plain)
+title-is bytes is = subst (IsPiece title) (sym is.is) (title-piece is.round is.rows is.plain)
 
 sheet-is : (laid : LaidOf) (sheet : SheetOf) → UpTo sheet.first sheet.last → Prints laid sheet → IsPiece (labelled (printed_of laid sheet).label) (printed_of laid sheet).bytes
 sheet-is laid sheet order is =
     subst (IsPiece (labelled (record { first = sheet.first; last = sheet.last }))) (sym is.is)
-    (labelled-piece sheet.round (record { first = sheet.first; last = sheet.last }) is.rows is.round is.plain (record { first = is.first; last = is.last; order = order }))
+    (labelled-piece sheet.round (record { first = sheet.first; last = sheet.last }) is.rows is.plain (record { first = is.first; last = is.last; order = order }))
 
 printed-is : (titles : List (List ℕ)) (laid : LaidOf) → IsPrinted titles laid → AreRising (laid_printed laid) → (sheet : PrintedOf) → IsIn sheet (laid_printed laid) → IsPiece (labelled sheet.label) sheet.bytes
 printed-is titles laid are rising sheet is =

@@ -1,3 +1,4 @@
 pub mod PageHeights
 pub mod PageParts
 pub mod PrintRows
+pub mod RoundBytes

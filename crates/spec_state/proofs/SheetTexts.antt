@@ -1,22 +1,21 @@
 -- The bytes of a sheet are UTF-8 (docs/RULES.md, "Sheets").
-use Rattle.std.proofs.Common.{◌≡◌, ℕ, zero, suc, ◌+◌, ◌-◌, ◌<◌, ◌==◌, Bool, true, false, cond, Option, Some, None, List, [], ◌∷◌, ◌++◌, length, drop, map, get_or, inl, inr, refl, sym, ap, subst, ◌∙◌, lit<, append_assoc, length-append, eqb-true, ltb-true, arith}
-use Rattle.std.specs.Prelude.{◌/◌, ◌%◌, All, codes, decimal, nat_le, nat_lt, slice_get, slice_index, slice_index_or, slice_range, unwrap_or}
-use Rattle.std.specs.Fmt.{digit_glyph, digits_onto, digits}
+use Rattle.std.proofs.Common.{◌≡◌, ℕ, ◌+◌, ◌<◌, ◌==◌, Bool, true, false, cond, Option, Some, None, List, [], ◌∷◌, ◌++◌, length, drop, map, get_or, inl, inr, refl, sym, ap, subst, ◌∙◌, lit<, append_assoc, length-append, eqb-true, arith}
+use Rattle.std.specs.Prelude.{All, codes, nat_lt, slice_get, slice_index_or, slice_range, unwrap_or}
 use Rattle.std.specs.List.{flat_map, list_all}
 use Rattle.std.specs.Ordering.{is_eq}
 use Rattle.std.specs.Str.{IsUtf8}
 use Rattle.std.proofs.lemmas.Bool.{and_parts, cases_lt}
 use Rattle.std.proofs.lemmas.List.{take_at, drop_at, get_or_at, length_push, get_or_past}
 use Rattle.std.proofs.lemmas.List.Elements.{All-nil, All-cons, All-head, All-tail, All-append, All-map, All-weaker, All-replicate, All-contains}
-use Rattle.std.proofs.lemmas.Nat.{mod_below}
 use Rattle.std.proofs.lemmas.Option.{slice_get_within, get_or_from_slice_get}
 use Rattle.std.proofs.lemmas.Str.{IsUtf8-append, IsUtf8-nil, IsUtf8-from_ascii, IsUtf8-between, IsUtf8-take, IsUtf8-drop, IsCharBoundary-before_ascii, IsCharBoundary-after_ascii}
-use Rattle.std.proofs.lemmas.Str.Ascii.{IsAscii-nil, IsAscii-cons, IsAscii-from_all}
+use Rattle.std.proofs.lemmas.Str.Ascii.{IsAscii-from_all}
 use Rattle.json.proofs.Printed.Utf8.{are_ascii, IsUtf8-are_ascii}
 use Rattle.spec_text.specs.Lines.{LineState, line_texts}
 use Rattle.spec_pages.specs.Rows.{ElementOf}
-use Rattle.spec_labels.specs.Labels.{LabelOf, label_cmp, step_letters, step_text, label_text}
+use Rattle.spec_labels.specs.Labels.{LabelOf, label_cmp, label_text}
 use Rattle.spec_labels.specs.PageRecords.{SheetOf}
+use Rattle.spec_labels.proofs.LabelBytes.{label-utf8}
 use Rattle.spec_layout.specs.Cells.{ShownText, slice, label, ShownPart, ShownCell, text_at, shown_bytes, part_text, fixed_cell, RowShows}
 use Rattle.spec_layout.specs.Layout.{placed_in, layout_of}
 use Rattle.spec_layout.specs.Shown.{shown_rows}
@@ -25,8 +24,9 @@ use Rattle.spec_layout.proofs.LayoutLaws.{layout_of-show}
 use Rattle.spec_print.specs.RowBytes.{ShownRow, spaces, untabbed, part_bytes, is_blank, gap, cell_bytes, columns_behind, cells_bytes, star_cells, row_bytes, row_line}
 use Rattle.spec_print.specs.PageRows.{page_body, omitted_rows}
 use Rattle.spec_print.specs.PageTexts.{fixed_texts, IsGiven, CellGiven, RowGiven}
-use Rattle.spec_print.specs.Rounds.{round_colours, round_colour, ordinal, round_name}
+use Rattle.spec_print.specs.Rounds.{round_name}
 use Rattle.spec_print.specs.Sheets.{Sheet, SheetLabelOf, sheet_label_text, ending_cell, label_cells, round_cells, header_row, sheet_bytes}
+use Rattle.spec_print.proofs.RoundBytes.{IsRoundByte, round-name}
 use Rattle.spec_print.proofs.PageParts.{page_body-given, omitted-given}
 use Rattle.spec_state.specs.State.{State, text_of}
 use Rattle.spec_state.specs.Headings.{heading_labels}
@@ -47,10 +47,6 @@ utf8-at xs k all = elim (cases_lt k (length xs)) [ inl inside ↦ all k [] insid
 all-texts : (xs : List (List ℕ)) → list_all are_ascii xs ≡ true → All IsUtf8 xs
 all-texts [] is = All-nil IsUtf8
 all-texts (x ∷ xs) is = let p = and_parts (are_ascii x) (list_all are_ascii xs) is in All-cons IsUtf8 x xs (IsUtf8-are_ascii x p.0) (all-texts xs p.1)
-
-all-ascii : (xs : List ℕ) → are_ascii xs ≡ true → All (λ b. b < 128) xs
-all-ascii [] is = All-nil (λ b. b < 128)
-all-ascii (x ∷ xs) is = let p = and_parts (nat_lt x 128) (are_ascii xs) is in All-cons (λ b. b < 128) x xs (ltb-true x 128 p.0) (all-ascii xs p.1)
 
 utf8-spaces : (n : ℕ) → IsUtf8 (spaces n)
 utf8-spaces n = IsUtf8-from_ascii (spaces n) (IsAscii-from_all (spaces n) (All-replicate (λ b. b < 128) n 32 (lit< tt)))
@@ -91,86 +87,23 @@ untabbed-behind (b ∷ bs) xs u = untabbed-step xs bs b u (untabbed-behind bs []
 utf8-untabbed : (bs : List ℕ) → IsUtf8 bs → IsUtf8 (untabbed bs)
 utf8-untabbed bs u = untabbed-behind bs [] u
 
--- ---- numbers, labels, names of rounds
-
-glyph-ascii : (d : ℕ) → d < 10 → digit_glyph false d < 128
-glyph-ascii d small = by (nat_lt d 10)
-  where
-    by : (t : Bool) → cond t (48 + d) (87 + d) < 128
-    by true = omega (arith, small)
-    by false = omega (arith, small)
-
-all-if : (t : Bool) (xs ys : List ℕ) → All (λ b. b < 128) xs → All (λ b. b < 128) ys → All (λ b. b < 128) (cond t xs ys)
-all-if true xs ys one other = one
-all-if false xs ys one other = other
-
-digits-ascii : (k n : ℕ) (text : List ℕ) → All (λ b. b < 128) text → All (λ b. b < 128) (digits_onto k 10 false n text)
-digits-ascii zero n text all = all
-digits-ascii (suc k) n text all =
-    let glyph = digit_glyph false (n % 10) in
-    let more = All-cons (λ b. b < 128) glyph text (glyph-ascii (n % 10) (mod_below n 10 (lit< tt))) all in
-    all-if (n / 10 == 0) (glyph ∷ text) (digits_onto k 10 false (n / 10) (glyph ∷ text)) more (digits-ascii k (n / 10) (glyph ∷ text) more)
-
-digits-utf8 : (k n : ℕ) (text : List ℕ) → digits_onto k 10 false n [] ≡ text → IsUtf8 text
-digits-utf8 k n text is =
-    let own = digits_onto k 10 false n [] in
-    subst IsUtf8 is (IsUtf8-from_ascii own (IsAscii-from_all own (digits-ascii k n [] (All-nil (λ b. b < 128)))))
-
-own-digits : (n : ℕ) → digits_onto 64 10 false n [] ≡ decimal n
-unfolding digits
-own-digits n = refl
-
-utf8-decimal : (n : ℕ) → IsUtf8 (decimal n)
-utf8-decimal n = digits-utf8 64 n (decimal n) (own-digits n)
-
-utf8-step : (step : ℕ) → IsUtf8 (step_text step)
-utf8-step step = by (step == 0) (nat_le step 24)
-  where
-    by : (none few : Bool) → IsUtf8 (cond none (codes ".") (cond few (slice_index step_letters (step - 1) ∷ []) (codes "(" ++ decimal step ++ codes ")")))
-    by true few = IsUtf8-are_ascii (codes ".") refl
-    by false true =
-        let small = IsAscii-from_all step_letters (all-ascii step_letters refl) (step - 1) in
-        IsUtf8-from_ascii _ (IsAscii-cons _ [] small IsAscii-nil)
-    by false false =
-        IsUtf8-append (codes "(" ++ decimal step) (codes ")") (IsUtf8-append (codes "(") (decimal step) (IsUtf8-are_ascii (codes "(") refl) (utf8-decimal step))
-        (IsUtf8-are_ascii (codes ")") refl)
-
-utf8-label : (it : LabelOf) → IsUtf8 (label_text it)
-utf8-label it =
-    IsUtf8-append (decimal it.number) (flat_map step_text it.path) (utf8-decimal it.number)
-    (utf8-flat step_text it.path (λ k d inside. utf8-step (get_or it.path k d)))
+-- ---- labels, names of rounds
 
 -- The label of a sheet, written.
 pub sheet_label-utf8 : (it : SheetLabelOf) → IsUtf8 (sheet_label_text it)
 sheet_label-utf8 it = by (is_eq (label_cmp it.first it.last))
   where
     by : (t : Bool) → IsUtf8 (cond t (label_text it.first) (label_text it.first ++ codes "-" ++ label_text it.last))
-    by true = utf8-label it.first
+    by true = label-utf8 it.first
     by false =
         IsUtf8-append (label_text it.first ++ codes "-") (label_text it.last)
-        (IsUtf8-append (label_text it.first) (codes "-") (utf8-label it.first) (IsUtf8-are_ascii (codes "-") refl)) (utf8-label it.last)
-
-utf8-colour : (round : ℕ) → IsUtf8 (round_colour round)
-utf8-colour round = utf8-at round_colours round (all-texts round_colours refl)
-
-utf8-ordinal : (n : ℕ) → IsUtf8 (ordinal n)
-utf8-ordinal n = IsUtf8-append (decimal n) _ (utf8-decimal n) (by (n == 2) (n == 3))
-  where
-    by : (second third : Bool) → IsUtf8 (cond second (codes "nd") (cond third (codes "rd") (codes "th")))
-    by true third = IsUtf8-are_ascii (codes "nd") refl
-    by false true = IsUtf8-are_ascii (codes "rd") refl
-    by false false = IsUtf8-are_ascii (codes "th") refl
+        (IsUtf8-append (label_text it.first) (codes "-") (label-utf8 it.first) (IsUtf8-are_ascii (codes "-") refl)) (label-utf8 it.last)
 
 -- The name of a round.
 pub round_name-utf8 : (round : ℕ) → IsUtf8 (round_name round)
-round_name-utf8 round = by (nat_le round 9)
-  where
-    by : (t : Bool) → IsUtf8 (cond t (round_colour round) (ordinal ((round - 1) / 9 + 1) ++ codes " " ++ round_colour ((round - 1) % 9 + 1)))
-    by true = utf8-colour round
-    by false =
-        IsUtf8-append (ordinal ((round - 1) / 9 + 1) ++ codes " ") (round_colour ((round - 1) % 9 + 1))
-        (IsUtf8-append (ordinal ((round - 1) / 9 + 1)) (codes " ") (utf8-ordinal ((round - 1) / 9 + 1)) (IsUtf8-are_ascii (codes " ") refl))
-        (utf8-colour ((round - 1) % 9 + 1))
+round_name-utf8 round =
+    IsUtf8-from_ascii (round_name round)
+    (IsAscii-from_all (round_name round) (All-weaker IsRoundByte (λ b. b < 128) (λ b is. let high = is.high in omega (arith, high)) (round_name round) (round-name round).bytes))
 
 -- ---- cells and rows
 
@@ -247,7 +180,7 @@ module _ (texts : List (List ℕ)) (labels : List LabelOf) (all : All IsUtf8 tex
         subst IsUtf8 (sym part.is) (IsUtf8-between line part.run.from part.run.to (utf8-at texts part.line all) part.lies.order part.lies.start part.lies.end)
     | inr fixed ↦ All-contains IsUtf8 fixed_texts bytes (all-texts fixed_texts refl) fixed
   ]
-  given-text (label it) given = utf8-label it
+  given-text (label it) given = label-utf8 it
 
   given-cell : (cell : ShownCell) → CellGiven texts labels cell → CellText cell
   given-cell cell given = record {

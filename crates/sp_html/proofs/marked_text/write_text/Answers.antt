@@ -15,5 +15,5 @@ returns-in-Label g c =
     let it = c.in-Label.label.now in
     let text = label_text it in
     writes_as
-    (sym (ap (λ t. escaped (untabbed (shown_bytes (text_of t)))) c.in-Label.is ∙ escaped-plain (untabbed text) (untabbed-plain text (plain.label it).plain)
+    (sym (ap (λ t. escaped (untabbed (shown_bytes (text_of t)))) c.in-Label.is ∙ escaped-plain (untabbed text) (untabbed-plain text (plain.label it))
     ∙ printed.untabbed-printable text (printed.label it).printable)) c.write.ensures
