@@ -1,7 +1,7 @@
 -- What a body keeps, with some of its elements exchanged for others.
 use Rattle.std.proofs.Common.{◌≡◌, ℕ, ◌+◌, ◌-◌, ◌<◌, ◌≤◌, ◌^◌, Bool, true, false, cond, List, [], ◌∷◌, ◌++◌, length, map, take, drop, slice_range, All, refl, sym, ap, ap₂, ◌∙◌, arith, append_assoc, length-append, take_at, drop_at, sum_by, length-drop}
 use Rattle.std.proofs.lemmas.List.{map-append, length-map, length-take-le, take-append-drop}
-use Rattle.std.proofs.lemmas.List.Sums.{sum_by-cons}
+use Rattle.std.proofs.lemmas.List.Sums.{sum_by-cons, sum_by-append, sum_by-take-le}
 use Rattle.std.proofs.lemmas.List.Elements.{All-same}
 use Rattle.spec_pages.specs.declared.Shape.{Shape}
 use Rattle.spec_pages.specs.Rows.{Row, ElementOf, shifted_row, placed_rows}
@@ -54,13 +54,8 @@ count-moved less more (element ∷ elements) =
     let two = length-map element.rows (shifted_row element.first) in
     omega (arith, rest, own, before, one, two)
 
-sum-append : (size : ElementOf → ℕ) (one other : List ElementOf) → sum_by size (one ++ other) ≡ sum_by size one + sum_by size other
-sum-append size [] other = omega arith
-sum-append size (element ∷ one) other =
-    omega (arith, sum_by-cons size element (one ++ other), sum_by-cons size element one, sum-append size one other)
-
 pub headings-append : (one other : List ElementOf) → heading_count (one ++ other) ≡ heading_count one + heading_count other
-headings-append one other = omega (arith, sum-headings (one ++ other), sum-headings one, sum-headings other, sum-append headings_of one other)
+headings-append one other = omega (arith, sum-headings (one ++ other), sum-headings one, sum-headings other, sum_by-append headings_of one other)
 
 -- A heading is one wherever it stands.
 headings-stay : (less more : ℕ) (element : ElementOf) → headings_of (moved_element less more element) ≡ headings_of element
@@ -199,9 +194,6 @@ starts-taken size elements from to base order within base_is =
     ap (map (shifted base 0)) (starts-run size elements from to order within)
     ∙ starts-shifted size base 0 (sum_by size (take from elements)) run (omega (arith, base_is)) ∙ ap (λ n. starts_by size n run) none
 
-sum-part : (size : ElementOf → ℕ) (elements : List ElementOf) (n : ℕ) → sum_by size (take n elements) ≤ sum_by size elements
-sum-part size elements n = omega (arith, ap (sum_by size) (sym (take-append-drop n elements)), sum-append size (take n elements) (drop n elements))
-
 -- Bounds of starts.
 starts-from : (size : ElementOf → ℕ) (count low : ℕ) (elements : List ElementOf) → low ≤ count → All (λ place. low ≤ place) (starts_by size count elements)
 starts-from size count low elements first k d inside =
@@ -211,7 +203,7 @@ starts-from size count low elements first k d inside =
 starts-to : (size : ElementOf → ℕ) (count high : ℕ) (elements : List ElementOf) → count + sum_by size elements ≤ high → All (λ place. place ≤ high) (starts_by size count elements)
 starts-to size count high elements last k d inside =
     let at = starts_by-get size count elements k d (omega (arith, inside, length-starts_by size count elements)) in
-    let few = sum-part size elements k in
+    let few = sum_by-take-le size elements k in
     omega (arith, at, last, few)
 
 -- Starts can be exchanged where elements are.
@@ -223,8 +215,8 @@ starts-can size elements starts from to last base less more others_last order wi
     let till = take to elements in
     let run = slice_range elements from to in
     let behind = drop to elements in
-    let run_sum : sum_by size till ≡ sum_by size front + sum_by size run = ap (sum_by size) (till-is elements from to order within) ∙ sum-append size front run in
-    let split : sum_by size elements ≡ sum_by size till + sum_by size behind = ap (sum_by size) (sym (take-append-drop to elements)) ∙ sum-append size till behind in
+    let run_sum : sum_by size till ≡ sum_by size front + sum_by size run = ap (sum_by size) (till-is elements from to order within) ∙ sum_by-append size front run in
+    let split : sum_by size elements ≡ sum_by size till + sum_by size behind = ap (sum_by size) (sym (take-append-drop to elements)) ∙ sum_by-append size till behind in
     let begin = starts-split size elements from (omega (arith, order, within)) in
     let end = starts-split size elements to within in
     let inner : slice_range starts from to ≡ starts_by size (sum_by size front) run = ap (λ xs. slice_range xs from to) is ∙ starts-run size elements from to order within in

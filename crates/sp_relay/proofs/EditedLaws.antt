@@ -4,6 +4,7 @@ use Rattle.std.specs.List.{list_any}
 use Rattle.std.proofs.lemmas.Bool.{not-true, or_cases, or_parts}
 use Rattle.std.proofs.lemmas.List.{append-nil, drop_all, length-map}
 use Rattle.std.proofs.lemmas.List.Elements.{All-append}
+use Rattle.std.proofs.lemmas.List.Folds.{drop_split}
 use Rattle.spec_text.specs.Lines.{LineState, TextState, IsText, line_texts}
 use Rattle.spec_script.specs.BlockValues.{StanzaOf}
 use Rattle.spec_script.specs.Elements.{PlacedLies}
@@ -37,7 +38,7 @@ use Rattle.sp_relay.specs.Kept.{CanSwap}
 use Rattle.sp_relay.specs.Relaid.{IsRelaid, places_of}
 use Rattle.sp_relay.specs.Edges.{CanPart, CanBegin, CanEnd, IsEdge, IsPartStart, IsPartEnd, edge_places}
 use Rattle.sp_relay.specs.Edited.{AreAlike, WasLaid, window_start, window_end, window_was, windows_settle}
-use Rattle.sp_relay.proofs.StanzaLists.{drop-split, take-split, slice-split, part-four, opens-slice}
+use Rattle.sp_relay.proofs.StanzaLists.{take-split, slice-split, part-four, opens-slice}
 use Rattle.sp_relay.proofs.SpeakerLaws.{behind-quiet}
 use Rattle.sp_relay.proofs.QuietLaws.{quiet-relaid}
 use Rattle.sp_relay.proofs.EdgeLaws.{EdgeIs, edge-is, edge-last, can-part}
@@ -98,7 +99,7 @@ module _ (lines : TextState) (stanzas : List StanzaOf) (swapped : SwappedState) 
     each = λ i low inside opens.
         let front = take at stanzas ++ (swapped.stanzas ++ slice_range stanzas to i) in
         let is : olds ≡ front ++ drop i stanzas =
-        old-stanzas ∙ ap (λ (ss : List StanzaOf). take at stanzas ++ (swapped.stanzas ++ ss)) (drop-split stanzas to i low) ∙ part-four (take at stanzas) swapped.stanzas (slice_range stanzas to i) (drop i stanzas) in
+        old-stanzas ∙ ap (λ (ss : List StanzaOf). take at stanzas ++ (swapped.stanzas ++ ss)) (drop_split stanzas to i low) ∙ part-four (take at stanzas) swapped.stanzas (slice_range stanzas to i) (drop i stanzas) in
         let sum : stanza_lines_in (take i stanzas) ≡ end + stanza_lines_in (slice_range stanzas to i) = ap stanza_lines_in (take-split stanzas to i low) ∙ lines-append (take to stanzas) (slice_range stanzas to i) in
         let line : stanza_lines_in front ≡ moved_place end was (stanza_lines_in (take i stanzas)) =
         omega (arith, sum, lines-append (take at stanzas) (swapped.stanzas ++ slice_range stanzas to i), lines-append swapped.stanzas (slice_range stanzas to i)) in
@@ -149,7 +150,7 @@ module _ (lines : TextState) (stanzas : List StanzaOf) (swapped : SwappedState) 
     places = edge_places start stop was end
 
     inner : drop to stanzas ≡ behind ++ rest
-    inner = drop-split stanzas to stop.stanza ends.low
+    inner = drop_split stanzas to stop.stanza ends.low
 
     window : slice_range stanzas start.stanza stop.stanza ≡ ahead ++ (come ++ behind)
     window =
@@ -166,7 +167,7 @@ module _ (lines : TextState) (stanzas : List StanzaOf) (swapped : SwappedState) 
     new-front : stanzas ≡ front ++ (ahead ++ (come ++ drop to stanzas))
     new-front =
         sym (take-append-drop start.stanza stanzas)
-        ∙ ap (λ (ss : List StanzaOf). front ++ ss) (drop-split stanzas start.stanza at begins.within ∙ ap (λ (ss : List StanzaOf). ahead ++ ss) (drop-split stanzas at to (omega arith)))
+        ∙ ap (λ (ss : List StanzaOf). front ++ ss) (drop_split stanzas start.stanza at begins.within ∙ ap (λ (ss : List StanzaOf). ahead ++ ss) (drop_split stanzas at to (omega arith)))
 
     part-to : (mid those others : List StanzaOf) → drop to stanzas ≡ those ++ others → front ++ (ahead ++ (mid ++ drop to stanzas)) ≡ front ++ ((ahead ++ (mid ++ those)) ++ others)
     part-to mid those others is = ap (λ (ss : List StanzaOf). front ++ ss) (ap (λ (ss : List StanzaOf). ahead ++ (mid ++ ss)) is ∙ part-four ahead mid those others)
@@ -414,7 +415,7 @@ slice-lies text stanzas from to keeps is order =
     let are = IsText-texts text keeps in
     let start : 0 + stanza_lines_in (take from stanzas) ≡ stanza_lines_in (take from stanzas) = omega arith in
     let parts : stanzas ≡ take from stanzas ++ (slice_range stanzas from to ++ drop to stanzas) =
-    sym (take-append-drop from stanzas) ∙ ap (λ (ss : List StanzaOf). take from stanzas ++ ss) (drop-split stanzas from to order) in
+    sym (take-append-drop from stanzas) ∙ ap (λ (ss : List StanzaOf). take from stanzas ++ ss) (drop_split stanzas from to order) in
     let mid = blocks_from (stanza_lines_in (take from stanzas)) (slice_range stanzas from to) in
     let last = blocks_from (stanza_lines_in (take from stanzas) + stanza_lines_in (slice_range stanzas from to)) (drop to stanzas) in
     let blocks : blocks_of texts ≡ blocks_from 0 (take from stanzas) ++ (mid ++ last) =

@@ -1,12 +1,12 @@
 -- The status that a script asks for, where no fault is counted.
-use Rattle.std.proofs.Common.{◌≡◌, ℕ, ◌+◌, ◌-◌, ◌^◌, ◌<◌, ◌≤◌, inl, inr, Bool, true, cond, List, length, Some, None, ap, ◌∙◌, subst, arith, length-append}
+use Rattle.std.proofs.Common.{◌≡◌, ℕ, ◌+◌, ◌-◌, ◌^◌, ◌<◌, ◌≤◌, inl, inr, List, length, Some, None, ap, ◌∙◌, subst, arith, length-append}
 use Rattle.std.specs.Prelude.{nat_lt, IfSome, IsSomeAnd}
 use Rattle.std.specs.declared.option.Option.{Option}
 use Rattle.std.specs.Io.KnownBytes.{Consumes, IsAtEnd}
 use Rattle.std.proofs.KnownBytes.{Consumes-whole}
-use Rattle.std.proofs.lemmas.Bool.{lt-ltb}
+use Rattle.std.proofs.lemmas.Bool.{lt-ltb, cond-true}
 use Rattle.spec_text.specs.Limits.{raw_limit}
-use Rattle.spec_text.specs.Lines.{Reading, text_full, reading_of}
+use Rattle.spec_text.specs.Lines.{text_full, reading_of}
 use Rattle.spec_state.specs.State.{State, opened_state}
 use Rattle.spec_state.specs.Printing.{Printing, too_long, no_utf8, long_line, printed, printed_state, printing_of, printing_of_reading}
 use Rattle.sp_kit.specs.Files.{Files}
@@ -23,14 +23,10 @@ use Rattle.sp_opening.specs.Unopened.{Outside, TooLong, Refused}
 use Rattle.sp_show.specs.Showing.{ShowEnds, Answers, AnswersFile, OpensWith, OpensWithout}
 use Rattle.sp_opening.proofs.Held.{held, held-both, held-none, held-one, not-risen}
 
--- A test that passed.
-test_passed : (t : Bool) (x y : Reading) → t ≡ true → cond t x y ≡ x
-test_passed t x y passed = ap (λ b. cond b x y) passed
-
 -- A script past the limit is too long, whatever it is.
 past-limit : (script : List ℕ) → raw_limit < length script → printing_of script ≡ too_long
 past-limit script past =
-    let full : reading_of script ≡ text_full = test_passed (nat_lt raw_limit (length script)) text_full _ (lt-ltb raw_limit (length script) past) in
+    let full : reading_of script ≡ text_full = cond-true (nat_lt raw_limit (length script)) text_full _ (lt-ltb raw_limit (length script) past) in
     ap printing_of_reading full
 
 -- What holds of the bytes that a source gave to its end holds of the script that it tells.

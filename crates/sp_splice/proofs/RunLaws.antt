@@ -1,6 +1,7 @@
 -- Runs poured from list to list.
 use Rattle.std.proofs.Common.{◌≡◌, ℕ, zero, suc, ◌+◌, ◌-◌, ◌≤◌, List, [], ◌∷◌, ◌++◌, length, take, drop, reverse, slice_range, refl, sym, ap, ap₂, ◌∙◌, arith, append_assoc, append-nil, length-append, take_all, take_at, drop_at, drop-drop, length-drop}
 use Rattle.std.proofs.lemmas.List.{reverse-append, reverse-reverse, length-take-le, take-append-drop}
+use Rattle.std.proofs.lemmas.List.Folds.{drop_split}
 use Rattle.sp_splice.specs.Runs.{Poured, exchanged}
 
 pub Poured-none : {X : Type 0} (from to : List X) → Poured from to from to 0
@@ -39,17 +40,11 @@ take-then-take zero n xs = ap (λ k. take k xs) (let same : n ≡ 0 + n = omega 
 take-then-take (suc m) n [] = take_all n [] (omega arith) ∙ sym (take_all (suc m + n) [] (omega arith))
 take-then-take (suc m) n (x ∷ xs) = ap (λ ys. x ∷ ys) (take-then-take m n xs) ∙ ap (λ k. take k (x ∷ xs)) (let same : suc (m + n) ≡ suc m + n = omega arith in same)
 
--- What is behind a place, in two parts by a later one.
-drop-parts : {X : Type 0} (list : List X) (mid to : ℕ) → mid ≤ to → drop mid list ≡ slice_range list mid to ++ drop to list
-drop-parts list mid to order =
-    let rest : drop (to - mid) (drop mid list) ≡ drop to list = drop-drop (to - mid) mid list ∙ ap (λ n. drop n list) (let same : mid + (to - mid) ≡ to = omega (arith, order) in same) in
-    sym (ap (λ xs. slice_range list mid to ++ xs) (sym rest) ∙ take-append-drop (to - mid) (drop mid list))
-
 -- A run in two parts, by a place within it.
 pub slice-parts : {X : Type 0} (list : List X) (from mid to : ℕ) → from ≤ mid → mid ≤ to → slice_range list from mid ++ slice_range list mid to ≡ slice_range list from to
 slice-parts list from mid to order later =
     let front = slice_range list from mid in
-    let all : drop from list ≡ front ++ drop mid list = drop-parts list from mid order in
+    let all : drop from list ≡ front ++ drop mid list = drop_split list from mid order in
     let inner : drop (mid - from) (drop from list) ≡ drop mid list = drop-drop (mid - from) from list ∙ ap (λ n. drop n list) (let same : from + (mid - from) ≡ mid = omega (arith, order) in same) in
     ap (λ xs. front ++ take (to - mid) xs) (sym inner)
     ∙ take-then-take (mid - from) (to - mid) (drop from list)
@@ -106,7 +101,7 @@ fewer-exchanged list items one two from to count less order within count_is few 
     let to_is : mid + less ≡ to = omega (arith, less_is, few, order) in
     let a_len : length a ≡ from = length-take-le from list (omega (arith, order, within)) in
     let q_len : length q ≡ less = length-take-le (to - mid) (drop mid list) (omega (arith, length-drop mid list, within)) ∙ (let same : to - mid ≡ less = omega (arith, to_is) in same) in
-    let rest : drop mid list ≡ q ++ b = drop-parts list mid to (omega (arith, to_is)) in
+    let rest : drop mid list ≡ q ++ b = drop_split list mid to (omega (arith, to_is)) in
     let one_parts : one ≡ a ++ (items ++ (q ++ b)) = one_is ∙ ap (λ xs. a ++ (items ++ xs)) rest in
     let one_front : one ≡ (a ++ items) ++ (q ++ b) = one_parts ∙ sym (append_assoc a items (q ++ b)) in
     let one_back : one ≡ ((a ++ items) ++ q) ++ b = one_front ∙ sym (append_assoc (a ++ items) q b) in
