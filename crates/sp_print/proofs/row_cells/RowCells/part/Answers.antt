@@ -1,10 +1,11 @@
 use Rattle.std.proofs.Common.{◌≡◌, ◌+◌, ◌<◌, ◌≤◌, length, drop, slice_get, ap, sym, ◌∙◌, arith, length-append}
 use Rattle.std.proofs.lemmas.Grind.{common_steps}
 use Rattle.spec_text.specs.Lines.{line_texts}
+use Rattle.spec_text.proofs.ListLaws.{slice_get-front}
 use Rattle.spec_pages.specs.Rows.{shifted_cell}
 use Rattle.spec_layout.specs.Cells.{ShowsParts, shown_cell}
 use Rattle.sp_print.specs.Views.{cell_views}
-use Rattle.sp_print.proofs.Places.{All-image, slice_get-front, slice_get-past}
+use Rattle.sp_print.proofs.Places.{All-image, slice_get-past}
 use Rattle.sp_print.proofs.PartsLent.{row_views, views-here, length-cell_views}
 use Rattle.sp_print.proofs.row_cells.RowCells.part.Goals as goal
 

@@ -1,9 +1,10 @@
 use Rattle.std.proofs.Common.{◌≡◌, ◌+◌, ◌-◌, ◌++◌, length, set, get_or, slice_get, reverse, ap, sym, ◌∙◌, arith}
 use Rattle.std.proofs.lemmas.List.{length-append, length-reverse, length-set, set-append_left}
+use Rattle.spec_text.proofs.ListLaws.{slice_get-front}
 use Rattle.sp_text.proofs.Pairs.{set-behind}
 use Rattle.sp_reread.specs.Cache.{StanzasState}
 use Rattle.sp_reread.specs.Piles.{line_counts}
-use Rattle.sp_reread.proofs.PileLaws.{same-lines, counts-set, count-behind, get-append, get-behind}
+use Rattle.sp_reread.proofs.PileLaws.{same-lines, counts-set, count-behind, get-behind}
 use Rattle.sp_reread.proofs.stanzas.Stanzas.swap.Goals as goal
 
 pub invariant_of-self : goal.invariant_of-self
@@ -47,7 +48,7 @@ returns-then-i-before-clause-stanza c =
     let front = c.self.inside.front.stanzas in
     let back = reverse c.self.inside.back.stanzas in
     let view = ap (λ (x : StanzasState). x.stanzas) c.self.view_is in
-    ap (λ xs. slice_get xs c.args.i) (sym view) ∙ get-append front back c.args.i (omega (arith, c.if-i-before.true, c.len-before.ensures.len)) ∙ c.swap.ensures.stanza
+    ap (λ xs. slice_get xs c.args.i) (sym view) ∙ slice_get-front front back c.args.i (omega (arith, c.if-i-before.true, c.len-before.ensures.len)) ∙ c.swap.ensures.stanza
 
 pub returns-else-i-before-clause-stanzas : goal.returns-else-i-before-clause-stanzas
 returns-else-i-before-clause-stanzas c =
