@@ -7,6 +7,7 @@ use Rattle.std.proofs.lemmas.Bool.{cases_lt}
 use Rattle.std.proofs.lemmas.List.Elements.{All-nil, All-cons, All-head, All-tail, All-append, All-weaker}
 use Rattle.std.proofs.lemmas.Cmp.{tied_itself}
 use Rattle.std.proofs.lemmas.List.{replicate-append-replicate}
+use Rattle.std.proofs.lemmas.List.Folds.{list_any_none}
 use Rattle.spec_labels.specs.Labels.{LabelOf, label_cmp, label_text, Below}
 use Rattle.spec_labels.specs.LabelReading.{label_read}
 use Rattle.spec_labels.proofs.LabelOrder.{label_cmp_total, label_cmp-Equal}
@@ -18,7 +19,7 @@ use Rattle.spec_print.specs.Sheets.{SheetLabelOf, sheet_label_text}
 use Rattle.spec_collation.specs.SheetLists.{UpTo}
 use Rattle.spec_collation.specs.SheetReadings.{is_dash, one_label, two_labels, labels_in}
 use Rattle.spec_collation.specs.Pieces.{IsReadable}
-use Rattle.spec_collation.proofs.Words.{before-first, after-first, any-behind, any-none}
+use Rattle.spec_collation.proofs.Words.{before-first, after-first, any-behind}
 use Rattle.spec_collation.proofs.LabelTests.{below-test}
 
 -- Both labels of a sheet are, and the first isn't behind the last.
@@ -69,7 +70,7 @@ labels-back it are = by (label_cmp it.first it.last) refl
     alone : it.first ≡ it.last → labels_in one ≡ Some it
     alone same =
         ap (λ b. cond b (two_labels (label_read (before_first is_dash one)) (label_read (after_first is_dash one))) (option_map one_label (label_read one)))
-        (any-none is_dash one (no-dash one (label-bytes it.first)))
+        (list_any_none is_dash one (no-dash one (label-bytes it.first)))
         ∙ ap (option_map one_label) (read-back it.first are.first)
         ∙ ap (λ (last : LabelOf). Some (record { first = it.first; last = last })) same
 

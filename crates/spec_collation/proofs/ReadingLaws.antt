@@ -1,5 +1,5 @@
 -- A printed list of sheets is read back; so the collation of bytes is that of lists.
-use Rattle.std.proofs.Common.{◌≡◌, inl, inr, ℕ, ◌+◌, Bool, true, false, cond, List, [], ◌∷◌, ◌++◌, refl, ap, ap₂, sym, ◌∙◌, append_assoc}
+use Rattle.std.proofs.Common.{◌≡◌, inl, inr, ℕ, ◌+◌, Bool, true, false, cond, List, [], ◌∷◌, ◌++◌, refl, ap, sym, ◌∙◌, append_assoc}
 use Rattle.std.specs.Prelude.{Option, Some, None}
 use Rattle.std.specs.List.{flat_map, slice_split, onto_first}
 use Rattle.std.proofs.lemmas.List.Splits.{slice_split_at}
@@ -7,10 +7,7 @@ use Rattle.spec_labels.specs.Labels.{LabelOf}
 use Rattle.spec_collation.specs.SheetLists.{PrintedOf, SheetListOf, bytes_of, list_bytes, IsIn, InOrder, Before}
 use Rattle.spec_collation.specs.SheetReadings.{is_sheet_end, PieceKind, title, labelled, sheets, broken, with_title, with_labelled, follows, read_piece, read_pieces, sheets_in}
 use Rattle.spec_collation.specs.Pieces.{IsPiece, ArePieces}
-use Rattle.spec_collation.specs.Collations.{Choice, present_of, packet_of, Suffices}
-use Rattle.spec_collation.specs.BytesCollated.{collated_bytes, collating_lists, collating}
 use Rattle.spec_collation.proofs.LabelTests.{below-test}
-use Rattle.spec_collation.proofs.CollationLaws.{collation-present}
 
 -- A list that is cut has a first part.
 pub record HasFirst (parts : List (List ℕ)) : Type 0 where
@@ -79,10 +76,3 @@ read-all k (one ∷ titles) list heads pieces order =
 -- A printed list of sheets is a list of sheets, and is read as what was printed.
 pub sheets-read : (list : SheetListOf) → ArePieces list → sheets_in (list_bytes list) ≡ sheets list
 sheets-read list are = read-all 0 list.titles list.labelled are.titles are.sheets are.order
-
--- The collation of the old sheets, printed, with the packet of the present ones, printed, is the present sheets, printed.
-pub collating-present : (old : SheetListOf) (titles : List (List ℕ)) (now : List Choice) → ArePieces old → ArePieces (record { titles = titles; labelled = packet_of now }) → Suffices old.labelled now
-    → collating (list_bytes old) (list_bytes (record { titles = titles; labelled = packet_of now })) ≡ collated_bytes (list_bytes (record { titles = titles; labelled = present_of now }))
-collating-present old titles now was are keeps =
-    ap₂ collating_lists (sheets-read old was) (sheets-read (record { titles = titles; labelled = packet_of now }) are)
-    ∙ ap (λ (list : List PrintedOf). collated_bytes (list_bytes (record { titles = titles; labelled = list }))) (collation-present old.labelled now keeps)

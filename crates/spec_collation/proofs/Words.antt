@@ -41,10 +41,6 @@ any-behind p (x ∷ xs) y ys hit = by (p x) (any-behind p xs y ys hit)
     by true h = refl
     by false h = h
 
-pub any-none : {X : Type 0} (p : X → Bool) (xs : List X) → All (λ x. p x ≡ false) xs → list_any p xs ≡ false
-any-none p [] none = refl
-any-none p (x ∷ xs) none = ap₂ (λ a b. a || b) (All-head (λ z. p z ≡ false) x xs none) (any-none p xs (All-tail (λ z. p z ≡ false) x xs none))
-
 -- The word behind the last space.
 abbrev pub is_space : ℕ → Bool
 is_space byte = byte == 32

@@ -6,7 +6,7 @@ use Rattle.spec_html.specs.Marks.{no_marks}
 use Rattle.spec_html.specs.HtmlSheets.{before_sheets, behind_sheets, pages_html, sheet_html}
 use Rattle.spec_html.specs.HtmlReading.{StyledByte, styled_text}
 use Rattle.spec_html.specs.StyledSheets.{sheet_styled}
-use Rattle.spec_html.proofs.ReadingLaws.{Shows, nothing, joined}
+use Rattle.spec_html.proofs.ReadingLaws.{nothing, joined}
 use Rattle.spec_html.proofs.SheetLaws.{ShowsPlainly, sheet-shown, shown-read}
 
 -- What stands before and behind the sheets shows nothing.

@@ -1,5 +1,5 @@
 -- The anchors of all records after an edit.
-use Rattle.std.proofs.Common.{◌≡◌, ℕ, suc, ◌+◌, ◌-◌, ◌<◌, Bool, true, false, not, ◌&&◌, cond, ltb, Option, Some, None, List, [], ◌∷◌, map, length, get_or, slice_get, unwrap_or, inl, inr, refl, sym, ap, ap₂, subst, ◌∙◌, arith}
+use Rattle.std.proofs.Common.{◌≡◌, ℕ, suc, ◌+◌, ◌-◌, ◌<◌, Bool, true, false, not, ◌&&◌, cond, ltb, Option, Some, None, List, [], ◌∷◌, map, length, slice_get, unwrap_or, inl, inr, refl, sym, ap, ap₂, subst, ◌∙◌, arith}
 use Rattle.std.specs.Prelude.{All, AllPairs, option_map}
 use Rattle.std.proofs.lemmas.Bool.{cases_lt, cases_eq, ne_eqb, ltb-true}
 use Rattle.std.proofs.lemmas.Option.{slice_get-get_or, slice_get_past}
@@ -11,14 +11,11 @@ use Rattle.spec_labels.specs.Spots.{Spot, anchor_after, AtMost}
 use Rattle.spec_text.specs.Ranges.{RangeOf}
 use Rattle.spec_text.specs.EditedLines.{no_line, line_of}
 use Rattle.spec_labels.specs.Anchors.{IsAnchored, spot_of, end_spot, Anchored}
-use Rattle.spec_labels.proofs.SpotLaws.{ahead-not, anchors-order, anchor-behind}
+use Rattle.spec_labels.proofs.SpotLaws.{anchors-order, anchor-behind}
 use Rattle.spec_labels.proofs.CarryLaws.{Edited, place-is, place-nowhere, carried-spot}
 
 abbrev pub first_spot : Spot
 first_spot = record { place = 0; row = 0 }
-
-first-low : (spot : Spot) → AtMost first_spot spot
-first-low spot = ahead-not spot first_spot (λ low. elim low [ inl less ↦ omega (arith, less) | inr level ↦ omega (arith, level.1) ])
 
 -- The anchors after an edit, but for the first record's.
 pub carried-spots : (range : RangeOf) (next later : ℕ) (old new : List LineState) (records : List PageRecordOf) → Edited range next later old new → All (IsAnchored old) records
@@ -38,9 +35,6 @@ pairs-after range (s ∷ spots) pairs =
     all : (ss : List Spot) → All (AtMost s) ss → All (AtMost (anchor_after range s)) (map (anchor_after range) ss)
     all [] h = All-nil (AtMost (anchor_after range s))
     all (t ∷ ss) h = All-cons (AtMost (anchor_after range s)) (anchor_after range t) (map (anchor_after range) ss) (anchors-order range s t (All-head (AtMost s) t ss h)) (all ss (All-tail (AtMost s) t ss h))
-
-all-first : (ss : List Spot) → All (AtMost first_spot) ss
-all-first ss k d inside = first-low (get_or ss k d)
 
 all-within : (range : RangeOf) (last : Spot) (ss : List Spot) → All (λ s. AtMost s last) ss → All (λ s. AtMost s (anchor_after range last)) (map (anchor_after range) ss)
 all-within range last [] h = All-nil (λ s. AtMost s (anchor_after range last))

@@ -6,11 +6,11 @@ use Rattle.std.proofs.lemmas.List.Sums.{position_or_len_is, passes_at_first}
 use Rattle.std.proofs.lemmas.Option.{slice_get-get_or, slice_get_past}
 use Rattle.spec_text.specs.Lines.{LineState}
 use Rattle.spec_labels.specs.PageRecords.{PageRecordOf, line_at, end_line, is_present, line_from, carried}
-use Rattle.spec_labels.specs.Spots.{anchor_after, Follows}
+use Rattle.spec_labels.specs.Spots.{anchor_after}
 use Rattle.spec_text.specs.Ranges.{RangeOf}
 use Rattle.spec_text.specs.EditedLines.{no_line, line_of, HasIds, IsEdited}
 use Rattle.spec_labels.specs.Anchors.{IsAnchored, spot_of}
-use Rattle.spec_labels.proofs.SpotLaws.{anchor-paired, anchor-gone, anchor-behind, anchor-follows}
+use Rattle.spec_labels.proofs.SpotLaws.{anchor-paired, anchor-gone, anchor-behind}
 
 -- Each line is found by its id.
 pub place-is : (lines : List LineState) (k : ℕ) → AllPairs (λ (one other : LineState). one.id ≢ other.id) lines → k < length lines → line_at lines (line_of lines k).id ≡ k
@@ -159,9 +159,3 @@ carried-spot range next later old new it e anchored =
             ]
           ]
     ]
-
--- So it follows the edit.
-pub carried-follows : (range : RangeOf) (next later : ℕ) (old new : List LineState) (it : PageRecordOf) → Edited range next later old new → IsAnchored old it
-    → Follows range (spot_of old it) (spot_of new (carried new (range.first + range.new) it))
-carried-follows range next later old new it e anchored =
-    subst (Follows range (spot_of old it)) (sym (carried-spot range next later old new it e anchored)) (anchor-follows range (spot_of old it))

@@ -11,9 +11,9 @@ use Rattle.std.proofs.lemmas.List.Kept.{AllPairs-cons}
 use Rattle.std.proofs.lemmas.List.Sorted.{IsPermutation-map}
 use Rattle.std.proofs.lemmas.Map.Keys.{IsDistinct-IsPermutation}
 use Rattle.std.proofs.lemmas.Map.Made.{AllPairs-from_IsDistinct, IsDistinct-from_AllPairs}
+use Rattle.spec_text.proofs.ListLaws.{pairs-head, pairs-tail}
 use Rattle.spec_labels.specs.Labels.{LabelOf, label_cmp}
 use Rattle.spec_labels.proofs.LabelOrder.{label_cmp_total, label_cmp-Equal}
-use Rattle.spec_labels.proofs.SceneLabels.{AllPairs-head, AllPairs-tail}
 
 -- A test of sameness, which is the same both ways.
 pub record TellsApart {K : Type 0} (eq : K → K → Bool) : Type 0 where
@@ -27,16 +27,16 @@ apart-map : {X K : Type 0} (f : X → K) (xs : List X) → AllPairs (Apart f) xs
 apart-map f [] pairs = λ i j d less within. absurd (omega (arith, within))
 apart-map {X} {K} f (x ∷ xs) pairs =
     AllPairs-cons (λ (a b : K). a ≢ b) (f x) (map f xs)
-    (All-map (λ (k : K). f x ≢ k) f xs (AllPairs-head (Apart f) x xs pairs))
-    (apart-map f xs (AllPairs-tail (Apart f) x xs pairs))
+    (All-map (λ (k : K). f x ≢ k) f xs (pairs-head (Apart f) x xs pairs))
+    (apart-map f xs (pairs-tail (Apart f) x xs pairs))
 
 map-apart : {X K : Type 0} (f : X → K) (xs : List X) → AllPairs (λ (a b : K). a ≢ b) (map f xs) → AllPairs (Apart f) xs
 map-apart f [] pairs = λ i j d less within. absurd (omega (arith, within))
 map-apart {X} {K} f (x ∷ xs) pairs =
     AllPairs-cons (Apart f) x xs
     (λ k d within same.
-    AllPairs-head (λ (a b : K). a ≢ b) (f x) (map f xs) pairs k (f d) (omega (arith, within, length-map xs f)) (same ∙ sym (get_or-map f xs k d (f d) within)))
-    (map-apart f xs (AllPairs-tail (λ (a b : K). a ≢ b) (f x) (map f xs) pairs))
+    pairs-head (λ (a b : K). a ≢ b) (f x) (map f xs) pairs k (f d) (omega (arith, within, length-map xs f)) (same ∙ sym (get_or-map f xs k d (f d) within)))
+    (map-apart f xs (pairs-tail (λ (a b : K). a ≢ b) (f x) (map f xs) pairs))
 
 pub apart-permutation : {X K : Type 0} (eq : K → K → Bool) → TellsApart eq → (f : X → K) (xs ys : List X) → IsPermutation xs ys → AllPairs (Apart f) xs → AllPairs (Apart f) ys
 apart-permutation eq tells f xs ys permuted pairs =
@@ -50,8 +50,8 @@ pub apart-append : {X K : Type 0} (f : X → K) (xs ys : List X) → AllPairs (A
 apart-append f [] ys first second across = second
 apart-append {X} f (x ∷ xs) ys first second across =
     AllPairs-cons (Apart f) x (xs ++ ys)
-    (All-append (Apart f x) xs ys (AllPairs-head (Apart f) x xs first) (λ k d within. All-head (λ z. Apart f z (get_or ys k d)) x xs (across k d within)))
-    (apart-append f xs ys (AllPairs-tail (Apart f) x xs first) second (λ k d within. All-tail (λ z. Apart f z (get_or ys k d)) x xs (across k d within)))
+    (All-append (Apart f x) xs ys (pairs-head (Apart f) x xs first) (λ k d within. All-head (λ z. Apart f z (get_or ys k d)) x xs (across k d within)))
+    (apart-append f xs ys (pairs-tail (Apart f) x xs first) second (λ k d within. All-tail (λ z. Apart f z (get_or ys k d)) x xs (across k d within)))
 
 -- Numbers and labels are told apart.
 pub numbers-apart : TellsApart (λ (a b : ℕ). a == b)

@@ -8,10 +8,10 @@ use Rattle.std.proofs.lemmas.List.Elements.{All-cons, All-weaker}
 use Rattle.std.proofs.lemmas.List.Kept.{AllPairs-cons}
 use Rattle.std.proofs.lemmas.List.Quantifiers.{position-Some}
 use Rattle.std.proofs.lemmas.Option.{slice_get-get_or}
+use Rattle.spec_text.proofs.ListLaws.{pairs-head}
 use Rattle.spec_labels.specs.Labels.{LabelOf, label_cmp, Below}
 use Rattle.spec_labels.specs.Scenes.{HeadingOf, first_fall, unlocked_labels, disordered_place}
 use Rattle.spec_labels.proofs.LabelOrder.{Below-transitive}
-use Rattle.spec_labels.proofs.SceneLabels.{AllPairs-head}
 use Rattle.spec_labels.proofs.HeadingLabels.{length-unlocked_labels}
 
 -- A label and the one behind it.
@@ -109,7 +109,7 @@ rises-from place low (next ∷ labels) none = by (label_cmp low next) refl (rise
         let rising = rise later in
         let below : Below low next = record { less = is } in
         AllPairs-cons Below low (next ∷ labels)
-        (All-cons (Below low) next labels below (All-weaker (Below next) (Below low) (λ other more. Below-transitive below more) labels (AllPairs-head Below next labels rising)))
+        (All-cons (Below low) next labels below (All-weaker (Below next) (Below low) (λ other more. Below-transitive below more) labels (pairs-head Below next labels rising)))
         rising
     by Equal is rise later = cc
     by Greater is rise later = cc

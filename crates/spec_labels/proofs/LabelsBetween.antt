@@ -1,15 +1,13 @@
 -- A label between two others lies strictly between them, rises with its place, and is a label.
-use Rattle.std.proofs.Common.{◌≡◌, ℕ, zero, suc, ◌+◌, ◌-◌, ◌<◌, ◌≢◌, ◌&&◌, ◌==◌, Bool, true, false, List, [], ◌∷◌, ◌++◌, length, drop, cond, ne_eqb, ⊎_elim, refl, ap, ap₂, sym, ◌∙◌, subst, append_assoc, append-nil, length-append, eq-eqb, eqb-true, nat_cmp, Ordering, Less, Equal, Greater, arith}
+use Rattle.std.proofs.Common.{◌≡◌, ℕ, zero, suc, ◌+◌, ◌-◌, ◌<◌, ◌≢◌, ◌&&◌, Bool, true, false, List, [], ◌∷◌, ◌++◌, length, drop, cond, ne_eqb, ⊎_elim, refl, ap, ap₂, sym, ◌∙◌, subst, append_assoc, append-nil, length-append, eq-eqb, eqb-true, nat_cmp, Ordering, Less, Equal, Greater, arith}
 use Rattle.std.specs.Prelude.{Option, Some, None, IfSome, slice_get, replicate, nat_eq}
 use Rattle.std.specs.Cmp.{nat_cmp_is}
 use Rattle.std.specs.Cmp.Lexicographic.{slice_cmp}
-use Rattle.std.specs.List.{prefix_len, starts_with}
+use Rattle.std.specs.List.{starts_with}
 use Rattle.std.specs.Ordering.{ordering_then}
 use Rattle.std.proofs.lemmas.Bool.{cases_Bool, and_parts}
 use Rattle.std.proofs.lemmas.Bool.Decides.{Decides-eqb}
 use Rattle.std.proofs.lemmas.Cmp.{nat_cmp_total, tied_itself, ranked}
-use Rattle.std.proofs.lemmas.List.{drop_at, length-replicate}
-use Rattle.std.proofs.lemmas.List.Folds.{prefix_len-append, prefix_len-replicate}
 use Rattle.std.proofs.lemmas.Map.Lookups.{exact_unsigned}
 use Rattle.std.proofs.lemmas.Slice.Eq.{starts_is}
 use Rattle.spec_labels.specs.Labels.{LabelOf, plain_label, last_step, IsLabel, Below, is_extended_by, leading_zeros, zeros_between, between}
@@ -166,33 +164,3 @@ between-rises low (Some high) m n less =
 pub between-IsLabel : (low : LabelOf) (high : Option LabelOf) (m : ℕ) → 0 < m → IsLabel (between low high m)
 between-IsLabel low None m some = IsLabel-plain (low.number + m)
 between-IsLabel low (Some high) m some = IsLabel-push low.number m (low.path ++ zeros_between low high) some
-
--- Where the upper label is the lower one, then j zero steps, then a step above 0 and maybe more, j + 1 zero steps stand between.
-pub between-extended : (low high : LabelOf) (j step m : ℕ) (more : List ℕ) → low.number ≡ high.number → high.path ≡ low.path ++ (replicate j 0 ++ step ∷ more) → 0 < step
-    → between low (Some high) m ≡ record { number = low.number; path = low.path ++ replicate (j + 1) 0 ++ m ∷ [] }
-between-extended low high j step m more number path above =
-    let is_zero : ℕ → Bool = λ s. s == 0 in
-    let zeros : List ℕ = replicate j 0 in
-    let rest : drop (length low.path) high.path ≡ zeros ++ step ∷ more = ap (drop (length low.path)) path ∙ drop_at low.path (zeros ++ step ∷ more) (length low.path) refl in
-    let long : length zeros ≡ j = length-replicate j 0 in
-    let front : prefix_len is_zero zeros ≡ j = prefix_len-replicate is_zero j 0 refl in
-    let stop : prefix_len is_zero (step ∷ more) ≡ 0 = ap (λ b. cond b (1 + prefix_len is_zero more) 0) (ne_eqb step 0 (λ e. omega (arith, e))) in
-    let count : prefix_len is_zero (zeros ++ step ∷ more) ≡ j =
-    prefix_len-append is_zero zeros (step ∷ more)
-    ∙ ap (λ b. cond b (length zeros + prefix_len is_zero (step ∷ more)) (prefix_len is_zero zeros)) (eq-eqb (prefix_len is_zero zeros) (length zeros) (front ∙ sym long))
-    ∙ omega (arith, long, stop) in
-    let between_zeros : zeros_between low high ≡ replicate (j + 1) 0 =
-    ap (λ b. cond b (replicate (leading_zeros (drop (length low.path) high.path) + 1) 0) []) (extended-is low high (zeros ++ step ∷ more) number path)
-    ∙ ap (λ n. replicate (n + 1) 0) (ap leading_zeros rest ∙ count) in
-    ap (λ zs. record { number = low.number; path = low.path ++ zs ++ m ∷ [] }) between_zeros
-
--- Where the upper label is not the lower one with further steps, the step stands alone behind it.
-pub between-apart : (low high : LabelOf) (m : ℕ) → (low.number ≡ high.number → (rest : List ℕ) → high.path ≢ low.path ++ rest)
-    → between low (Some high) m ≡ record { number = low.number; path = low.path ++ m ∷ [] }
-between-apart low high m apart =
-    let is : is_extended_by low high ≡ false = ⊎_elim
-    (λ yes. let (number, path) = extended-parts low high yes in absurd (apart number (drop (length low.path) high.path) path))
-    (λ no_more. no_more)
-    (cases_Bool (is_extended_by low high)) in
-    let zeros : zeros_between low high ≡ [] = ap (λ b. cond b (replicate (leading_zeros (drop (length low.path) high.path) + 1) 0) []) is in
-    ap (λ zs. record { number = low.number; path = low.path ++ zs ++ m ∷ [] }) zeros ∙ ap (λ front. record { number = low.number; path = front ++ m ∷ [] }) (append-nil low.path)

@@ -9,13 +9,13 @@ use Rattle.std.proofs.lemmas.List.Folds.{list_any_at}
 use Rattle.std.proofs.lemmas.List.Kept.{AllPairs-cons, AllPairs-filter}
 use Rattle.std.proofs.lemmas.List.Sorted.{IsPermutation-refl, IsPermutation-sym, IsPermutation-trans, IsPermutation-cons, IsPermutation-middle, IsPermutation-append_left, All-permutation, length_permutation}
 use Rattle.spec_text.specs.Lines.{LineState}
+use Rattle.spec_text.proofs.ListLaws.{pairs-head, pairs-tail}
 use Rattle.spec_labels.specs.declared.Moved.{Moved}
 use Rattle.spec_labels.specs.declared.RowKey.{RowKey}
 use Rattle.spec_labels.specs.Labels.{LabelOf, IsLabel, label_cmp, Below}
 use Rattle.spec_labels.specs.Scenes.{record_number_limit}
 use Rattle.spec_labels.specs.PageRecords.{ArePageRecords, PageRecordOf, SheetOf, RisingRecords, end_line, is_present, line_from, is_removed, carried, carried_records, moved_of, moved_from, moved_at, with_anchor, put_back_from, put_back_records, is_recorded, record_of_sheet, is_new, new_page_records, put_in, extended_page_records}
 use Rattle.spec_labels.proofs.LabelOrder.{label_cmp_total, Below-irreflexive, Below-transitive, Below-total}
-use Rattle.spec_labels.proofs.SceneLabels.{AllPairs-head, AllPairs-tail}
 
 -- Records in order, and records with labels of their own.
 abbrev pub Before : PageRecordOf → PageRecordOf → Type 0
@@ -53,7 +53,7 @@ put_in-All P records new here all = All-permutation P (new ∷ records) (put_in 
 put_in-rises : (records : List PageRecordOf) (new : PageRecordOf) → AllPairs Before records → All (λ it. Differs it new) records → AllPairs Before (put_in records new)
 put_in-rises [] new rising differs = λ i j d less within. absurd (omega (arith, less, within))
 put_in-rises (it ∷ records) new rising differs =
-    by (is_lt (label_cmp it.label new.label)) refl (put_in-rises records new (AllPairs-tail Before it records rising) (All-tail (λ r. Differs r new) it records differs))
+    by (is_lt (label_cmp it.label new.label)) refl (put_in-rises records new (pairs-tail Before it records rising) (All-tail (λ r. Differs r new) it records differs))
   where
     below : (o : Ordering) → label_cmp it.label new.label ≡ o → is_lt o ≡ true → Before it new
     below Less is passes = record { less = is }
@@ -69,12 +69,12 @@ put_in-rises (it ∷ records) new rising differs =
     by : (b : Bool) → is_lt (label_cmp it.label new.label) ≡ b → AllPairs Before (put_in records new) → AllPairs Before (cond b (it ∷ put_in records new) (new ∷ it ∷ records))
     by true is rest =
         AllPairs-cons Before it (put_in records new)
-        (put_in-All (Before it) records new (below (label_cmp it.label new.label) refl is) (AllPairs-head Before it records rising)) rest
+        (put_in-All (Before it) records new (below (label_cmp it.label new.label) refl is) (pairs-head Before it records rising)) rest
     by false is rest =
         let first = above is in
         AllPairs-cons Before new (it ∷ records)
         (All-cons (Before new) it records first
-        (All-weaker (Before it) (Before new) (λ other more. Below-transitive first more) records (AllPairs-head Before it records rising)))
+        (All-weaker (Before it) (Before new) (λ other more. Below-transitive first more) records (pairs-head Before it records rising)))
         rising
 
 -- So do records with labels of their own, one after another.
@@ -84,8 +84,8 @@ all_put_in-rises records [] rising own differs = rising
 all_put_in-rises records (new ∷ news) rising own differs =
     let P = λ (it : PageRecordOf). All (λ r. Differs r it) records in
     let here = All-head P new news differs in
-    all_put_in-rises (put_in records new) news (put_in-rises records new rising here) (AllPairs-tail Differs new news own)
-    (λ k d within. put_in-All (λ r. Differs r (get_or news k d)) records new (AllPairs-head Differs new news own k d within) (All-tail P new news differs k d within))
+    all_put_in-rises (put_in records new) news (put_in-rises records new rising here) (pairs-tail Differs new news own)
+    (λ k d within. put_in-All (λ r. Differs r (get_or news k d)) records new (pairs-head Differs new news own k d within) (All-tail P new news differs k d within))
 
 -- The extended list has the old records and the new ones, and no others.
 pub extended_page_records-permutation : (records : List PageRecordOf) (sheets : List SheetOf) (keys : List RowKey)
@@ -130,8 +130,8 @@ new_records-rise records sheets keys rising = mapped (filter (is_new records) sh
     mapped [] pairs = λ i j d less within. absurd (omega (arith, less, within))
     mapped (sheet ∷ all) pairs =
         AllPairs-cons Before (record_of_sheet keys sheet) (map (record_of_sheet keys) all)
-        (All-map (Before (record_of_sheet keys sheet)) (record_of_sheet keys) all (AllPairs-head (λ (one other : SheetOf). Below one.first other.first) sheet all pairs))
-        (mapped all (AllPairs-tail (λ (one other : SheetOf). Below one.first other.first) sheet all pairs))
+        (All-map (Before (record_of_sheet keys sheet)) (record_of_sheet keys) all (pairs-head (λ (one other : SheetOf). Below one.first other.first) sheet all pairs))
+        (mapped all (pairs-tail (λ (one other : SheetOf). Below one.first other.first) sheet all pairs))
 
 -- Records that rise have labels of their own.
 pub rising-Differ : (records : List PageRecordOf) → RisingRecords records → AllPairs Differs records

@@ -5,12 +5,12 @@ use Rattle.std.proofs.lemmas.List.{map-append}
 use Rattle.std.proofs.lemmas.List.Elements.{All-nil, All-cons, All-head, All-tail, All-append}
 use Rattle.std.proofs.lemmas.List.Kept.{AllPairs-cons}
 use Rattle.std.proofs.lemmas.List.Sums.{fold-append}
+use Rattle.spec_text.proofs.ListLaws.{pairs-head, pairs-tail}
 use Rattle.spec_labels.specs.declared.RowKey.{RowKey}
 use Rattle.spec_labels.specs.Labels.{LabelOf, IsLabel, label_cmp, Below, between}
 use Rattle.spec_labels.specs.PageRecords.{PageRecordOf, RisingRecords, SegmentOf, SheetOf, first_label, segments, is_empty, page_label, page_sheet, page_sheets, segment_pages, record_of_sheet, put_in}
 use Rattle.spec_labels.proofs.LabelOrder.{Below-transitive, Below-asymmetric}
 use Rattle.spec_labels.proofs.LabelsBetween.{between-above, between-below, between-rises}
-use Rattle.spec_labels.proofs.SceneLabels.{AllPairs-head, AllPairs-tail}
 use Rattle.spec_labels.proofs.SheetLaws.{page_label-later}
 use Rattle.spec_labels.specs.OwnRecords.{overflow_sheets, all_records}
 
@@ -63,15 +63,11 @@ sheets-put keys front behind (sheet ∷ sheets) above rise below =
     let later : All (λ (s : SheetOf). All (λ (it : PageRecordOf). Below it.label s.first) (front ++ (new ∷ []))) sheets = λ k d h.
     let s = get_or sheets k d in
     All-append (λ (it : PageRecordOf). Below it.label s.first) front (new ∷ []) (All-tail P sheet sheets above k d h)
-    (All-cons (λ (it : PageRecordOf). Below it.label s.first) new [] (AllPairs-head R sheet sheets rise k d h) (All-nil (λ (it : PageRecordOf). Below it.label s.first))) in
+    (All-cons (λ (it : PageRecordOf). Below it.label s.first) new [] (pairs-head R sheet sheets rise k d h) (All-nil (λ (it : PageRecordOf). Below it.label s.first))) in
     ap (λ (rs : List PageRecordOf). fold put_in rs (map (record_of_sheet keys) sheets)) (put_in-middle front behind new (All-head P sheet sheets above) (All-head Q sheet sheets below)
     ∙ sym (append_assoc front (new ∷ []) behind))
-    ∙ sheets-put keys (front ++ (new ∷ [])) behind sheets later (AllPairs-tail R sheet sheets rise) (All-tail Q sheet sheets below)
+    ∙ sheets-put keys (front ++ (new ∷ [])) behind sheets later (pairs-tail R sheet sheets rise) (All-tail Q sheet sheets below)
     ∙ append_assoc front (new ∷ []) (map (record_of_sheet keys) sheets ++ behind)
-
--- The labels of pages of a record behind its first.
-abbrev pub own_segment : ℕ → PageRecordOf → ℕ → List PageRecordOf → ℕ → SegmentOf
-own_segment rows it start records end = record { owner = it; next = first_label records; start = start; end = end }
 
 pub record Stands (it : PageRecordOf) (records : List PageRecordOf) : Type 0 where
   pub above : Under it.label records
@@ -140,7 +136,7 @@ overflow-keeps pages it records start end stands =
 stands-first : (it : PageRecordOf) (records : List PageRecordOf) → All (λ (r : PageRecordOf). IsLabel r.label) records → RisingRecords (it ∷ records) → Stands it records
 stands-first it [] labels rising = record { above = tt; labels = tt }
 stands-first it (r ∷ records) labels rising = record {
-  above = All-head (λ (x : PageRecordOf). Below it.label x.label) r records (AllPairs-head Before it (r ∷ records) rising);
+  above = All-head (λ (x : PageRecordOf). Below it.label x.label) r records (pairs-head Before it (r ∷ records) rising);
   labels = All-head (λ (x : PageRecordOf). IsLabel x.label) r records labels;
 }
 
@@ -174,7 +170,7 @@ all-put pages rows keys front (it ∷ records) (start ∷ starts) count labels r
     ap (fold put_in (front ++ (it ∷ records))) (map-append (record_of_sheet keys) sheets rest)
     ∙ fold-append put_in (front ++ (it ∷ records)) mine (map (record_of_sheet keys) rest)
     ∙ ap (λ (rs : List PageRecordOf). fold put_in rs (map (record_of_sheet keys) rest)) here
-    ∙ all-put pages rows keys (front ++ (it ∷ mine)) records starts (omega (arith, count)) (All-tail (λ (r : PageRecordOf). IsLabel r.label) it records labels) (AllPairs-tail Before it records rising) next
+    ∙ all-put pages rows keys (front ++ (it ∷ mine)) records starts (omega (arith, count)) (All-tail (λ (r : PageRecordOf). IsLabel r.label) it records labels) (pairs-tail Before it records rising) next
     ∙ append_assoc front (it ∷ mine) (all_records keys pages later)
   where
     under-next : (l : LabelOf) (rs : List PageRecordOf) → Under it.label rs → Below l it.label → Under l rs

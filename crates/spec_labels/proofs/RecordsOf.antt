@@ -3,9 +3,9 @@ use Rattle.std.proofs.Common.{◌≡◌, ◌≢◌, ℕ, suc, List, [], ◌∷�
 use Rattle.std.specs.Prelude.{All, AllPairs}
 use Rattle.std.proofs.lemmas.List.Elements.{All-nil, All-cons, All-head, All-tail}
 use Rattle.std.proofs.lemmas.List.Kept.{AllPairs-cons}
+use Rattle.spec_text.proofs.ListLaws.{pairs-head, pairs-tail}
 use Rattle.spec_labels.specs.Labels.{LabelOf}
 use Rattle.spec_labels.specs.Scenes.{HeadingOf, SceneRecordOf, records_of}
-use Rattle.spec_labels.proofs.SceneLabels.{AllPairs-head, AllPairs-tail}
 
 -- What holds of all labels holds of the records.
 pub labels-All : (P : LabelOf → Type 0) (headings : List HeadingOf) (labels : List LabelOf) → All P labels → All (λ (it : SceneRecordOf). P it.label) (records_of headings labels)
@@ -21,8 +21,8 @@ labels-AllPairs R [] labels pairs = λ i j d less within. absurd (omega (arith, 
 labels-AllPairs R (heading ∷ headings) [] pairs = λ i j d less within. absurd (omega (arith, less, within))
 labels-AllPairs R (heading ∷ headings) (label ∷ labels) pairs =
     AllPairs-cons (λ (one other : SceneRecordOf). R one.label other.label) (record { label = label; line = heading.id }) (records_of headings labels)
-    (labels-All (R label) headings labels (AllPairs-head R label labels pairs))
-    (labels-AllPairs R headings labels (AllPairs-tail R label labels pairs))
+    (labels-All (R label) headings labels (pairs-head R label labels pairs))
+    (labels-AllPairs R headings labels (pairs-tail R label labels pairs))
 
 -- What holds of all ids holds of the lines.
 pub lines-All : (P : ℕ → Type 0) (headings : List HeadingOf) (labels : List LabelOf) → All (λ (it : HeadingOf). P it.id) headings → All (λ (it : SceneRecordOf). P it.line) (records_of headings labels)
@@ -38,8 +38,8 @@ lines-distinct [] labels pairs = λ i j d less within. absurd (omega (arith, les
 lines-distinct (heading ∷ headings) [] pairs = λ i j d less within. absurd (omega (arith, less, within))
 lines-distinct (heading ∷ headings) (label ∷ labels) pairs =
     AllPairs-cons (λ (one other : SceneRecordOf). one.line ≢ other.line) (record { label = label; line = heading.id }) (records_of headings labels)
-    (lines-All (λ line. heading.id ≢ line) headings labels (AllPairs-head (λ (one other : HeadingOf). one.id ≢ other.id) heading headings pairs))
-    (lines-distinct headings labels (AllPairs-tail (λ (one other : HeadingOf). one.id ≢ other.id) heading headings pairs))
+    (lines-All (λ line. heading.id ≢ line) headings labels (pairs-head (λ (one other : HeadingOf). one.id ≢ other.id) heading headings pairs))
+    (lines-distinct headings labels (pairs-tail (λ (one other : HeadingOf). one.id ≢ other.id) heading headings pairs))
 
 -- There are as many records as headings, where there is a label for each.
 pub length-records_of : (headings : List HeadingOf) (labels : List LabelOf) → length labels ≡ length headings → length (records_of headings labels) ≡ length headings

@@ -5,16 +5,10 @@ use Rattle.std.proofs.lemmas.List.Elements.{All-nil, All-cons, All-head, All-tai
 use Rattle.std.proofs.lemmas.List.Kept.{AllPairs-cons}
 use Rattle.std.proofs.lemmas.List.Quantifiers.{position-Some}
 use Rattle.std.proofs.lemmas.Option.{same_Some, slice_get-map, slice_get_within, get_or_from_slice_get}
+use Rattle.spec_text.proofs.ListLaws.{pairs-head, pairs-tail}
 use Rattle.spec_labels.specs.Labels.{LabelOf, plain_label}
 use Rattle.spec_labels.specs.Scenes.{HeadingOf, SceneRecordOf, AreHeadings, AreSceneRecords, record_place, record_places, first_place, locked_labels}
 use Rattle.spec_labels.proofs.SceneSpots.{Spot, at, before, IsSpot, label_of, spot_label, spots_since, labels-spots, spot_label-injective}
-
--- A list's pairs are those of its head, and those of its tail.
-pub AllPairs-head : {X : Type 0} (R : X → X → Type 0) (x : X) (xs : List X) → AllPairs R (x ∷ xs) → All (R x) xs
-AllPairs-head R x xs pairs k d within = pairs zero (suc k) d (omega arith) (omega (arith, within))
-
-pub AllPairs-tail : {X : Type 0} (R : X → X → Type 0) (x : X) (xs : List X) → AllPairs R (x ∷ xs) → AllPairs R xs
-AllPairs-tail R x xs pairs i j d less within = pairs (suc i) (suc j) d (omega (arith, less)) (omega (arith, within))
 
 -- Distinct elements have distinct images, where the images tell the elements.
 pub AllPairs-map : {X Y : Type 0} (P : X → Type 0) (f : X → Y) → ((one other : X) → P one → P other → f one ≡ f other → one ≡ other)
@@ -22,8 +16,8 @@ pub AllPairs-map : {X Y : Type 0} (P : X → Type 0) (f : X → Y) → ((one oth
 AllPairs-map {X = X} P f tells [] all pairs = λ i j d less within. absurd (omega (arith, within))
 AllPairs-map {X = X} P f tells (x ∷ xs) all pairs =
     AllPairs-cons (λ one other. one ≢ other) (f x) (map f xs)
-    (All-map (λ y. f x ≢ y) f xs (heads xs (All-tail P x xs all) (AllPairs-head (λ one other. one ≢ other) x xs pairs)))
-    (AllPairs-map P f tells xs (All-tail P x xs all) (AllPairs-tail (λ one other. one ≢ other) x xs pairs))
+    (All-map (λ y. f x ≢ y) f xs (heads xs (All-tail P x xs all) (pairs-head (λ one other. one ≢ other) x xs pairs)))
+    (AllPairs-map P f tells xs (All-tail P x xs all) (pairs-tail (λ one other. one ≢ other) x xs pairs))
   where
     heads : (ys : List X) → All P ys → All (λ y. x ≢ y) ys → All (λ y. f x ≢ f y) ys
     heads ys each apart k d within = λ same. apart k d within (tells x (get_or ys k d) (All-head P x xs all) (each k d within) same)
@@ -87,11 +81,11 @@ later-counts end since m [] low all pairs = All-nil (λ (spot : Spot). before (f
 later-counts end since m (Some p ∷ places) low all pairs =
     All-cons (λ (spot : Spot). before p m ≢ spot) (at p) (spots_since end 0 places)
     (λ same. cc)
-    (no-before end 0 p m places (All-head (Within end) (Some p) places all) (AllPairs-head Apart (Some p) places pairs))
+    (no-before end 0 p m places (All-head (Within end) (Some p) places all) (pairs-head Apart (Some p) places pairs))
 later-counts end since m (None ∷ places) low all pairs =
     All-cons (λ (spot : Spot). before (first_place end places) m ≢ spot) (before (first_place end places) (since + 1)) (spots_since end (since + 1) places)
     (λ same. let e : m ≡ since + 1 = cc in omega (arith, e, low))
-    (later-counts end (since + 1) m places (omega (arith, low)) (All-tail (Within end) None places all) (AllPairs-tail Apart None places pairs))
+    (later-counts end (since + 1) m places (omega (arith, low)) (All-tail (Within end) None places all) (pairs-tail Apart None places pairs))
 
 -- No two headings have one spot.
 pub spots-distinct : (end since : ℕ) (places : List (Option ℕ)) → All (Within end) places → AllPairs Apart places
@@ -99,12 +93,12 @@ pub spots-distinct : (end since : ℕ) (places : List (Option ℕ)) → All (Wit
 spots-distinct end since [] all pairs = λ i j d less within. absurd (omega (arith, within))
 spots-distinct end since (Some p ∷ places) all pairs =
     AllPairs-cons (λ (one other : Spot). one ≢ other) (at p) (spots_since end 0 places)
-    (no-at end 0 p places (AllPairs-head Apart (Some p) places pairs))
-    (spots-distinct end 0 places (All-tail (Within end) (Some p) places all) (AllPairs-tail Apart (Some p) places pairs))
+    (no-at end 0 p places (pairs-head Apart (Some p) places pairs))
+    (spots-distinct end 0 places (All-tail (Within end) (Some p) places all) (pairs-tail Apart (Some p) places pairs))
 spots-distinct end since (None ∷ places) all pairs =
     AllPairs-cons (λ (one other : Spot). one ≢ other) (before (first_place end places) (since + 1)) (spots_since end (since + 1) places)
-    (later-counts end (since + 1) (since + 1) places (omega arith) (All-tail (Within end) None places all) (AllPairs-tail Apart None places pairs))
-    (spots-distinct end (since + 1) places (All-tail (Within end) None places all) (AllPairs-tail Apart None places pairs))
+    (later-counts end (since + 1) (since + 1) places (omega arith) (All-tail (Within end) None places all) (pairs-tail Apart None places pairs))
+    (spots-distinct end (since + 1) places (All-tail (Within end) None places all) (pairs-tail Apart None places pairs))
 
 -- What it says that a heading has the record at a place.
 pub record_place-Some : (records : List SceneRecordOf) (heading : HeadingOf) (place : ℕ) (d : SceneRecordOf) → record_place records heading ≡ Some place
@@ -125,8 +119,8 @@ record_places-Apart records [] pairs = λ i j d less within. absurd (omega (arit
 record_places-Apart records (heading ∷ headings) pairs =
     AllPairs-cons Apart (record_place records heading) (record_places records headings)
     (All-map (Apart (record_place records heading)) (record_place records) headings
-    (λ k d within. by (record_place records heading) (get_or headings k d) refl (AllPairs-head (λ (one other : HeadingOf). one.id ≢ other.id) heading headings pairs k d within)))
-    (record_places-Apart records headings (AllPairs-tail (λ (one other : HeadingOf). one.id ≢ other.id) heading headings pairs))
+    (λ k d within. by (record_place records heading) (get_or headings k d) refl (pairs-head (λ (one other : HeadingOf). one.id ≢ other.id) heading headings pairs k d within)))
+    (record_places-Apart records headings (pairs-tail (λ (one other : HeadingOf). one.id ≢ other.id) heading headings pairs))
   where
     by : (o : Option ℕ) (other : HeadingOf) → record_place records heading ≡ o → heading.id ≢ other.id → Apart o (record_place records other)
     by None other is apart = tt

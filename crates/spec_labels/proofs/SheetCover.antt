@@ -6,10 +6,10 @@ use Rattle.std.proofs.lemmas.Bool.{cases_Bool, and_parts}
 use Rattle.std.proofs.lemmas.List.{get_or_default}
 use Rattle.std.proofs.lemmas.List.Elements.{All-nil, All-cons, All-head, All-tail}
 use Rattle.std.proofs.lemmas.List.Folds.{Any-from_list_any}
+use Rattle.spec_text.proofs.ListLaws.{pairs-head, pairs-tail, All-front, All-back}
 use Rattle.spec_labels.specs.PageRecords.{PageRecordOf, SegmentOf, first_label, segments, is_empty, owner_of, SheetOf, Covers, AreStarts, ArePages, segment_pages, page_sheets, omitted_sheet, runs_of, run_sheets, sheets_of_records}
 use Rattle.spec_labels.proofs.RunLaws.{IsRun, runs_of-IsRun}
-use Rattle.spec_labels.proofs.SceneLabels.{AllPairs-head, AllPairs-tail}
-use Rattle.spec_labels.proofs.SheetLaws.{in_runs, runs_of-all, All-front, All-back}
+use Rattle.spec_labels.proofs.SheetLaws.{in_runs, runs_of-all}
 
 -- Segments follow one another, from one row to another, and begin at pages.
 abbrev Follow : ℕ → List SegmentOf → ℕ → Type 0
@@ -49,7 +49,7 @@ first-page segment (page ∷ pages) some rising there = ⊎_elim
     (filter test pages, ap₂ (λ b (ps : List ℕ). cond b ps (filter test pages)) (here e) (ap (λ p. p ∷ filter test pages) e)))
     (λ other.
     let behind : list_any (λ p. p == segment.start) pages ≡ true = sym (ap (λ b. b || list_any (λ p. p == segment.start) pages) other) ∙ there in
-    let (later, is) = first-page segment pages some (AllPairs-tail (λ one other. one < other) page pages rising) behind in
+    let (later, is) = first-page segment pages some (pairs-tail (λ one other. one < other) page pages rising) behind in
     (later, ap (λ b. cond b (page ∷ filter test pages) (filter test pages)) (before behind) ∙ is))
     (cases_Bool (page == segment.start))
   where
@@ -62,7 +62,7 @@ first-page segment (page ∷ pages) some rising there = ⊎_elim
     before : list_any (λ p. p == segment.start) pages ≡ true → test page ≡ false
     before behind =
         let (k, p, inside, at, is) = Any-from_list_any (λ q. q == segment.start) pages behind in
-        let above : page < p = subst (λ n. page < n) at (AllPairs-head (λ one other. one < other) page pages rising k p inside) in
+        let above : page < p = subst (λ n. page < n) at (pairs-head (λ one other. one < other) page pages rising k p inside) in
         let e : p ≡ segment.start = eqb-true p segment.start is in
         ap (λ b. b && nat_lt page segment.end) (not-le segment.start page (omega (arith, above, e)))
       where
@@ -127,8 +127,8 @@ segments-Follow rows [] (start ∷ starts) same order within = absurd (omega (ar
 segments-Follow rows (it ∷ records) [] same order within = absurd (omega (arith, same))
 segments-Follow rows (it ∷ records) (start ∷ starts) same order within = (
   refl,
-  next starts (AllPairs-head (λ one other. one ≤ other) start starts order),
-  segments-Follow rows records starts (omega (arith, same)) (AllPairs-tail (λ one other. one ≤ other) start starts order) (All-tail (λ s. s ≤ rows) start starts within),
+  next starts (pairs-head (λ one other. one ≤ other) start starts order),
+  segments-Follow rows records starts (omega (arith, same)) (pairs-tail (λ one other. one ≤ other) start starts order) (All-tail (λ s. s ≤ rows) start starts within),
 )
   where
     next : (ss : List ℕ) → All (λ s. start ≤ s) ss → start ≤ slice_index_or ss 0 rows

@@ -4,9 +4,9 @@ use Rattle.std.specs.Prelude.{All, AllPairs, filter, flat_map, nat_le, nat_lt, s
 use Rattle.std.proofs.lemmas.Bool.{and_parts}
 use Rattle.std.proofs.lemmas.List.Elements.{All-nil, All-cons, All-head, All-tail, All-append, filter_passes}
 use Rattle.std.proofs.lemmas.List.Kept.{AllPairs-filter}
+use Rattle.spec_text.proofs.ListLaws.{pairs-head, pairs-tail, All-front, All-back}
 use Rattle.spec_labels.specs.PageRecords.{PageRecordOf, SegmentOf, first_label, segments, is_empty, owner_of, LiesWithin, AreStarts, ArePages, segment_pages, page_sheet, page_sheets, omitted_sheet, runs_of, run_sheets, sheets_of_records}
-use Rattle.spec_labels.proofs.SceneLabels.{AllPairs-head, AllPairs-tail}
-use Rattle.spec_labels.proofs.SheetLaws.{in_runs, runs_of-all, All-front, All-back}
+use Rattle.spec_labels.proofs.SheetLaws.{in_runs, runs_of-all}
 
 -- A segment that lies in the rows.
 pub record Inside (rows : ℕ) (segment : SegmentOf) : Type 0 where
@@ -31,8 +31,8 @@ page_sheets-Lie : (rows : ℕ) (segment : SegmentOf) (m : ℕ) (pages : List ℕ
 page_sheets-Lie rows segment m [] low all rising = All-nil (LiesWithin rows)
 page_sheets-Lie rows segment m (page ∷ later) low all rising =
     All-cons (LiesWithin rows) (page_sheet segment m page later) (page_sheets segment (m + 1) later)
-    (by later (All-tail (λ p. p < segment.end) page later all) (AllPairs-head (λ one other. one < other) page later rising))
-    (page_sheets-Lie rows segment (m + 1) later low (All-tail (λ p. p < segment.end) page later all) (AllPairs-tail (λ one other. one < other) page later rising))
+    (by later (All-tail (λ p. p < segment.end) page later all) (pairs-head (λ one other. one < other) page later rising))
+    (page_sheets-Lie rows segment (m + 1) later low (All-tail (λ p. p < segment.end) page later all) (pairs-tail (λ one other. one < other) page later rising))
   where
     here : page < segment.end
     here = All-head (λ p. p < segment.end) page later all

@@ -7,36 +7,16 @@ use Rattle.std.specs.Cmp.Lexicographic.{slice_cmp}
 use Rattle.std.specs.Ordering.{ordering_then}
 use Rattle.std.proofs.lemmas.List.Elements.{All-nil, All-cons, All-head, All-tail, All-weaker, All-append, All-map}
 use Rattle.std.proofs.lemmas.List.Kept.{AllPairs-cons}
+use Rattle.spec_text.proofs.ListLaws.{pairs-head, pairs-tail, All-front, All-back, pairs-back, pairs-join}
 use Rattle.spec_labels.specs.Labels.{LabelOf, plain_label, IsLabel, Below, between}
 use Rattle.spec_labels.specs.PageRecords.{PageRecordOf, RisingRecords, SegmentOf, IsSegment, first_label, segments, is_empty, SheetOf, segment_pages, page_label, page_sheet, page_sheets, owner_of, omitted_sheet, onto_run, runs_of, run_sheets, sheets_of_records, AreSheets}
 use Rattle.spec_labels.proofs.LabelOrder.{Below-transitive}
 use Rattle.spec_labels.proofs.LabelsBetween.{between-above, between-below, between-rises, between-IsLabel, IsLabel-plain}
-use Rattle.spec_labels.proofs.SceneLabels.{AllPairs-head, AllPairs-tail}
-
--- Lists of pairs, one behind the other.
-AllPairs-append : {X : Type 0} (R : X → X → Type 0) (xs ys : List X) → AllPairs R xs → AllPairs R ys → All (λ y. All (λ x. R x y) xs) ys → AllPairs R (xs ++ ys)
-AllPairs-append R [] ys first second across = second
-AllPairs-append {X = X} R (x ∷ xs) ys first second across =
-    AllPairs-cons R x (xs ++ ys)
-    (All-append (R x) xs ys (AllPairs-head R x xs first) (λ k d within. All-head (λ z. R z (get_or ys k d)) x xs (across k d within)))
-    (AllPairs-append R xs ys (AllPairs-tail R x xs first) second (λ k d within. All-tail (λ z. R z (get_or ys k d)) x xs (across k d within)))
-
-pub All-front : {X : Type 0} (P : X → Type 0) (xs ys : List X) → All P (xs ++ ys) → All P xs
-All-front P [] ys all = All-nil P
-All-front P (x ∷ xs) ys all = All-cons P x xs (All-head P x (xs ++ ys) all) (All-front P xs ys (All-tail P x (xs ++ ys) all))
-
-pub All-back : {X : Type 0} (P : X → Type 0) (xs ys : List X) → All P (xs ++ ys) → All P ys
-All-back P [] ys all = all
-All-back P (x ∷ xs) ys all = All-back P xs ys (All-tail P x (xs ++ ys) all)
-
-AllPairs-back : {X : Type 0} (R : X → X → Type 0) (xs ys : List X) → AllPairs R (xs ++ ys) → AllPairs R ys
-AllPairs-back R [] ys pairs = pairs
-AllPairs-back R (x ∷ xs) ys pairs = AllPairs-back R xs ys (AllPairs-tail R x (xs ++ ys) pairs)
 
 AllPairs-across : {X : Type 0} (R : X → X → Type 0) (xs ys : List X) → AllPairs R (xs ++ ys) → All (λ x. All (R x) ys) xs
 AllPairs-across R [] ys pairs = All-nil (λ x. All (R x) ys)
 AllPairs-across R (x ∷ xs) ys pairs =
-    All-cons (λ z. All (R z) ys) x xs (All-back (R x) xs ys (AllPairs-head R x (xs ++ ys) pairs)) (AllPairs-across R xs ys (AllPairs-tail R x (xs ++ ys) pairs))
+    All-cons (λ z. All (R z) ys) x xs (All-back (R x) xs ys (pairs-head R x (xs ++ ys) pairs)) (AllPairs-across R xs ys (pairs-tail R x (xs ++ ys) pairs))
 
 -- The segments of runs, one run after another.
 abbrev pub in_runs : List (List SegmentOf) → List SegmentOf
@@ -58,10 +38,6 @@ runs_of-all (segment ∷ later) = onto (runs_of later) ∙ ap (λ (ss : List Seg
 -- One label is another one or below it.
 abbrev pub AtMost : LabelOf → LabelOf → Type 0
 AtMost one other = (one ≡ other) ⊎ Below one other
-
-AtMost-Below : (low middle high : LabelOf) → AtMost low middle → Below middle high → Below low high
-AtMost-Below low middle high upto below =
-    ⊎_elim (λ same. subst (λ l. Below l high) (sym same) below) (λ less. Below-transitive less below) upto
 
 Below-AtMost : (low middle high : LabelOf) → Below low middle → AtMost middle high → Below low high
 Below-AtMost low middle high below upto =
@@ -173,14 +149,14 @@ run_sheets-rise pages (segment ∷ others) = by (is_empty segment)
 runs-rise : (pages : List ℕ) (runs : List (List SegmentOf)) → All IsSegment (in_runs runs) → AllPairs Leads (in_runs runs) → AllPairs Behind (flat_map (run_sheets pages) runs)
 runs-rise pages [] all leads = λ i j d less within. absurd (omega (arith, less, within))
 runs-rise pages (run ∷ runs) all leads =
-    AllPairs-append Behind (run_sheets pages run) (flat_map (run_sheets pages) runs)
+    pairs-join Behind (run_sheets pages run) (flat_map (run_sheets pages) runs)
     (run_sheets-rise pages run)
-    (runs-rise pages runs (All-back IsSegment run (in_runs runs) all) (AllPairs-back Leads run (in_runs runs) leads))
-    (λ k d within.
+    (runs-rise pages runs (All-back IsSegment run (in_runs runs) all) (pairs-back Leads run (in_runs runs) leads))
+    (λ n f there k d within.
     let other = get_or (flat_map (run_sheets pages) runs) k d in
     All-weaker (Keeps (λ l. Below l other.first)) (λ one. Behind one other) (λ sheet keeps. record { last = keeps.last; first = keeps.first }) (run_sheets pages run)
     (run_sheets-Keeps (λ l. Below l other.first) pages run
-    (λ i e inside m. (runs-Keep (Below (page_label (get_or run i e) m)) pages runs (above i e inside m) k d within).first)))
+    (λ i e inside m. (runs-Keep (Below (page_label (get_or run i e) m)) pages runs (above i e inside m) k d within).first)) n f there)
   where
     above : (i : ℕ) (e : SegmentOf) → i < length run → (m : ℕ) → All (λ (s : SegmentOf). (n : ℕ) → Below (page_label (get_or run i e) m) (page_label s n)) (in_runs runs)
     above i e inside m j f there n =
@@ -208,8 +184,8 @@ segments-IsSegment rows (it ∷ records) (start ∷ starts) all rising =
     let R = λ (one other : PageRecordOf). Below one.label other.label in
     All-cons IsSegment
     (record { owner = it; next = first_label records; start = start; end = slice_index_or starts 0 rows }) (segments rows records starts)
-    (record { label = All-head P it records all; next = next records (All-tail P it records all) (AllPairs-head R it records rising) })
-    (segments-IsSegment rows records starts (All-tail P it records all) (AllPairs-tail R it records rising))
+    (record { label = All-head P it records all; next = next records (All-tail P it records all) (pairs-head R it records rising) })
+    (segments-IsSegment rows records starts (All-tail P it records all) (pairs-tail R it records rising))
   where
     next : (later : List PageRecordOf) → All (λ (r : PageRecordOf). IsLabel r.label) later → All (λ (r : PageRecordOf). Below it.label r.label) later
         → IfSome (first_label later) (λ n. Below it.label n × IsLabel n)
@@ -223,8 +199,8 @@ segments-Lead rows (it ∷ records) (start ∷ starts) rising =
     let R = λ (one other : PageRecordOf). Below one.label other.label in
     let here : SegmentOf = record { owner = it; next = first_label records; start = start; end = slice_index_or starts 0 rows } in
     AllPairs-cons Leads here (segments rows records starts)
-    (leads records (AllPairs-head R it records rising) (AllPairs-tail R it records rising))
-    (segments-Lead rows records starts (AllPairs-tail R it records rising))
+    (leads records (pairs-head R it records rising) (pairs-tail R it records rising))
+    (segments-Lead rows records starts (pairs-tail R it records rising))
   where
     leads : (later : List PageRecordOf) → All (λ (r : PageRecordOf). Below it.label r.label) later → RisingRecords later
         → All (Leads (record { owner = it; next = first_label later; start = start; end = slice_index_or starts 0 rows })) (segments rows later starts)
@@ -235,7 +211,7 @@ segments-Lead rows (it ∷ records) (start ∷ starts) rising =
           next = segments-All (AtMost r.label) rows (r ∷ later) starts
               (All-cons (λ (x : PageRecordOf). AtMost r.label x.label) r later (inl refl)
               (All-weaker (λ (x : PageRecordOf). Below r.label x.label) (λ (x : PageRecordOf). AtMost r.label x.label) (λ x below. inr below) later
-              (AllPairs-head (λ (one other : PageRecordOf). Below one.label other.label) r later rises)))
+              (pairs-head (λ (one other : PageRecordOf). Below one.label other.label) r later rises)))
               k d within;
         }
 

@@ -8,9 +8,9 @@ use Rattle.std.proofs.lemmas.List.Elements.{All-nil, All-cons, All-map}
 use Rattle.std.proofs.lemmas.List.Kept.{AllPairs-cons}
 use Rattle.std.proofs.lemmas.List.Sums.{fails_before_first, passes_at_first}
 use Rattle.spec_text.specs.Lines.{LineState}
+use Rattle.spec_text.proofs.ListLaws.{pairs-head, pairs-tail}
 use Rattle.spec_labels.specs.declared.RowKey.{RowKey}
 use Rattle.spec_labels.specs.PageRecords.{PageRecordOf, AreStarts, InOrder, end_line, line_at, is_before, anchor_of, record_start, record_starts}
-use Rattle.spec_labels.proofs.SceneLabels.{AllPairs-head, AllPairs-tail}
 
 -- What it says that one pair of numbers is before another.
 pub before-tells : (p q r s : ℕ) → (nat_lt p q || ((p == q) && nat_lt r s)) ≡ true → (p < q) ⊎ ((p ≡ q) × (r < s))
@@ -124,8 +124,8 @@ mapped-order lines rows [] order = λ i j d less within. absurd (omega (arith, l
 mapped-order lines rows (it ∷ records) order =
     AllPairs-cons (λ one other. one ≤ other) (record_start lines rows it) (map (record_start lines rows) records)
     (All-map (λ n. record_start lines rows it ≤ n) (record_start lines rows) records
-    (λ k d within. record_start-order lines rows it (get_or records k d) (AllPairs-head (InOrder lines) it records order k d within)))
-    (mapped-order lines rows records (AllPairs-tail (InOrder lines) it records order))
+    (λ k d within. record_start-order lines rows it (get_or records k d) (pairs-head (InOrder lines) it records order k d within)))
+    (mapped-order lines rows records (pairs-tail (InOrder lines) it records order))
 
 -- So they are starts.
 pub record_starts-AreStarts : (lines : List LineState) (rows : List RowKey) (records : List PageRecordOf) → AllPairs (InOrder lines) (drop 1 records) → AreStarts (length rows) records (record_starts lines rows records)

@@ -16,7 +16,7 @@ use Rattle.spec_script.proofs.RunSteps.{one_alone, two_together}
 use Rattle.spec_pages.specs.declared.Side.{Side}
 use Rattle.spec_pages.specs.declared.Side.TheVariants as sides
 use Rattle.spec_pages.specs.Columns.{width_of, first_lead, has_rows}
-use Rattle.spec_pages.specs.Rows.{LineContext, Row, line_state, line_context, line_rows_from, line_rows, with_number, half_row, joined_rows, shaped_rows, is_title, title_row, spoken_rows, with_speakers, block_alone, blocks_beside, single_rows, dual_rows}
+use Rattle.spec_pages.specs.Rows.{LineContext, Row, line_state, line_context, line_rows_from, line_rows, with_number, half_row, joined_rows, shaped_rows, is_title, title_row, spoken_rows, with_speakers, block_alone, blocks_beside}
 use Rattle.spec_pages.specs.Rows as rows
 use Rattle.spec_pages.specs.Wrapping.{WrappedRow, wrapped}
 use Rattle.spec_pages.proofs.WrapLaws.{length-wrapped-le}

@@ -14,7 +14,7 @@ use Rattle.spec_script.proofs.RunSteps.{one_alone, two_together}
 use Rattle.spec_pages.specs.declared.Side.{Side}
 use Rattle.spec_pages.specs.declared.Side.TheVariants as sides
 use Rattle.spec_pages.specs.Columns.{width_of, first_lead, has_rows}
-use Rattle.spec_pages.specs.Rows.{Row, LineContext, line_state, line_context, line_row, line_rows_from, line_rows, numbered_cells, with_number, half_row, joined_row, joined_rows, shaped_row, shaped_rows, in_column_order, spoken_cells, spoken_rows, with_speakers, is_title, title_row, block_alone, single_rows, blocks_beside, dual_rows, shifted_row}
+use Rattle.spec_pages.specs.Rows.{Row, LineContext, line_state, line_context, line_row, line_rows_from, line_rows, numbered_cells, with_number, half_row, joined_row, joined_rows, shaped_row, shaped_rows, in_column_order, spoken_cells, spoken_rows, with_speakers, is_title, title_row, block_alone, single_rows, dual_rows, shifted_row}
 use Rattle.spec_pages.specs.Rows as rows
 use Rattle.spec_pages.specs.Wrapping.{WrappedRow, wrapped}
 use Rattle.spec_pages.proofs.WrapLaws.{length-wrapped-le}

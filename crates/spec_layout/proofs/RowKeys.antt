@@ -3,9 +3,10 @@ use Rattle.std.proofs.Common.{◌≡◌, ◌⊎◌, ℕ, zero, suc, ◌+◌, ◌
 use Rattle.std.specs.Prelude.{All, AllPairs}
 use Rattle.std.specs.List.{flat_map, list_any}
 use Rattle.std.proofs.lemmas.List.{get_or-map, length-map, map-append}
-use Rattle.std.proofs.lemmas.List.Elements.{All-nil, All-cons, All-head, All-tail, All-append}
+use Rattle.std.proofs.lemmas.List.Elements.{All-nil, All-cons, All-tail, All-append}
 use Rattle.std.proofs.lemmas.List.Kept.{AllPairs-cons}
 use Rattle.spec_text.specs.Lines.{LineState, TextState, IsText, line_texts}
+use Rattle.spec_text.proofs.ListLaws.{pairs-none, pairs-tail, pairs-join}
 use Rattle.spec_script.specs.declared.Kind.{Kind}
 use Rattle.spec_script.specs.LongestRuns.{Group}
 use Rattle.spec_script.specs.BlockValues.{LineOf, BlockOf}
@@ -15,7 +16,7 @@ use Rattle.spec_script.proofs.RunSteps.{one_alone, two_together}
 use Rattle.spec_pages.specs.declared.Side.{Side}
 use Rattle.spec_pages.specs.declared.Side.TheVariants as sides
 use Rattle.spec_pages.specs.Columns.{width_of, first_lead, has_rows}
-use Rattle.spec_pages.specs.Rows.{LineContext, Row, line_context, line_row, line_rows_from, line_rows, with_number, half_row, joined_rows, shaped_rows, is_title, title_row, spoken_rows, with_speakers, block_alone, blocks_beside, single_rows, dual_rows, shifted_row}
+use Rattle.spec_pages.specs.Rows.{LineContext, Row, line_context, line_rows_from, line_rows, with_number, half_row, joined_rows, shaped_rows, is_title, title_row, spoken_rows, with_speakers, block_alone, blocks_beside, shifted_row}
 use Rattle.spec_pages.specs.Rows as rows
 use Rattle.spec_pages.specs.Wrapping.{WrappedRow, wrapped}
 use Rattle.spec_layout.specs.Speakers.{Spoken, spoken_elements}
@@ -23,23 +24,6 @@ use Rattle.spec_layout.specs.Layout.{KeyBelow, is_title_element, layout_in, layo
 use Rattle.spec_layout.proofs.ElementPlaces.{placed_from, placed_to, LinesRise, BlocksStand, Steps, blocks_of-stand, spoken_elements-rise}
 use Rattle.spec_layout.proofs.LaidRows.{element_rows, title_rows, body_rows, layout-titles, layout-body}
 use Rattle.spec_layout.proofs.RowLaws.{IsText-texts}
-
--- Pairs of a list, and of two lists, one behind the other.
-AllPairs-nil : {X : Type 0} (R : X → X → Type 0) → AllPairs R []
-AllPairs-nil R i j d below inside = absurd (omega (arith, inside))
-
-AllPairs-tail : {X : Type 0} (R : X → X → Type 0) (x : X) (xs : List X) → AllPairs R (x ∷ xs) → AllPairs R xs
-AllPairs-tail R x xs all i j d below inside = all (suc i) (suc j) d (omega (arith, below)) (omega (arith, inside))
-
-AllPairs-head : {X : Type 0} (R : X → X → Type 0) (x : X) (xs : List X) → AllPairs R (x ∷ xs) → All (R x) xs
-AllPairs-head R x xs all j d inside = all 0 (suc j) d (omega arith) (omega (arith, inside))
-
-AllPairs-append : {X : Type 0} (R : X → X → Type 0) (xs ys : List X) → AllPairs R xs → AllPairs R ys → All (λ (x : X). All (R x) ys) xs → AllPairs R (xs ++ ys)
-AllPairs-append R [] ys front back across = back
-AllPairs-append {X} R (x ∷ xs) ys front back across =
-    let Q : X → Type 0 = λ x. All (R x) ys in
-    AllPairs-cons R x (xs ++ ys) (All-append (R x) xs ys (AllPairs-head R x xs front) (All-head Q x xs across))
-    (AllPairs-append R xs ys (AllPairs-tail R x xs front) back (All-tail Q x xs across))
 
 -- A key: the place of a line, and the number of a row in it.
 abbrev Key : Type 0
@@ -60,7 +44,7 @@ record KeysRise (low high : ℕ) (keys : List Key) : Type 0 where
   rise : AllPairs Below keys
 
 keys-none : (low high : ℕ) → low ≤ high → KeysRise low high []
-keys-none low high order = record { order = order; inside = All-nil (Inside low high); rise = AllPairs-nil Below }
+keys-none low high order = record { order = order; inside = All-nil (Inside low high); rise = pairs-none Below }
 
 keys-wider : (low from to high : ℕ) (keys : List Key) → low ≤ from → to ≤ high → KeysRise from to keys → KeysRise low high keys
 keys-wider low from to high keys below above rise = record {
@@ -76,12 +60,12 @@ keys-append low mid high keys others front back =
     record {
       order = wide.order;
       inside = All-append (Inside low high) keys others wide.inside far.inside;
-      rise = AllPairs-append Below keys others front.rise back.rise
+      rise = pairs-join Below keys others front.rise back.rise
           (λ k d h j e g. let here = (front.inside k d h).below in let there = (back.inside j e g).above in inl (omega (arith, here, there)));
     }
 
 keys-tail : (low high : ℕ) (key : Key) (keys : List Key) → KeysRise low high (key ∷ keys) → KeysRise low high keys
-keys-tail low high key keys rise = record { order = rise.order; inside = All-tail (Inside low high) key keys rise.inside; rise = AllPairs-tail Below key keys rise.rise }
+keys-tail low high key keys rise = record { order = rise.order; inside = All-tail (Inside low high) key keys rise.inside; rise = pairs-tail Below key keys rise.rise }
 
 -- The keys of rows of an element that begins at a line of the text.
 abbrev key_at : ℕ → Row → Key
@@ -109,7 +93,7 @@ record LineKeys (place number : ℕ) (keys : List Key) : Type 0 where
 line_rows_from-keys : (first : ℕ) (context : LineContext) (line : LineOf) (number : ℕ) (wrapped_rows : List WrappedRow)
     → LineKeys (first + (context.shift + line.offset)) number (keys_at first (line_rows_from context line number wrapped_rows))
 line_rows_from-keys first context line number [] =
-    record { all = All-nil (OfLine (first + (context.shift + line.offset)) number); rise = AllPairs-nil Below }
+    record { all = All-nil (OfLine (first + (context.shift + line.offset)) number); rise = pairs-none Below }
 line_rows_from-keys first context line number (row ∷ later) =
     let place = first + (context.shift + line.offset) in
     let key : Key = (place, number) in

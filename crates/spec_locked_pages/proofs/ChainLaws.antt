@@ -13,11 +13,9 @@ use Rattle.spec_machine.specs.Machine.{EntryOf, Memory, opened_memory, last_entr
 use Rattle.spec_machine.specs.KeptMemories.{IsEntry, IsWholeMemory}
 use Rattle.spec_machine.proofs.MachineLaws.{taken-edit}
 use Rattle.spec_machine.proofs.WholeStates.{edit-whole}
-use Rattle.spec_reread.proofs.Resync.{window-one}
-use Rattle.spec_relayout.specs.Touched.{is_touched_old, is_touched_new}
 use Rattle.spec_relayout.proofs.WindowExists.{window-exists}
 use Rattle.spec_locked_pages.specs.Segments.{IsLockedPage}
-use Rattle.spec_locked_pages.specs.LockedPages.{IsWindowOf, edit_blocks, NoneStandsAt, LeavesAlone, StaysLocked, KeepsLockedPage}
+use Rattle.spec_locked_pages.specs.LockedPages.{LeavesAlone, StaysLocked, KeepsLockedPage}
 use Rattle.spec_locked_pages.specs.Chains.{IsEditOf, LeadTo, LeadFrom, AreLinked, first_state, AllLeaveAlone, KeepsAlong}
 use Rattle.spec_locked_pages.proofs.LockedPage.{window-locked}
 
@@ -35,22 +33,6 @@ made-locked : (range : RangeOf) (old new : State) (i : ℕ) → IsWhole old → 
 made-locked range old new i whole made locked alone =
     subst (λ (s : State). StaysLocked old s i) (sym made.made)
     ((edit-locked old made.edit i whole made.can).keeps locked (subst (λ (s : State). LeavesAlone (range_of made.edit) old s i) made.made (subst (λ (r : RangeOf). LeavesAlone r old new i) (sym made.is) alone)))
-
--- An edit has one window, so it is enough to look at one.
-pub alone-by : (range : RangeOf) (old new : State) (a b i : ℕ) → IsWindowOf range old new a b → NoneStandsAt old (is_touched_old (edit_blocks range old new a b)) i
-    → NoneStandsAt new (is_touched_new (edit_blocks range old new a b)) i → LeavesAlone range old new i
-alone-by range old new a b i window before after = record {
-  before = λ c d other.
-      let same = window-one (line_texts old.lines) (line_texts new.lines) range.first range.old range.new a b c d window other in
-      subst (λ x. NoneStandsAt old (is_touched_old (edit_blocks range old new x d)) i) same.0
-      (subst (λ y. NoneStandsAt old (is_touched_old (edit_blocks range old new a y)) i) same.1 before);
-  after = λ c d other.
-      let same = window-one (line_texts old.lines) (line_texts new.lines) range.first range.old range.new a b c d window other in
-      subst (λ x. NoneStandsAt new (is_touched_new (edit_blocks range old new x d)) i) same.0
-      (subst (λ y. NoneStandsAt new (is_touched_new (edit_blocks range old new a y)) i) same.1 after);
-}
-
--- ---- along entries
 
 pub stays-same : (state : State) (i : ℕ) → IsLockedPage state i → StaysLocked state state i
 stays-same state i locked = record { sheets = refl; label = refl; locked = locked }

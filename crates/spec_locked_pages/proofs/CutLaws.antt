@@ -1,10 +1,11 @@
 -- A text cut in three: what stands in the middle, by itself.
-use Rattle.std.proofs.Common.{◌≡◌, ◌⊎◌, ℕ, zero, suc, ◌+◌, ◌-◌, ◌<◌, ◌≤◌, Bool, true, false, ◌||◌, eqb, List, [], ◌∷◌, ◌++◌, map, length, take, drop, sum_by, slice_get, inl, inr, refl, sym, ap, ap₂, subst, ◌∙◌, arith, length-append, length-drop}
+use Rattle.std.proofs.Common.{◌≡◌, ◌⊎◌, ℕ, ◌+◌, ◌-◌, ◌<◌, ◌≤◌, Bool, true, false, ◌||◌, eqb, List, [], ◌∷◌, ◌++◌, map, length, take, drop, sum_by, slice_get, inl, inr, refl, sym, ap, ap₂, subst, ◌∙◌, arith, length-append, length-drop}
 use Rattle.std.specs.Prelude.{filter, All, slice_range}
 use Rattle.std.proofs.Math.Seq.{drop-append-add}
 use Rattle.std.proofs.lemmas.List.{take-append-le, drop-append-le}
 use Rattle.std.proofs.lemmas.Bool.{cases_lt, cases_eq, ne_eqb, eq-eqb}
 use Rattle.std.proofs.lemmas.List.Elements.{All-head, All-tail}
+use Rattle.spec_text.proofs.ListLaws.{slice_get-front, slice_get-back}
 use Rattle.spec_pages.specs.declared.Shape.{Shape}
 use Rattle.spec_pages.specs.Pages.{lead_of, carried, may_part_at, page_starts, text_heights}
 use Rattle.spec_relayout.specs.Items.{Sight, page_break, row, breaks_among, shapes_among}
@@ -21,16 +22,6 @@ segment_starts limit sights = starts_of limit (own_heights (shapes_among sights)
 -- The page starts of a text with these records' starts.
 abbrev pub text_starts : ℕ → List Sight → List ℕ → List ℕ
 text_starts limit sights starts = page_starts limit (shapes_among sights) (breaks_among 0 sights ++ starts)
-
--- Elements of lists one behind the other.
-get-front : {X : Type 0} (xs ys : List X) (i : ℕ) → i < length xs → slice_get (xs ++ ys) i ≡ slice_get xs i
-get-front [] ys i h = absurd (omega (arith, h))
-get-front (x ∷ xs) ys zero h = refl
-get-front (x ∷ xs) ys (suc i) h = get-front xs ys i (omega (arith, h))
-
-get-back : {X : Type 0} (xs ys : List X) (i : ℕ) → slice_get (xs ++ ys) (length xs + i) ≡ slice_get ys i
-get-back [] ys i = let e : 0 + i ≡ i = omega arith in ap (slice_get ys) e
-get-back (x ∷ xs) ys i = let e : suc (length xs) + i ≡ suc (length xs + i) = omega arith in ap (slice_get (x ∷ (xs ++ ys))) e ∙ get-back xs ys i
 
 -- A range of the middle part.
 pub range-middle : {X : Type 0} (xs ys zs : List X) (a b : ℕ) → b ≤ length ys → slice_range (xs ++ (ys ++ zs)) (length xs + a) (length xs + b) ≡ slice_range ys a b
@@ -56,8 +47,8 @@ middle-agrees xs ys zs joined = record {
       let from : s + p + 1 ≡ s + (p + 1) = omega arith in
       let last : s + q - 1 ≡ s + (q - 1) = omega (arith, less) in
       let leads : slice_range whole (s + p + 1) (s + q) ≡ slice_range ys (p + 1) q = ap (λ a. slice_range whole a (s + q)) from ∙ range-middle xs ys zs (p + 1) q low in
-      let top : slice_get whole (s + p) ≡ slice_get ys p = get-back xs (ys ++ zs) p ∙ get-front ys zs p (omega (arith, less, low)) in
-      let above : slice_get whole (s + q - 1) ≡ slice_get ys (q - 1) = ap (slice_get whole) last ∙ get-back xs (ys ++ zs) (q - 1) ∙ get-front ys zs (q - 1) (omega (arith, less, low)) in
+      let top : slice_get whole (s + p) ≡ slice_get ys p = slice_get-back xs (ys ++ zs) p ∙ slice_get-front ys zs p (omega (arith, less, low)) in
+      let above : slice_get whole (s + q - 1) ≡ slice_get ys (q - 1) = ap (slice_get whole) last ∙ slice_get-back xs (ys ++ zs) (q - 1) ∙ slice_get-front ys zs (q - 1) (omega (arith, less, low)) in
       let behind : carried (slice_get whole (s + q)) ≡ left_open (slice_get ys (q - 1)) = joined (s + q) (omega (arith, less)) ∙ ap left_open above in
       ap₂ (λ a b. a + b) (ap₂ (λ a b. a + b) (ap₂ (λ a b. a + b) count (ap (sum_by lead_of) leads)) (ap carried top)) behind;
   legal = λ q some low.
@@ -65,8 +56,8 @@ middle-agrees xs ys zs joined = record {
       let s = length xs in
       let last : s + q - 1 ≡ s + (q - 1) = omega (arith, some) in
       ap₂ may_part_at
-      (ap (slice_get whole) last ∙ get-back xs (ys ++ zs) (q - 1) ∙ get-front ys zs (q - 1) (omega (arith, low)))
-      (get-back xs (ys ++ zs) q ∙ get-front ys zs q low);
+      (ap (slice_get whole) last ∙ slice_get-back xs (ys ++ zs) (q - 1) ∙ slice_get-front ys zs (q - 1) (omega (arith, low)))
+      (slice_get-back xs (ys ++ zs) q ∙ slice_get-front ys zs q low);
 }
 
 is_among-append : (xs ys : List ℕ) (q : ℕ) → is_among (xs ++ ys) q ≡ (is_among xs q || is_among ys q)

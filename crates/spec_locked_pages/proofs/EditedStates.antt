@@ -29,7 +29,6 @@ use Rattle.spec_state.specs.Changes.{carried_state, rows_by_record, raised, rais
 use Rattle.spec_state.proofs.EditKeeps.{edited-labels}
 use Rattle.spec_machine.proofs.WholeStates.{edit-whole}
 use Rattle.spec_reread.specs.Windows as windows
-use Rattle.spec_reread.specs.Windows.{IsWindow}
 use Rattle.spec_reread.specs.Touched.{window_blocks}
 use Rattle.spec_reread.proofs.Edits.{edited-lines}
 use Rattle.spec_reread.proofs.Resync.{window-cuts, old-cuts}

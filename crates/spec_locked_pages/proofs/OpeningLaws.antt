@@ -4,9 +4,8 @@ use Rattle.std.specs.Prelude.{All, IfSome, filter, slice_range, is_some}
 use Rattle.std.specs.List.{flat_map}
 use Rattle.std.proofs.lemmas.Bool.{cases_Bool, true≢false}
 use Rattle.std.proofs.lemmas.List.{length-map}
-use Rattle.std.proofs.lemmas.List.Elements.{All-nil, All-cons, All-head, All-tail, All-append}
+use Rattle.std.proofs.lemmas.List.Elements.{All-nil, All-cons, All-head, All-tail, All-append, All-take, All-drop}
 use Rattle.spec_text.specs.Lines.{LineState, IsText, line_texts}
-use Rattle.spec_text.proofs.ListLaws.{take-All, drop-All}
 use Rattle.spec_script.specs.LongestRuns.{Group}
 use Rattle.spec_script.specs.Stanzas.{PlacedBlock, blocks_of}
 use Rattle.spec_script.specs.Elements.{line_of_block, alone, pair}
@@ -144,7 +143,7 @@ state-have state is have =
     (λ k d h. record { lined = lined k d h; has = each k d h }) are.utf8 are.few))
 
 range-have : (scenes : Option (List SceneRecordOf)) (rows : List Shown) (s e : ℕ) → All (HasScene scenes) rows → All (HasScene scenes) (slice_range rows s e)
-range-have scenes rows s e all = take-All (HasScene scenes) (e - s) (drop s rows) (drop-All (HasScene scenes) s rows all)
+range-have scenes rows s e all = All-take (HasScene scenes) (e - s) (drop s rows) (All-drop (HasScene scenes) s rows all)
 
 -- ---- one sheet
 

@@ -7,7 +7,7 @@ use Rattle.std.proofs.lemmas.List.{map-append}
 use Rattle.std.proofs.lemmas.List.Elements.{All-nil, All-cons, All-head, All-tail}
 use Rattle.std.proofs.lemmas.List.Kept.{AllPairs-cons}
 use Rattle.spec_text.specs.Lines.{LineState, IsText, line_texts}
-use Rattle.spec_text.proofs.ListLaws.{pairs-head, pairs-tail, pairs-unmap}
+use Rattle.spec_text.proofs.ListLaws.{pairs-head, pairs-tail, pairs-unmap, All-front, All-back}
 use Rattle.spec_script.specs.LongestRuns.{Group, members}
 use Rattle.spec_script.specs.BlockParts.{Rise}
 use Rattle.spec_script.specs.Stanzas.{PlacedBlock, blocks_of}
@@ -35,7 +35,6 @@ use Rattle.spec_relayout.proofs.AmongLaws.{breaks_among-append}
 use Rattle.spec_relayout.proofs.ItemRows.{break-some, no-break, element-count}
 use Rattle.spec_relayout.proofs.ItemsRise.{all_rows}
 use Rattle.spec_relayout.proofs.SoundElements.{blocks-rise}
-use Rattle.spec_relayout.proofs.WindowSides.{all-front, all-back}
 use Rattle.spec_locked_pages.specs.LockedPages.{elements_in as state_elements, spoken_in}
 
 -- The label of the scene record of a line.
@@ -135,8 +134,8 @@ groups-told : (script : Script) (groups : List (Group Spoken)) → All (λ (it :
     → map (spoken_group script) (map (map_group placed_of) groups) ≡ groups
 groups-told script [] all = refl
 groups-told script (group ∷ groups) all =
-    ap₂ (λ (g : Group Spoken) (gs : List (Group Spoken)). g ∷ gs) (group-told script group (all-front P (members group) (flat_map members groups) all))
-    (groups-told script groups (all-back P (members group) (flat_map members groups) all))
+    ap₂ (λ (g : Group Spoken) (gs : List (Group Spoken)). g ∷ gs) (group-told script group (All-front P (members group) (flat_map members groups) all))
+    (groups-told script groups (All-back P (members group) (flat_map members groups) all))
   where
     P : Spoken → Type 0
     P it = script.continued (line_of_block it.placed) ≡ it.continued

@@ -6,23 +6,16 @@ use Rattle.spec_labels.specs.Scenes.{SceneRecordOf, AreSceneRecords, locked_labe
 use Rattle.spec_labels.proofs.SceneStays.{Found, no_heading, extended-found}
 use Rattle.spec_state.specs.State.{State}
 use Rattle.spec_state.specs.Headings.{headings_of}
-use Rattle.spec_state.specs.StateSheets.{sheets_of_state, bytes_of_state}
+use Rattle.spec_state.specs.StateSheets.{bytes_of_state}
 use Rattle.spec_state.specs.Keeping.{IsWhole}
 use Rattle.spec_state.proofs.StateKeys.{text-headings}
 use Rattle.spec_state.proofs.StateLaws.{whole-sound}
-use Rattle.spec_rounds.proofs.OpeningLaw.{lock-opening, round-opening, lock-bytes, round-bytes}
+use Rattle.spec_rounds.proofs.OpeningLaw.{lock-bytes, round-bytes}
 use Rattle.spec_wire.specs.Commands.{CommandOf, lock_pages, next_round}
 use Rattle.spec_machine.specs.Machine.{Memory, opened_memory, memory_after, Accepts, AcceptsAll, memory_behind}
 use Rattle.spec_machine.specs.LabelPromises.{AreLabelled, LosesNone}
 use Rattle.spec_machine.proofs.LabelLaw.{state-labelled}
 use Rattle.spec_machine.proofs.MachineLaws.{opened-whole, steps-whole, steps-lost}
-
--- An accepted lock of pages, and a new round, leave every sheet as it was, and so its bytes.
-pub locking-sheets : (memory : Memory) → IsWhole memory.state → Accepts memory lock_pages → sheets_of_state (memory_after memory lock_pages).state ≡ sheets_of_state memory.state
-locking-sheets memory whole can = lock-opening memory.state (whole-sound memory.state whole) can.unlocked can.rows
-
-pub beginning-sheets : (memory : Memory) → IsWhole memory.state → sheets_of_state (memory_after memory next_round).state ≡ sheets_of_state memory.state
-beginning-sheets memory whole = round-opening memory.state (whole-sound memory.state whole)
 
 pub locking-stays : (memory : Memory) → IsWhole memory.state → Accepts memory lock_pages → bytes_of_state (memory_after memory lock_pages).state ≡ bytes_of_state memory.state
 locking-stays memory whole can = lock-bytes memory.state (whole-sound memory.state whole) can.unlocked can.rows

@@ -1,33 +1,28 @@
 -- Every step of the machine keeps what a memory keeps, and loses no locked label.
-use Rattle.std.proofs.Common.{◌≡◌, ℕ, ◌+◌, ◌-◌, ◌≤◌, Option, Some, None, List, [], ◌∷◌, ◌++◌, map, length, get_or, refl, sym, subst, ◌∙◌, arith}
+use Rattle.std.proofs.Common.{◌≡◌, ◌-◌, Option, Some, None, List, [], ◌∷◌, ◌++◌, map, length, get_or, refl, sym, subst, ◌∙◌}
 use Rattle.std.specs.Prelude.{All, IsPermutation}
 use Rattle.std.specs.List.{Contains}
 use Rattle.std.proofs.lemmas.List.{map-append}
-use Rattle.std.proofs.lemmas.List.Elements.{All-nil, All-cons, All-append, All-weaker, All-contains, All-contains_itself}
+use Rattle.std.proofs.lemmas.List.Elements.{All-nil, All-cons, All-append, All-weaker, All-contains, All-contains_itself, All-take}
 use Rattle.std.proofs.lemmas.List.Sorted.{IsPermutation-map, Contains-permutation}
 use Rattle.std.proofs.lemmas.Option.{slice_get_within, get_or_from_slice_get}
-use Rattle.spec_text.specs.Lines.{LineState, TextState, IsText, lines_from}
 use Rattle.spec_text.specs.Edits.{EditOf, Replacement, replacement_of}
 use Rattle.spec_text.specs.Ranges.{range_of}
-use Rattle.spec_text.proofs.ListLaws.{take-All}
 use Rattle.spec_text.proofs.TakenEdits.{taken-inside}
+use Rattle.spec_text.proofs.ListLaws.{All-front}
 use Rattle.spec_labels.specs.Labels.{LabelOf}
 use Rattle.spec_labels.specs.Scenes.{SceneRecordOf, new_records, extended_records}
 use Rattle.spec_labels.specs.PageRecords.{PageRecordOf, new_page_records, extended_page_records}
 use Rattle.spec_labels.proofs.SceneRecordLaws.{extended_records-permutation}
 use Rattle.spec_labels.proofs.PageRecordLaws.{extended_page_records-permutation}
-use Rattle.spec_labels.proofs.SheetLaws.{All-front}
-use Rattle.spec_records.specs.Kept.{RecordsOf, kept_of, KeepsRules}
-use Rattle.spec_state.specs.State.{State, opened_state, text_of}
+use Rattle.spec_state.specs.State.{State, text_of}
 use Rattle.spec_state.specs.Headings.{headings_of}
 use Rattle.spec_state.specs.StateSheets.{keys_in, body_sheets}
 use Rattle.spec_state.specs.StateLabels.{page_label_of, scene_label_of, labels_of_pages, labels_of_scenes, page_labels, scene_labels}
 use Rattle.spec_state.specs.Openings.{scenes_extended, pages_extended, scenes_locked, pages_locked, round_begun}
 use Rattle.spec_state.specs.Changes.{edited_state, CanEdit}
-use Rattle.spec_state.specs.Keeping.{state_of, IsWhole}
-use Rattle.spec_state.specs.KeptStates.{IsKept}
+use Rattle.spec_state.specs.Keeping.{IsWhole}
 use Rattle.spec_state.proofs.EditKeeps.{edited-labels}
-use Rattle.spec_state.proofs.RulesLaws.{parts-whole}
 use Rattle.spec_wire.specs.Commands.{CommandOf, edit, undo, redo, lock_scenes, lock_pages, next_round, sheet, labels, blocks, outline, save, speakers, paper, packet}
 use Rattle.spec_machine.specs.Machine.{EntryOf, Memory, opened_memory, last_entry, without_last, entry_of, undone_to, redone_to, memory_after, CanTake, Accepts, AcceptsAll, memory_behind}
 use Rattle.spec_machine.specs.KeptMemories.{IsEntry, IsWholeMemory}
@@ -76,7 +71,7 @@ undo-whole memory (Some entry) is whole =
     let there = it.there in
     record {
       state = there.whole;
-      done = entries-over memory.state entry.state (without_last memory.done) (sym there.pages) (sym there.scenes) (take-All (IsEntry memory.state) (length memory.done - 1) memory.done whole.done);
+      done = entries-over memory.state entry.state (without_last memory.done) (sym there.pages) (sym there.scenes) (All-take (IsEntry memory.state) (length memory.done - 1) memory.done whole.done);
       undone = entries-more entry.state memory.undone (entry_of memory.state entry.range) (entries-over memory.state entry.state memory.undone (sym there.pages) (sym there.scenes) whole.undone) it.back;
     }
 
@@ -88,7 +83,7 @@ redo-whole memory (Some entry) is whole =
     record {
       state = there.whole;
       done = entries-more entry.state memory.done (entry_of memory.state entry.range) (entries-over memory.state entry.state memory.done (sym there.pages) (sym there.scenes) whole.done) it.back;
-      undone = entries-over memory.state entry.state (without_last memory.undone) (sym there.pages) (sym there.scenes) (take-All (IsEntry memory.state) (length memory.undone - 1) memory.undone whole.undone);
+      undone = entries-over memory.state entry.state (without_last memory.undone) (sym there.pages) (sym there.scenes) (All-take (IsEntry memory.state) (length memory.undone - 1) memory.undone whole.undone);
     }
 
 -- An accepted edit can be made.
@@ -129,10 +124,6 @@ steps-whole memory (command ∷ commands) whole can = steps-whole (memory_after 
 -- ---- what is opened is whole
 
 -- A text with its records.
-pub file-whole : (text : TextState) (records : RecordsOf) → IsText text → KeepsRules text.lines (kept_of text records) → IsWhole (state_of text records)
-file-whole text records is rules = record { text = is; rules = rules }
-
--- ---- no label is lost
 
 none-lost : (those : List LabelOf) → HasAll those those
 none-lost those = All-contains_itself those

@@ -2,7 +2,7 @@
 use Rattle.std.proofs.Common.{◌≡◌, ℕ, suc, ◌+◌, ◌<◌, ◌≤◌, Bool, true, false, cond, Option, List, [], ◌∷◌, map, length, get_or, inl, inr, refl, sym, ap, ap₂, subst, ◌∙◌, arith, length-append}
 use Rattle.std.specs.Prelude.{All, AllPairs, IfSome, drop, flat_map, slice_index_or, slice_range}
 use Rattle.std.proofs.lemmas.List.{length-map}
-use Rattle.std.proofs.lemmas.List.Elements.{All-nil, All-cons, All-head, All-tail, All-append, All-map, All-filter}
+use Rattle.std.proofs.lemmas.List.Elements.{All-nil, All-cons, All-head, All-tail, All-append, All-map, All-filter, All-drop}
 use Rattle.std.proofs.lemmas.List.Kept.{AllPairs-cons}
 use Rattle.spec_text.specs.Lines.{LineState}
 use Rattle.spec_labels.specs.declared.RowKey.{RowKey}
@@ -11,7 +11,6 @@ use Rattle.spec_labels.specs.PageRecords.{PageRecordOf, SegmentOf, SheetOf, Risi
 use Rattle.spec_labels.proofs.LabelOrder.{Below-transitive}
 use Rattle.spec_labels.proofs.LabelsBetween.{between-above}
 use Rattle.spec_labels.proofs.PageRecordLaws.{carried-label, carried-labels}
-use Rattle.spec_labels.proofs.SceneLabels.{AllPairs-head, AllPairs-tail}
 use Rattle.spec_labels.proofs.SheetLaws.{page_label-later}
 use Rattle.spec_records.specs.Bounds.{locked_step_limit, IsBounded}
 use Rattle.spec_records.proofs.BoundLaws.{between-Bounded, IsBounded-weaker}
@@ -34,7 +33,7 @@ use Rattle.spec_state.specs.Changes.{raised, raised_records}
 use Rattle.spec_state.specs.KeptStates.{IsPageKept, ArePagesKept}
 use Rattle.spec_state.specs.StateLabels.{page_label_of}
 use Rattle.spec_state.proofs.EditKeeps.{raised-labels}
-use Rattle.spec_text.proofs.ListLaws.{drop-All, pairs-map, pairs-unmap}
+use Rattle.spec_text.proofs.ListLaws.{pairs-map, pairs-unmap, pairs-head, pairs-tail}
 use Rattle.spec_labels.proofs.KeySpots.{no_key, rows-order}
 use Rattle.spec_machine.proofs.RecordOrder.{Starts, all-order, behind-order}
 use Rattle.spec_state.proofs.RowMarks.{greatest-low}
@@ -117,9 +116,9 @@ edited-pages round range next later old new olds news records e are =
     All-map (IsPageKept (length records) round new) (carried new place) records (λ k d h. carried-kept (length records) round range next later old new place (get_or records k d) e (are.each k d h)) in
     let rest = drop 1 records in
     let anchored : Anchored old rest = record {
-      each = drop-All (IsAnchored old) 1 records (λ k d h. (are.each k d h).anchored);
+      each = All-drop (IsAnchored old) 1 records (λ k d h. (are.each k d h).anchored);
       order = pairs-map AtMost (spot_of old) rest are.order;
-      within = All-map (λ s. AtMost s (end_spot old)) (spot_of old) rest (λ k d h. anchored-within next old (get_or rest k d) e.old_ids (drop-All (IsAnchored old) 1 records (λ i c g. (are.each i c g).anchored) k d h));
+      within = All-map (λ s. AtMost s (end_spot old)) (spot_of old) rest (λ k d h. anchored-within next old (get_or rest k d) e.old_ids (All-drop (IsAnchored old) 1 records (λ i c g. (are.each i c g).anchored) k d h));
     } in
     let after = anchored-after range next later old new rest e anchored in
     let spots : map (spot_of new) (carried_records new place rest) ≡ map (spot_of new) (drop 1 done) =
@@ -175,8 +174,8 @@ numbered-starts rows number low (page ∷ later) all =
 numbered-Starts : (rows : List Shown) (number : ℕ) (pages : List ℕ) → AreAbove pages → AllPairs Starts (numbered_sheets rows number pages)
 numbered-Starts rows number [] rise = λ i j d less inside. absurd (omega (arith, less, inside))
 numbered-Starts rows number (page ∷ later) rise =
-    AllPairs-cons Starts _ (numbered_sheets rows (number + 1) later) (numbered-starts rows (number + 1) page later (AllPairs-head (λ one other. one < other) page later rise))
-    (numbered-Starts rows (number + 1) later (AllPairs-tail (λ one other. one < other) page later rise))
+    AllPairs-cons Starts _ (numbered_sheets rows (number + 1) later) (numbered-starts rows (number + 1) page later (pairs-head (λ one other. one < other) page later rise))
+    (numbered-Starts rows (number + 1) later (pairs-tail (λ one other. one < other) page later rise))
 
 numbered-inside : (rows : List Shown) (number bound : ℕ) (pages : List ℕ) → All (λ page. page < bound) pages → All (λ (s : SheetOf). s.start < bound) (numbered_sheets rows number pages)
 numbered-inside rows number bound [] all = All-nil (λ (s : SheetOf). s.start < bound)
@@ -196,12 +195,12 @@ sheets-order next lines keys ids are present (s ∷ sheets) inside rise =
     let more = All-tail P s sheets inside in
     AllPairs-cons (NotBehind lines) (record_of_sheet keys s) (map (record_of_sheet keys) sheets)
     (All-map (NotBehind lines (record_of_sheet keys s)) (record_of_sheet keys) sheets
-    (λ k d h. (let less = AllPairs-head Starts s sheets rise k d h in rows-order next lines keys ids are present s.start (get_or sheets k d).start (omega (arith, less)) (more k d h))))
-    (sheets-order next lines keys ids are present sheets more (AllPairs-tail Starts s sheets rise))
+    (λ k d h. (let less = pairs-head Starts s sheets rise k d h in rows-order next lines keys ids are present s.start (get_or sheets k d).start (omega (arith, less)) (more k d h))))
+    (sheets-order next lines keys ids are present sheets more (pairs-tail Starts s sheets rise))
 
 drop-pairs : {X : Type 0} (R : X → X → Type 0) (xs : List X) → AllPairs R xs → AllPairs R (drop 1 xs)
 drop-pairs R [] pairs = pairs
-drop-pairs R (x ∷ xs) pairs = AllPairs-tail R x xs pairs
+drop-pairs R (x ∷ xs) pairs = pairs-tail R x xs pairs
 
 -- The records of a lock.
 pub numbered-pages : (round next : ℕ) (lines : List LineState) (keys : List RowKey) (rows : List Shown) (pages : List ℕ) → HasIds next lines → AreKeys lines keys → ArePresent lines keys → LowKeys keys
@@ -237,7 +236,7 @@ next-of : (count round : ℕ) (lines : List LineState) (it : PageRecordOf) (reco
     → NextOf count round it (first_label records)
 next-of count round lines it [] each labels rising = record { follows = tt; short = tt }
 next-of count round lines it (r ∷ records) each labels rising = record {
-  follows = (All-head (Before it) r records (AllPairs-head Before it (r ∷ records) rising), All-head (λ (x : PageRecordOf). IsLabel x.label) r records labels);
+  follows = (All-head (Before it) r records (pairs-head Before it (r ∷ records) rising), All-head (λ (x : PageRecordOf). IsLabel x.label) r records labels);
   short = ((All-head (IsPageKept count round lines) r records each).bounded).short;
 }
 
@@ -303,7 +302,7 @@ all-kept count more round lines keys pages rows (it ∷ records) (start ∷ star
     All-append (IsPageKept more (round + 1) lines) (own_records keys pages own) (all_records keys pages later)
     (All-cons (IsPageKept more (round + 1) lines) it (map (record_of_sheet keys) (overflow_sheets pages own)) (page-more count more round lines it (omega (arith, few)) here)
     (overflow-kept count more round lines keys pages own present low here (next-of count round lines it records tail others rising) (omega (arith, few, size)) most paged))
-    (all-kept count more round lines keys pages rows records starts present low paged tail others (AllPairs-tail Before it records rising) (omega (arith, same)) (omega (arith, few, size)) most)
+    (all-kept count more round lines keys pages rows records starts present low paged tail others (pairs-tail Before it records rising) (omega (arith, same)) (omega (arith, few, size)) most)
 
 -- Page records after a round.
 pub round-pages : (round next : ℕ) (lines : List LineState) (keys : List RowKey) (pages : List ℕ) (records : List PageRecordOf) → HasIds next lines → AreKeys lines keys → ArePresent lines keys → LowKeys keys

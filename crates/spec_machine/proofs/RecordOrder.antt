@@ -7,7 +7,6 @@ use Rattle.std.proofs.lemmas.List.Kept.{AllPairs-cons, AllPairs-filter}
 use Rattle.spec_text.specs.Lines.{LineState}
 use Rattle.spec_labels.specs.declared.RowKey.{RowKey}
 use Rattle.spec_labels.specs.PageRecords.{PageRecordOf, SegmentOf, SheetOf, first_label, segments, is_empty, page_sheet, page_sheets, segment_pages, record_of_sheet, record_start}
-use Rattle.spec_labels.proofs.SceneLabels.{AllPairs-head, AllPairs-tail}
 use Rattle.spec_labels.specs.Spots.{Spot, AtMost}
 use Rattle.spec_text.specs.EditedLines.{HasIds}
 use Rattle.spec_pages.specs.OwnPages.{lies_in}
@@ -16,7 +15,7 @@ use Rattle.spec_labels.proofs.SpotLaws.{ahead-atmost}
 use Rattle.spec_labels.specs.OwnRecords.{overflow_sheets, all_records}
 use Rattle.spec_pages.proofs.StartLists.{AreAbove, ArePagesOf}
 use Rattle.spec_labels.proofs.StartLaws.{record_start-low}
-use Rattle.spec_text.proofs.ListLaws.{pairs-join}
+use Rattle.spec_text.proofs.ListLaws.{pairs-join, pairs-head, pairs-tail}
 use Rattle.spec_labels.proofs.KeySpots.{key_spot, no_key, ahead-back, start-below, start-above, rows-order}
 
 -- An overflow page of a segment: one of its rows.
@@ -50,7 +49,7 @@ sheets-rise : (segment : SegmentOf) (m : ℕ) (pages : List ℕ) → AreAbove pa
 sheets-rise segment m [] rise = λ i j d less inside. absurd (omega (arith, less, inside))
 sheets-rise segment m (page ∷ later) rise =
     AllPairs-cons Starts (page_sheet segment m page later) (page_sheets segment (m + 1) later)
-    (sheets-above segment page (m + 1) later (AllPairs-head (λ one other. one < other) page later rise)) (sheets-rise segment (m + 1) later (AllPairs-tail (λ one other. one < other) page later rise))
+    (sheets-above segment page (m + 1) later (pairs-head (λ one other. one < other) page later rise)) (sheets-rise segment (m + 1) later (pairs-tail (λ one other. one < other) page later rise))
 
 -- What overflow pages keep.
 pub record AreOverflow (segment : SegmentOf) (rows : ℕ) (sheets : List SheetOf) : Type 0 where
@@ -78,7 +77,7 @@ overflow-are pages rows segment are = by (is_empty segment) (segment_pages segme
     by false [] all rise = none
     by false (p ∷ ps) all rise = record {
       places = sheets-in segment rows 1 ps (All-tail (PageIn segment rows) p ps all);
-      rise = sheets-rise segment 1 ps (AllPairs-tail (λ one other. one < other) p ps rise);
+      rise = sheets-rise segment 1 ps (pairs-tail (λ one other. one < other) p ps rise);
     }
 
 module _ (next : ℕ) (lines : List LineState) (keys : List RowKey) (pages : List ℕ) (ids : HasIds next lines) (are : AreKeys lines keys) (present : ArePresent lines keys) (paged : ArePagesOf (length keys) pages) where
@@ -143,14 +142,14 @@ module _ (next : ℕ) (lines : List LineState) (keys : List RowKey) (pages : Lis
           let more = All-tail P s ss places in
           AllPairs-cons (NotBehind lines) (record_of_sheet keys s) (map (record_of_sheet keys) ss)
           (All-map (NotBehind lines (record_of_sheet keys s)) (record_of_sheet keys) ss
-          (λ k d h. (let less = AllPairs-head Starts s ss rise k d h in rows-order next lines keys ids are present s.start (get_or ss k d).start (omega (arith, less)) (more k d h).inside)))
-          (mapped ss more (AllPairs-tail Starts s ss rise))
+          (λ k d h. (let less = pairs-head Starts s ss rise k d h in rows-order next lines keys ids are present s.start (get_or ss k d).start (omega (arith, less)) (more k d h).inside)))
+          (mapped ss more (pairs-tail Starts s ss rise))
 
       ends : (rs : List PageRecordOf) → AllPairs (NotBehind lines) rs → (p : ℕ) → p < slice_index_or (map (record_start lines keys) rs) 0 (length keys) → All (λ (r : PageRecordOf). p < record_start lines keys r) rs
       ends [] order p less = All-nil (λ (r : PageRecordOf). p < record_start lines keys r)
       ends (r ∷ rs) order p less =
           All-cons (λ (x : PageRecordOf). p < record_start lines keys x) r rs less
-          (λ k d h. (let follow = starts-follow r (get_or rs k d) (AllPairs-head (NotBehind lines) r rs order k d h) in omega (arith, follow, less)))
+          (λ k d h. (let follow = starts-follow r (get_or rs k d) (pairs-head (NotBehind lines) r rs order k d h) in omega (arith, follow, less)))
 
   -- All records but the first of a text.
   pub all-order : (records : List PageRecordOf) → AllPairs (NotBehind lines) records
@@ -158,8 +157,8 @@ module _ (next : ℕ) (lines : List LineState) (keys : List RowKey) (pages : Lis
   all-order [] order = λ i j d less inside. absurd (omega (arith, less, inside))
   all-order (it ∷ records) order =
       let f = record_start lines keys in
-      let later = AllPairs-tail (NotBehind lines) it records order in
-      let head = AllPairs-head (NotBehind lines) it records order in
+      let later = pairs-tail (NotBehind lines) it records order in
+      let head = pairs-head (NotBehind lines) it records order in
       let rest = all-order records later in
       let own : SegmentOf = record { owner = it; next = first_label records; start = f it; end = slice_index_or (map f records) 0 (length keys) } in
       let over = (overflow-are pages (length keys) own paged).places in

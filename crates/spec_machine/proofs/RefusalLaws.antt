@@ -1,7 +1,8 @@
 -- A lock or a round is accepted exactly where nothing refuses it.
-use Rattle.std.proofs.Common.{◌≡◌, ℕ, ◌<◌, ◌≤◌, Bool, true, false, ◌||◌, not, ltb, leb, eqb, Option, Some, None, List, length, refl, ap, ◌∙◌, arith}
+use Rattle.std.proofs.Common.{◌≡◌, ℕ, ◌<◌, ◌≤◌, Bool, true, false, not, ltb, leb, eqb, Option, Some, None, List, length, refl, ap, ◌∙◌, arith}
 use Rattle.std.specs.Prelude.{IfSome, is_some, option_map}
 use Rattle.std.proofs.lemmas.Bool.Decides.{nat_tests}
+use Rattle.std.proofs.lemmas.Bool.{or_parts, or_from}
 use Rattle.spec_labels.specs.Scenes.{scene_record_limit, unlockable_place, disordered_place}
 use Rattle.spec_labels.specs.PageRecords.{page_record_limit}
 use Rattle.spec_records.specs.Kept.{round_limit}
@@ -63,20 +64,6 @@ few-not limit (Some those) is = not-below limit (length those) is
 pub not-few : {X : Type 0} (limit : ℕ) (records : Option (List X)) → IfSome records (λ those. length those ≤ limit) → are_more limit records ≡ false
 not-few limit None few = refl
 not-few limit (Some those) few = below-not limit (length those) few
-
-neither : (one other : Bool) → (one || other) ≡ false → (one ≡ false) × (other ≡ false)
-neither false other is = (refl, is)
-neither true other is = absurd (let bad : ⊥ = cc in bad)
-
-pub or-left : (one other : Bool) → one ≡ true → (one || other) ≡ true
-or-left one other is = ap (λ b. b || other) is
-
-pub or-right : (one other : Bool) → other ≡ true → (one || other) ≡ true
-or-right true other is = refl
-or-right false other is = is
-
-both-not : (one other : Bool) → one ≡ false → other ≡ false → (one || other) ≡ false
-both-not one other first second = ap (λ b. b || other) first ∙ second
 
 is-some : {X : Type 0} (o : Option X) → not (is_some o) ≡ false → is_some o ≡ true
 is-some None is = absurd (let bad : ⊥ = cc in bad)
@@ -144,7 +131,7 @@ free-pages state is =
     let one = none-of (reason_if (not (is_some state.scenes)) scenes_not_locked) _ is in
     let two = none-of (reason_if (is_some state.pages) pages_locked) _ one.second in
     let three = none-of (reason_if (eqb (length (rows_in state)) 0) no_pages) _ two.second in
-    let few = neither (are_more scene_record_limit new.scenes) (are_more page_record_limit new.pages) (no-reason (are_too_many new) records_full three.second) in
+    let few = or_parts (are_more scene_record_limit new.scenes) (are_more page_record_limit new.pages) (no-reason (are_too_many new) records_full three.second) in
     record {
       scenes = is-some state.scenes (no-reason (not (is_some state.scenes)) scenes_not_locked one.first);
       unlocked = none-is state.pages (no-reason (is_some state.pages) pages_locked two.first);
@@ -186,7 +173,7 @@ pub pages-free : (state : State) → CanLockPages state → pages_refusal state 
 pages-free state can =
     let new = openings.pages_locked state in
     pages-reasons state false can.scenes can.unlocked can.rows
-    (both-not (are_more scene_record_limit new.scenes) (are_more page_record_limit new.pages) (not-few scene_record_limit new.scenes can.few_scenes) (not-few page_record_limit new.pages can.few_pages))
+    (or_from (are_more scene_record_limit new.scenes) (are_more page_record_limit new.pages) (not-few scene_record_limit new.scenes can.few_scenes) (not-few page_record_limit new.pages can.few_pages))
 
 -- ---- the next round
 
@@ -203,7 +190,7 @@ pub free-round : (state : State) → round_refusal state ≡ None → CanBegin s
 free-round state is =
     let new = round_begun state in
     let one = none-of (reason_if (leb round_limit state.round) rounds_full) _ is in
-    let few = neither (are_more scene_record_limit new.scenes) (are_more page_record_limit new.pages) (no-reason (are_too_many new) records_full one.second) in
+    let few = or_parts (are_more scene_record_limit new.scenes) (are_more page_record_limit new.pages) (no-reason (are_too_many new) records_full one.second) in
     record {
       rounds = over-not round_limit state.round (no-reason (leb round_limit state.round) rounds_full one.first);
       few_scenes = few-not scene_record_limit new.scenes few.0;
@@ -224,7 +211,7 @@ pub round-free : (state : State) → CanBegin state → round_refusal state ≡ 
 round-free state can =
     let new = round_begun state in
     round-reasons state false can.rounds
-    (both-not (are_more scene_record_limit new.scenes) (are_more page_record_limit new.pages) (not-few scene_record_limit new.scenes can.few_scenes) (not-few page_record_limit new.pages can.few_pages))
+    (or_from (are_more scene_record_limit new.scenes) (are_more page_record_limit new.pages) (not-few scene_record_limit new.scenes can.few_scenes) (not-few page_record_limit new.pages can.few_pages))
 
 -- ---- settings
 

@@ -1,12 +1,11 @@
 -- What holds from one memory to the next, whatever the command.
-use Rattle.std.proofs.Common.{◌≡◌, ℕ, ◌<◌, false, eqb, Option, Some, None, List, [], length, refl, sym, ap, subst, arith}
+use Rattle.std.proofs.Common.{◌≡◌, ℕ, ◌<◌, false, eqb, Option, Some, None, [], length, refl, sym, ap, subst, arith}
 use Rattle.std.specs.Prelude.{option_map}
 use Rattle.std.proofs.lemmas.Bool.Decides.{nat_tests}
-use Rattle.spec_text.specs.Lines.{IsText}
-use Rattle.spec_text.specs.Edits.{Refusal, replacement_of, refusal_of}
-use Rattle.spec_state.specs.State.{State, text_of}
+use Rattle.spec_text.specs.Edits.{Refusal, refusal_of}
+use Rattle.spec_state.specs.State.{text_of}
 use Rattle.spec_wire.specs.Commands.{CommandOf, edit, undo, redo, lock_scenes, lock_pages, next_round, sheet, labels, blocks, outline, save, speakers, paper, packet}
-use Rattle.spec_wire.specs.Replies.{ReplyOf, RefusalOf, refused, nothing_to_undo, nothing_to_redo}
+use Rattle.spec_wire.specs.Replies.{RefusalOf, nothing_to_undo, nothing_to_redo}
 use Rattle.spec_machine.specs.Machine.{Memory, memory_after, Accepts}
 use Rattle.spec_machine.specs.KeptMemories.{IsWholeMemory}
 use Rattle.spec_machine.specs.LabelPromises.{AreLabelled, LosesNone}

@@ -6,7 +6,7 @@ use Rattle.spec_wire.specs.Commands.{CommandOf, edit, undo, redo, lock_scenes, l
 use Rattle.spec_wire.specs.Replies as replies
 use Rattle.spec_wire.specs.Replies.{ReplyOf, RefusalOf, refused, edited, set, scenes, pages, round}
 use Rattle.spec_print.specs.Rounds.{round_name}
-use Rattle.spec_print.specs.Sheets.{Sheet, SheetLabelOf, sheet_label_text, sheet_bytes}
+use Rattle.spec_print.specs.Sheets.{Sheet, sheet_label_text, sheet_bytes}
 use Rattle.spec_state.specs.State.{State}
 use Rattle.spec_state.specs.StateSheets.{sheets_of_state}
 use Rattle.spec_machine.specs.Machine.{Memory, memory_after}

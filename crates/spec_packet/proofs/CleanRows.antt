@@ -6,10 +6,9 @@ use Rattle.std.specs.List.{flat_map, list_all}
 use Rattle.std.specs.Str.{chars, NonePass, NoCharPasses}
 use Rattle.std.proofs.lemmas.Bool.{and_parts, cases_lt, not-true}
 use Rattle.std.proofs.lemmas.List.{get_or_default, get_or_past}
-use Rattle.std.proofs.lemmas.List.Elements.{All-nil, All-cons, All-head, All-tail, All-append, All-contains, All-weaker}
+use Rattle.std.proofs.lemmas.List.Elements.{All-nil, All-cons, All-head, All-tail, All-append, All-contains, All-weaker, All-take, All-drop}
 use Rattle.std.proofs.lemmas.Str.{encodes-chars, NoCharPasses-byte}
 use Rattle.spec_text.specs.Lines.{LineState, IsClean, IsText, is_dropped, is_kept, line_texts}
-use Rattle.spec_text.proofs.ListLaws.{take-All, drop-All}
 use Rattle.spec_pages.specs.Rows.{ElementOf}
 use Rattle.spec_labels.specs.Labels.{LabelOf, step_letters, step_text, label_text}
 use Rattle.spec_layout.specs.Cells.{ShownText, slice, label, ShownPart, text_at, shown_bytes, RowShows}
@@ -129,7 +128,7 @@ module _ (texts : List (List ℕ)) (labels : List LabelOf) (all : All (All Whole
   given-whole (slice bytes) given = elim given [
     | inl part ↦
         let line = text_at texts part.line in
-        subst (All Whole) (sym part.is) (take-All Whole (part.run.to - part.run.from) (drop part.run.from line) (drop-All Whole part.run.from line (text-whole texts part.line all)))
+        subst (All Whole) (sym part.is) (All-take Whole (part.run.to - part.run.from) (drop part.run.from line) (All-drop Whole part.run.from line (text-whole texts part.line all)))
     | inr fixed ↦ All-contains (All Whole) fixed_texts bytes (texts-whole fixed_texts refl) fixed
   ]
   given-whole (label it) given = label-clean it

@@ -1,9 +1,9 @@
 -- Where no record is fresh from a speech's first row to the row behind its cue, the cue is repeated as it was.
-use Rattle.std.proofs.Common.{◌≡◌, inl, inr, ℕ, zero, suc, ◌+◌, ◌-◌, ◌<◌, ◌≤◌, min, Bool, true, false, ◌&&◌, ◌||◌, ◌==◌, cond, List, [], ◌∷◌, ◌++◌, length, map, take, drop, refl, ap, ap₂, sym, subst, ◌∙◌, length-append, lt-ltb, le-leb, arith}
+use Rattle.std.proofs.Common.{◌≡◌, inl, inr, ℕ, zero, suc, ◌+◌, ◌-◌, ◌<◌, ◌≤◌, min, Bool, true, false, ◌&&◌, ◌==◌, cond, List, [], ◌∷◌, ◌++◌, length, map, take, drop, refl, ap, ap₂, sym, subst, ◌∙◌, length-append, lt-ltb, le-leb, arith}
 use Rattle.std.specs.Prelude.{nat_lt, nat_le}
 use Rattle.std.specs.List.{list_any, prefix_len}
 use Rattle.std.proofs.Math.Seq.{drop-append-add}
-use Rattle.std.proofs.lemmas.Bool.{cases_lt}
+use Rattle.std.proofs.lemmas.Bool.{cases_lt, or_parts}
 use Rattle.std.proofs.lemmas.List.{take-take, length-drop}
 use Rattle.spec_collation.specs.SheetLists.{IsIn}
 use Rattle.spec_state.specs.SameRows.{BareRow}
@@ -31,16 +31,12 @@ SameBetween first last before [] = Unit {0}
 SameBetween first last before (it ∷ records) =
     (first < before + length it.now.rows → before ≤ last → it.was.rows ≡ it.now.rows) × SameBetween first last (before + length it.now.rows) records
 
-unfresh : (a b : Bool) → (a || b) ≡ false → (a ≡ false) × (b ≡ false)
-unfresh true b h = cc
-unfresh false b h = (refl, h)
-
 pub none-fresh : (round first last : ℕ) (before : List BareRow) (records : List RowsBoth) → ((both : RowsBoth) → IsIn both records → StaysStale round both)
     → list_any (is_fresh_between round first last) (segments_from before (map are_of records)) ≡ false → SameBetween first last (length before) records
 none-fresh round first last before [] stays none = tt
 none-fresh round first last before (it ∷ records) stays none =
     let fresh = it.now.owner.changed == round in
-    let (here, later) = unfresh (fresh && (nat_lt first (length before + length it.now.rows) && nat_le (length before) last))
+    let (here, later) = or_parts (fresh && (nat_lt first (length before + length it.now.rows) && nat_le (length before) last))
     (list_any (is_fresh_between round first last) (segments_from (before ++ it.now.rows) (map are_of records))) none in
     let same : first < length before + length it.now.rows → length before ≤ last → it.was.rows ≡ it.now.rows =
     λ low high. (stays it (inl refl)).rows

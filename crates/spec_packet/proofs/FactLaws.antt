@@ -3,6 +3,7 @@ use Rattle.std.proofs.Common.{◌≡◌, inl, inr, ℕ, zero, suc, ◌+◌, ◌-
 use Rattle.std.specs.Prelude.{Some, None}
 use Rattle.std.specs.List.{list_any, prefix_len}
 use Rattle.std.proofs.lemmas.Bool.{cases_lt, lt-leb}
+use Rattle.std.proofs.lemmas.List.{drop-map, take-map}
 use Rattle.spec_labels.specs.PageRecords.{SegmentOf}
 use Rattle.spec_collation.specs.SheetLists.{IsIn, InOrder}
 use Rattle.spec_packet.specs.Packets.{LaidOf, is_fresh, is_fresh_between, has_fresh_cue, speech_start, cue_end, goes_on_at}
@@ -74,16 +75,6 @@ middle-any f a b (x ∷ xs) order = by (a x) (b x) refl refl (middle-any f a b x
         ∙ ap (λ n. list_any f (take n (x ∷ xs))) more
     by true false ax bx ih = ap₂ (λ t u. t || u) (no_and (f x)) (none bx)
 
-map-take : {X Y : Type 0} (f : X → Y) (n : ℕ) (xs : List X) → take n (map f xs) ≡ map f (take n xs)
-map-take f zero xs = refl
-map-take f (suc n) [] = refl
-map-take {X} {Y} f (suc n) (x ∷ xs) = ap (λ (l : List Y). f x ∷ l) (map-take f n xs)
-
-map-drop : {X Y : Type 0} (f : X → Y) (n : ℕ) (xs : List X) → drop n (map f xs) ≡ map f (drop n xs)
-map-drop f zero xs = refl
-map-drop f (suc n) [] = refl
-map-drop f (suc n) (x ∷ xs) = map-drop f n xs
-
 -- The text begins with its first segment.
 abbrev pub BeginsAtZero : List SegmentOf → Type 0
 BeginsAtZero [] = Unit {0}
@@ -119,7 +110,7 @@ between-places round first last (segment ∷ segments) order begin =
     let n : nb - na ≡ nb - 1 + 1 - na = omega (arith, some) in
     middle-any (is_fresh round) (ends_behind first) (starts_by last) all (tests-order first last all order)
     ∙ sym (any-map (is_fresh round) (take (nb - na) (drop na all)))
-    ∙ ap (list_any itself) (sym (map-take (is_fresh round) (nb - na) (drop na all)) ∙ ap (take (nb - na)) (sym (map-drop (is_fresh round) na all)))
+    ∙ ap (list_any itself) (sym (take-map (is_fresh round) (nb - na) (drop na all)) ∙ ap (take (nb - na)) (sym (drop-map (is_fresh round) na all)))
     ∙ ap (λ m. list_any itself (take m (drop na (map (is_fresh round) all)))) n
 
 pub cue-places : (round : ℕ) (laid : LaidOf) (p : ℕ) → InOrder NotFalling laid.segments → BeginsAtZero laid.segments

@@ -2,6 +2,7 @@
 use Rattle.std.proofs.Common.{◌≡◌, ℕ, suc, ◌+◌, ◌<◌, Bool, true, false, cond, List, [], ◌∷◌, ◌++◌, length, map, get_or, refl, ap, ap₂, sym, ◌∙◌, append_assoc, length-append, arith}
 use Rattle.std.specs.Prelude.{All, is_some, filter}
 use Rattle.std.specs.List.{flat_map}
+use Rattle.std.proofs.lemmas.Grind.{flat_map-append}
 use Rattle.std.proofs.lemmas.List.{get_or-append-add, length-map}
 use Rattle.std.proofs.lemmas.List.Elements.{All-nil, All-cons}
 use Rattle.spec_labels.specs.PageRecords.{SheetOf}
@@ -13,7 +14,7 @@ use Rattle.spec_state.specs.StateSheets.{rows_in, titles_in, title_starts, title
 use Rattle.spec_packet.specs.Packets.{printed_of, laid_choices}
 use Rattle.spec_packet.specs.StatePackets.{laid_of, packet_bytes, title_flag, handed_of, places_from, packet_places, no_sheet, sheets_at}
 use Rattle.spec_packet.proofs.ChoiceLaws.{choices-present}
-use Rattle.spec_packet.proofs.StatePrinted.{flat-both, flat-titles, body-laid}
+use Rattle.spec_packet.proofs.StatePrinted.{flat-titles, body-laid}
 
 -- Places lie among so many.
 pub places-low : (n : ℕ) (flags : List Bool) → All (λ (place : ℕ). place < n + length flags) (places_from n flags)
@@ -119,5 +120,5 @@ module _ (state : State) where
   pub places-packet : is_some state.pages ≡ true → flat_map sheet_bytes (sheets_at (sheets_of_state state) (packet_places state)) ≡ packet_bytes state
   places-packet locked =
       ap (flat_map sheet_bytes) (at-places [] (sheets_of_state state) (handed_of state) (sym (handed-count locked)) ∙ titles-flagged titles (map is_handed choices) (map shown (body_sheets state)))
-      ∙ flat-both sheet_bytes titles (flagged (map is_handed choices) (map shown (body_sheets state)))
+      ∙ flat_map-append sheet_bytes titles (flagged (map is_handed choices) (map shown (body_sheets state)))
       ∙ ap₂ (λ (a b : List ℕ). a ++ b) (flat-titles titles) (choices-flagged choices (body_sheets state) (choices-are locked))

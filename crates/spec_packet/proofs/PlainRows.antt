@@ -17,7 +17,7 @@ use Rattle.spec_pages.specs.declared.Side.{Side}
 use Rattle.spec_pages.specs.declared.Side.TheVariants as sides
 use Rattle.spec_pages.specs.Columns.{first_lead, has_rows, width_of}
 use Rattle.spec_pages.specs.Pages.{is_heading, is_speech}
-use Rattle.spec_pages.specs.Rows.{Cell, Row, LineContext, line_context, line_rows_from, line_rows, number_cell, number_before, number_behind, numbered_cells, with_number, shaped_rows, continued_cell, said_cells, spoken_cells, put_cell, in_column_order, spoken_rows, with_speakers, is_title, title_row, half_row, joined_row, joined_rows, block_alone, blocks_beside, single_rows, dual_rows, shifted_cell, shifted_row, line_state}
+use Rattle.spec_pages.specs.Rows.{Cell, Row, LineContext, line_context, line_rows_from, line_rows, number_cell, number_before, number_behind, with_number, shaped_rows, continued_cell, said_cells, spoken_cells, put_cell, in_column_order, spoken_rows, with_speakers, is_title, title_row, half_row, joined_rows, block_alone, blocks_beside, single_rows, shifted_cell, shifted_row, line_state}
 use Rattle.spec_pages.specs.Rows as rows
 use Rattle.spec_pages.specs.Wrapping.{WrappedRow, wrapped}
 use Rattle.spec_layout.specs.Cells.{without_numbers}

@@ -2,9 +2,9 @@
 use Rattle.std.proofs.Common.{◌≡◌, inl, inr, ℕ, ◌+◌, Bool, true, false, cond, List, [], ◌∷◌, ◌++◌, map, refl, ap, ap₂, sym, subst, ◌∙◌}
 use Rattle.std.specs.Prelude.{All, AllPairs, filter}
 use Rattle.std.specs.List.{flat_map}
+use Rattle.spec_text.proofs.ListLaws.{pairs-head, pairs-tail}
 use Rattle.spec_labels.specs.Labels.{IsLabel, Below}
 use Rattle.spec_labels.specs.PageRecords.{PageRecordOf, RisingRecords, SegmentOf, segments, is_empty, owner_of, SheetOf, segment_pages, page_sheets, omitted_sheet, runs_of, run_sheets, sheets_of_records}
-use Rattle.spec_labels.proofs.SceneLabels.{AllPairs-head, AllPairs-tail}
 use Rattle.spec_labels.proofs.SheetLaws.{in_runs, runs_of-all, sheets-AreSheets, segments-All}
 use Rattle.spec_collation.specs.SheetLists.{PrintedOf, list_bytes, IsIn, InOrder, UpTo, Before, AreRising}
 use Rattle.spec_collation.specs.SheetReadings.{title, labelled}
@@ -24,7 +24,7 @@ use Rattle.spec_packet.proofs.PacketLaw.{omitted-last, packet-law}
 -- Pairs by index are pairs in order.
 pub pairs-order : {X : Type 0} (R : X → X → Type 0) (xs : List X) → AllPairs R xs → InOrder R xs
 pairs-order R [] pairs = tt
-pairs-order R (x ∷ xs) pairs = ((λ y is. all-in (R x) y xs (AllPairs-head R x xs pairs) is), pairs-order R xs (AllPairs-tail R x xs pairs))
+pairs-order R (x ∷ xs) pairs = ((λ y is. all-in (R x) y xs (pairs-head R x xs pairs) is), pairs-order R xs (pairs-tail R x xs pairs))
 
 -- The labels of segments rise with those of their records.
 pub segments-rise : (rows : ℕ) (records : List PageRecordOf) (starts : List ℕ) → RisingRecords records → InOrder LabelsRise (segments rows records starts)
@@ -34,9 +34,9 @@ segments-rise rows (it ∷ records) (start ∷ starts) rising =
     let R = λ (one other : PageRecordOf). Below one.label other.label in (
       (λ y is. record {
         below = all-in (λ (s : SegmentOf). Below it.label s.owner.label) y (segments rows records starts)
-            (segments-All (Below it.label) rows records starts (AllPairs-head R it records rising)) is;
+            (segments-All (Below it.label) rows records starts (pairs-head R it records rising)) is;
       }),
-      segments-rise rows records starts (AllPairs-tail R it records rising),
+      segments-rise rows records starts (pairs-tail R it records rising),
     )
 
 -- A page has one label.

@@ -1,12 +1,12 @@
 -- The sheets of a state with page records are printed as sheets that are read back.
-use Rattle.std.proofs.Common.{◌≡◌, inl, inr, ℕ, suc, ◌+◌, ◌-◌, ◌≤◌, ◌==◌, ◌&&◌, max, Bool, true, false, cond, Option, Some, None, List, [], ◌∷◌, ◌++◌, length, map, refl, sym, ap, ap₂, subst, ◌∙◌, append_assoc, arith, unwrap_or}
+use Rattle.std.proofs.Common.{◌≡◌, inl, inr, ℕ, suc, ◌+◌, ◌-◌, ◌≤◌, ◌==◌, ◌&&◌, max, Bool, true, false, cond, Option, Some, None, List, [], ◌∷◌, ◌++◌, length, map, refl, sym, ap, ap₂, subst, ◌∙◌, arith, unwrap_or}
 use Rattle.std.specs.Prelude.{All, filter, fold, is_some, nat_le, nat_lt, slice_index_or, slice_range}
 use Rattle.std.specs.List.{flat_map, list_any}
 use Rattle.std.proofs.lemmas.Bool.{cases_lt}
+use Rattle.std.proofs.lemmas.Grind.{flat_map-append}
 use Rattle.std.proofs.lemmas.List.{get_or_past}
-use Rattle.std.proofs.lemmas.List.Elements.{All-nil, All-cons, All-head, All-tail, All-append}
+use Rattle.std.proofs.lemmas.List.Elements.{All-nil, All-cons, All-head, All-tail, All-append, All-take, All-drop}
 use Rattle.spec_text.specs.Lines.{LineState, line_texts}
-use Rattle.spec_text.proofs.ListLaws.{take-All, drop-All}
 use Rattle.spec_script.specs.LongestRuns.{Group, last_of}
 use Rattle.spec_script.specs.BlockValues.{LineOf, BlockOf}
 use Rattle.spec_script.specs.declared.Kind.{Kind}
@@ -14,7 +14,7 @@ use Rattle.spec_pages.specs.declared.Side.{Side}
 use Rattle.spec_pages.specs.declared.Side.TheVariants as sides
 use Rattle.spec_pages.specs.Columns.{first_lead, has_rows, width_of}
 use Rattle.spec_pages.specs.Pages.{rows_on}
-use Rattle.spec_pages.specs.Rows.{Row, ElementOf, LineContext, line_context, line_rows_from, line_rows, line_state, with_number, shaped_rows, half_row, joined_row, joined_rows, title_row, is_title, spoken_rows, with_speakers, block_alone, blocks_beside, single_rows, dual_rows, shifted_row, placed_rows}
+use Rattle.spec_pages.specs.Rows.{Row, LineContext, line_context, line_rows_from, line_rows, line_state, with_number, shaped_rows, half_row, joined_row, joined_rows, title_row, is_title, spoken_rows, with_speakers, block_alone, blocks_beside, shifted_row, placed_rows}
 use Rattle.spec_pages.specs.Rows as rows
 use Rattle.spec_pages.specs.Wrapping.{WrappedRow, wrapped}
 use Rattle.spec_labels.specs.Labels.{LabelOf, IsLabel, between}
@@ -250,7 +250,7 @@ titles-print state whole (page ∷ later) bytes is = elim is [
       let own = slice_range (titles_in state) page end in
       let kept = whole-kept state whole in
       let all = rows-low state.round state.lines kept.marks None (filter is_title_element (text_elements state.speakers state.lines)) in
-      let taken : All (λ (it : Shown). it.mark ≤ state.round) own = take-All (λ (it : Shown). it.mark ≤ state.round) (end - page) _ (drop-All (λ (it : Shown). it.mark ≤ state.round) page (titles_in state) all) in
+      let taken : All (λ (it : Shown). it.mark ≤ state.round) own = All-take (λ (it : Shown). it.mark ≤ state.round) (end - page) _ (All-drop (λ (it : Shown). it.mark ≤ state.round) page (titles_in state) all) in
       let low = mark-fold state.round 0 own (omega arith) taken in
       let round = kept.round in
       record {
@@ -332,10 +332,6 @@ module _ (state : State) (whole : IsWhole state) (some : SomeRecords state) wher
 
 -- ---- the bytes of a state are those of its list of sheets
 
-pub flat-both : {X Y : Type 0} (f : X → List Y) (xs ys : List X) → flat_map f (xs ++ ys) ≡ flat_map f xs ++ flat_map f ys
-flat-both f [] ys = refl
-flat-both {X} {Y} f (x ∷ xs) ys = ap (λ (l : List Y). f x ++ l) (flat-both f xs ys) ∙ sym (append_assoc (f x) (flat_map f xs) (flat_map f ys))
-
 pub flat-titles : (sheets : List Sheet) → flat_map sheet_bytes sheets ≡ flat_map (λ (t : List ℕ). t) (map sheet_bytes sheets)
 flat-titles [] = refl
 flat-titles (sheet ∷ sheets) = ap (λ (l : List ℕ). sheet_bytes sheet ++ l) (flat-titles sheets)
@@ -357,5 +353,5 @@ body-laid state locked = by state.pages locked
 pub state-bytes : (state : State) → is_some state.pages ≡ true → printed_state state ≡ list_bytes (sheets_of state)
 state-bytes state locked =
     let titles = title_sheets (titles_in state) (title_starts state) in
-    flat-both sheet_bytes titles (map (shown_sheet (rows_in state)) (body_sheets state))
+    flat_map-append sheet_bytes titles (map (shown_sheet (rows_in state)) (body_sheets state))
     ∙ ap₂ (λ (a b : List ℕ). a ++ b) (flat-titles titles) (flat-body state (body_sheets state) ∙ ap (λ (sheets : List SheetOf). flat_map bytes_of (map (printed_of (laid_of state)) sheets)) (body-laid state locked))

@@ -2,8 +2,7 @@
 use Rattle.std.proofs.Common.{◌≡◌, inl, ℕ, zero, suc, ◌+◌, ◌-◌, ◌<◌, Bool, true, false, ◌==◌, cond, Option, Some, List, [], ◌∷◌, ◌++◌, length, map, take, drop, get_or, refl, sym, ap, ap₂, subst, ◌∙◌, arith, unwrap_or}
 use Rattle.std.specs.Prelude.{All, replicate, slice_range}
 use Rattle.std.specs.List.{flat_map}
-use Rattle.std.proofs.lemmas.List.Elements.{All-head, All-tail}
-use Rattle.spec_text.proofs.ListLaws.{take-All, drop-All}
+use Rattle.std.proofs.lemmas.List.Elements.{All-head, All-tail, All-take, All-drop}
 use Rattle.spec_script.specs.LongestRuns.{last_of}
 use Rattle.spec_pages.specs.declared.Shape.{Shape}
 use Rattle.spec_pages.specs.Pages.{is_heading, continues_speech}
@@ -215,9 +214,9 @@ module _ (opened now : State) (was_whole : IsWhole opened) (whole : IsWhole now)
       let Y_is : map bare_of Y ≡ p.it.now.rows =
       map-slice (rows_in now) A (A + length p.it.now.rows) ∙ ap (λ (l : List BareRow). slice_range l A (A + length p.it.now.rows)) now_parts ∙ slice-middle (rows_now p.front) p.it.now.rows (rows_now p.back) in
       let told_X : All (CellsTold now.scenes) X =
-      subst (λ (s : Option (List SceneRecordOf)). All (CellsTold s) X) chain.scenes (take-All (CellsTold opened.scenes) (B + length p.it.was.rows - B) (drop B (rows_in opened)) (drop-All (CellsTold opened.scenes) B (rows_in opened) (state-told opened was_whole.text))) in
+      subst (λ (s : Option (List SceneRecordOf)). All (CellsTold s) X) chain.scenes (All-take (CellsTold opened.scenes) (B + length p.it.was.rows - B) (drop B (rows_in opened)) (All-drop (CellsTold opened.scenes) B (rows_in opened) (state-told opened was_whole.text))) in
       let told_Y : All (CellsTold now.scenes) Y =
-      take-All (CellsTold now.scenes) (A + length p.it.now.rows - A) (drop A (rows_in now)) (drop-All (CellsTold now.scenes) A (rows_in now) (state-told now whole.text)) in
+      All-take (CellsTold now.scenes) (A + length p.it.now.rows - A) (drop A (rows_in now)) (All-drop (CellsTold now.scenes) A (rows_in now) (state-told now whole.text)) in
       let same : map bare_of X ≡ map bare_of Y = X_is ∙ rows ∙ sym Y_is in
       let was_in : IsIn both.was (segments_in opened) = subst (IsIn both.was) (sym were) (in-map was_of both (both_from [] [] records) is) in
       let full_was : is_empty both.was ≡ false = (each both is).empty stale ∙ full in

@@ -1,7 +1,7 @@
 -- The pages of a segment are those of its own rows.
 use Rattle.std.proofs.Common.{◌≡◌, ◌⊎◌, ℕ, zero, suc, ◌+◌, ◌-◌, ◌<◌, ◌≤◌, Bool, true, false, ◌&&◌, ◌||◌, cond, ltb, leb, eqb, Option, Some, None, List, [], ◌∷◌, inl, inr, refl, sym, ap, ap₂, subst, ◌∙◌, arith, unwrap_or}
 use Rattle.std.specs.Prelude.{fold, option_map}
-use Rattle.std.proofs.lemmas.Bool.{cases_lt, cases_eq, lt-ltb, le-ltb, eq-eqb, ne_eqb, and_parts, ltb-true}
+use Rattle.std.proofs.lemmas.Bool.{cases_lt, cases_eq, lt-ltb, le-ltb, eq-eqb, ne_eqb, and_parts, ltb-true, or_left, or_right, or_from}
 use Rattle.spec_pages.specs.Greatest.{greatest}
 use Rattle.spec_pages.proofs.GreatestLemmas.{greatest-some}
 use Rattle.spec_pages.specs.Heights.{Heights, fits, ends, end_of, sooner, next_stop, next_of}
@@ -93,21 +93,6 @@ end_of-shift limit rows own s p stop agree =
     ∙ unwrap-map s (unwrap_or (greatest (fits limit own p) (stop + 1)) (p + 1)) (greatest (ends limit own p stop) (stop + 1))
 
 -- Stops.
-or-first : (a b : Bool) → a ≡ true → (a || b) ≡ true
-or-first true b h = refl
-or-first false b h = absurd (let no : ⊥ = cc in no)
-
-or-second : (a b : Bool) → b ≡ true → (a || b) ≡ true
-or-second true b h = refl
-or-second false b h = h
-
-or-neither : (a b : Bool) → a ≡ false → b ≡ false → (a || b) ≡ false
-or-neither a b h g = ap₂ (λ x y. x || y) h g
-
-or-either : (a b : Bool) → (a || b) ≡ true → (a ≡ true) ⊎ (b ≡ true)
-or-either true b h = inl refl
-or-either false b h = inr h
-
 sooner-yes : (p least stop : ℕ) → p < stop → stop < least → sooner p least stop ≡ stop
 sooner-yes p least stop h g = ap₂ (λ a b. cond (a && b) stop least) (lt-ltb p stop h) (lt-ltb stop least g)
 
@@ -123,8 +108,8 @@ passed-over p least stop stops next far is =
     record {
       above = is.above;
       within = is.within;
-      stop = elim is.stop [ inl same ↦ inl same | inr among ↦ inr (or-second (eqb stop next) (is_among stops next) among) ];
-      least = λ q h g. or-neither (eqb stop q) (is_among stops q)
+      stop = elim is.stop [ inl same ↦ inl same | inr among ↦ inr (or_right (eqb stop next) (is_among stops next) among) ];
+      least = λ q h g. or_from (eqb stop q) (is_among stops q)
           (ne_eqb stop q (λ e. elim far [ inl low ↦ omega (arith, low, h, e) | inr late ↦ let w = is.within in omega (arith, late, g, e, w) ]))
           (is.least q h g);
     }
@@ -140,8 +125,8 @@ next_stop-is p least (stop ∷ stops) =
             let found : IsStopAbove least (stop ∷ stops) p next = record {
               above = λ h. is.above higher;
               within = (let w = is.within in omega (arith, w, lower));
-              stop = elim is.stop [ inl same ↦ inr (or-first (eqb stop next) (is_among stops next) (eq-eqb stop next (sym same))) | inr among ↦ inr (or-second (eqb stop next) (is_among stops next) among) ];
-              least = λ q h g. or-neither (eqb stop q) (is_among stops q) (ne_eqb stop q (λ e. let w = is.within in omega (arith, w, g, e))) (is.least q h g);
+              stop = elim is.stop [ inl same ↦ inr (or_left (eqb stop next) (is_among stops next) (eq-eqb stop next (sym same))) | inr among ↦ inr (or_right (eqb stop next) (is_among stops next) among) ];
+              least = λ q h g. or_from (eqb stop q) (is_among stops q) (ne_eqb stop q (λ e. let w = is.within in omega (arith, w, g, e))) (is.least q h g);
             } in
             subst (λ l. IsStopAbove least (stop ∷ stops) p (fold (sooner p) l stops)) (sym (sooner-yes p least stop higher lower)) found
         | inr late ↦

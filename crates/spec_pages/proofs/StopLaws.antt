@@ -1,8 +1,9 @@
 -- The next stop depends on which stops there are, and not on their order (docs/RULES.md, "Pages").
-use Rattle.std.proofs.Common.{◌≡◌, ℕ, zero, suc, ◌<◌, ◌≤◌, ◌⊎◌, ◌&&◌, ltb, cond, List, [], ◌∷◌, length, get_or, Contains, refl, sym, ap, ◌∙◌, inl, inr, subst, arith}
+use Rattle.std.proofs.Common.{◌≡◌, ℕ, zero, suc, ◌<◌, ◌≤◌, ◌⊎◌, ◌&&◌, ltb, cond, List, [], ◌∷◌, Contains, refl, sym, ap, ◌∙◌, inl, inr, subst, arith}
 use Rattle.std.specs.Prelude.{IsPermutation}
 use Rattle.std.proofs.lemmas.Bool.{cases_Bool, ltb-true, ltb-false}
 use Rattle.std.proofs.lemmas.List.Sorted.{Contains-permutation, IsPermutation-sym}
+use Rattle.spec_text.proofs.ListLaws.{Contains-first, Contains-later, Contains-either}
 use Rattle.spec_pages.specs.Heights.{Heights, sooner, next_stop, end_of, starts_behind, starts_of}
 
 -- The least stop above row p, or this place where none is lower.
@@ -10,20 +11,6 @@ pub record IsNextStop (count : ℕ) (stops : List ℕ) (p next : ℕ) : Type 0 w
   pub within : next ≤ count
   pub least : (stop : ℕ) → Contains stops stop → p < stop → next ≤ stop
   pub kind : (next ≡ count) ⊎ ((p < next) × Contains stops next)
-
-contains_first : (x : ℕ) (xs : List ℕ) → Contains (x ∷ xs) x
-contains_first x xs = (0, omega arith, refl)
-
-contains_later : (x y : ℕ) (xs : List ℕ) → Contains xs y → Contains (x ∷ xs) y
-contains_later x y xs found = (suc found.0, omega (arith, found.1), found.2)
-
-at : (x y : ℕ) (xs : List ℕ) (k : ℕ) → k < length (x ∷ xs) → get_or (x ∷ xs) k y ≡ y → (x ≡ y) ⊎ Contains xs y
-at x y xs zero inside is = inl is
-at x y xs (suc k) inside is = inr (k, omega (arith, inside), is)
-
--- A stop of a list is its first one or a later one.
-contains-either : (x y : ℕ) (xs : List ℕ) → Contains (x ∷ xs) y → (x ≡ y) ⊎ Contains xs y
-contains-either x y xs found = at x y xs found.0 found.1 found.2
 
 -- What one more stop does.
 sooner-is : (p least stop : ℕ) → (sooner p least stop ≡ least) ⊎ ((sooner p least stop ≡ stop) × (p < stop) × (stop < least))
@@ -57,16 +44,16 @@ next_stop-is count p (x ∷ stops) =
     let here = sooner-is p count x in
     record {
       within = elim here [ inl same ↦ omega (arith, later.within, same) | inr taken ↦ omega (arith, later.within, taken.0, taken.2) ];
-      least = λ stop found above. elim (contains-either x stop stops found) [
+      least = λ stop found above. elim (Contains-either x stop stops found) [
         | inl first ↦ omega (arith, later.within, subst (λ n. sooner p count x ≤ n) first (sooner-low p count x (omega (arith, above, first))))
         | inr behind ↦ later.least stop behind above
       ];
       kind = elim later.kind [
         | inl end ↦ elim here [
           | inl same ↦ inl (end ∙ same)
-          | inr taken ↦ inr (omega (arith, end, taken.0, taken.1), subst (Contains (x ∷ stops)) (sym (end ∙ taken.0)) (contains_first x stops))
+          | inr taken ↦ inr (omega (arith, end, taken.0, taken.1), subst (Contains (x ∷ stops)) (sym (end ∙ taken.0)) (Contains-first x x stops refl))
         ]
-        | inr found ↦ inr (found.0, contains_later x (next_stop (sooner p count x) stops p) stops found.1)
+        | inr found ↦ inr (found.0, Contains-later x (next_stop (sooner p count x) stops p) stops found.1)
       ];
     }
 

@@ -3,8 +3,8 @@ use Rattle.std.proofs.Common.{◌≡◌, ℕ, suc, ◌+◌, ◌-◌, Bool, true,
 use Rattle.std.specs.Prelude.{All, Contains, codes, replicate, unwrap_or, slice_get, slice_range}
 use Rattle.std.specs.List.{flat_map, prefix_len}
 use Rattle.std.proofs.lemmas.List.Elements.{All-nil, All-cons, All-head, All-tail, All-append, All-map, All-take, All-drop, All-filter, All-replicate}
-use Rattle.spec_labels.proofs.SheetLaws.{All-front, All-back}
 use Rattle.spec_text.specs.Lines.{LineState, line_texts}
+use Rattle.spec_text.proofs.ListLaws.{All-front, All-back}
 use Rattle.spec_script.specs.LongestRuns.{last_of}
 use Rattle.spec_script.proofs.RunPlaces.{run-lies}
 use Rattle.spec_pages.specs.Pages.{continues_speech}

@@ -7,6 +7,7 @@ use Rattle.std.proofs.lemmas.List.{map-append}
 use Rattle.std.proofs.lemmas.List.Elements.{All-append}
 use Rattle.spec_text.specs.Lines.{LineState}
 use Rattle.spec_text.specs.Ranges.{IsOutside, place_after}
+use Rattle.spec_text.proofs.ListLaws.{All-front, All-back}
 use Rattle.spec_script.specs.LongestRuns.{Group}
 use Rattle.spec_script.specs.Stanzas.{PlacedBlock}
 use Rattle.spec_script.specs.Elements.{is_dual, elements_in}
@@ -17,7 +18,6 @@ use Rattle.spec_reread.proofs.RelaidElements.{IsSome, relaid-old, relaid-new}
 use Rattle.spec_relayout.specs.Touched.{EditBlocks}
 use Rattle.spec_relayout.proofs.ItemMoves.{LinesMoved}
 use Rattle.spec_relayout.proofs.ElementMoves.{block_after, element_after}
-use Rattle.spec_relayout.proofs.WindowSides.{all-front, all-back}
 use Rattle.spec_relayout.proofs.FairElements.{ElementSound, AllIn, elements-all}
 use Rattle.spec_relayout.proofs.AsideBlocks.{IsAside, front-aside, pushed-aside, kept-aside, fronts-same, rests-same, rests-moved, fronts-moved, front-before, kept-before}
 use Rattle.spec_relayout.proofs.WindowPartners.{Around}
@@ -64,8 +64,8 @@ module _ (edit : EditBlocks) (w : WindowBlocks) (it : Around edit w) (lines late
       relaid-new w is
       ∙ ap₂ (λ (a b : List (Group PlacedBlock)). a ++ (come ++ b)) (sym (fronts-moved edit w it (front_kept w) (kept-before edit w it))) (sym (rests-moved edit w it (elements_in (rest_kept w)))) in
       let all = subst (All ElementSound) old_are sound in
-      let front_sound = all-front ElementSound front (gone ++ back) all in
-      let back_sound = all-back ElementSound gone back (all-back ElementSound front (gone ++ back) all) in
+      let front_sound = All-front ElementSound front (gone ++ back) all in
+      let back_sound = All-back ElementSound gone back (All-back ElementSound front (gone ++ back) all) in
       let front_aside = elements-all (IsAside edit) (front_kept w) (kept-aside edit w it) in
       let back_aside = subst (All (AllIn (IsAside edit))) (elements-pushed w.old_end (rest_kept w)) (elements-all (IsAside edit) (map (pushed w.old_end) (rest_kept w)) (pushed-aside edit w it (rest_kept w))) in
       record {
@@ -108,10 +108,10 @@ module _ (edit : EditBlocks) (w : WindowBlocks) (it : Around edit w) (lines late
       (subst (λ (l : List PlacedBlock). All (IsAside edit) (l ++ map (pushed w.old_end) w.rest)) (sym no_gone) (pushed-aside edit w it w.rest)) in
       let each_aside = subst (All (AllIn (IsAside edit))) (sym both) (elements-all (IsAside edit) (old_blocks w) aside) in
       let each_sound = subst (All ElementSound) (sym both) sound in
-      let front_sound = all-front ElementSound front back each_sound in
-      let back_sound = all-back ElementSound front back each_sound in
-      let front_aside = all-front (AllIn (IsAside edit)) front back each_aside in
-      let back_aside = all-back (AllIn (IsAside edit)) front back each_aside in
+      let front_sound = All-front ElementSound front back each_sound in
+      let back_sound = All-back ElementSound front back each_sound in
+      let front_aside = All-front (AllIn (IsAside edit)) front back each_aside in
+      let back_aside = All-back (AllIn (IsAside edit)) front back each_aside in
       record {
         front = marks_of lines front;
         gone = [];

@@ -5,10 +5,11 @@ use Rattle.std.proofs.lemmas.Bool.{cases_lt}
 use Rattle.std.proofs.lemmas.List.Elements.{Contains-append_left, Contains-append_right, Contains-append_cases}
 use Rattle.std.proofs.lemmas.List.Sorted.{Contains-permutation, IsPermutation-sym}
 use Rattle.spec_text.specs.Ranges.{RangeOf}
+use Rattle.spec_text.proofs.ListLaws.{Contains-first, Contains-later, Contains-either}
 use Rattle.spec_pages.specs.declared.Shape.{Shape}
 use Rattle.spec_labels.specs.Spots.{Spot, Follows}
 use Rattle.spec_reflow.specs.Windows.{Exchange, moved, AreStops, AreExchanged}
-use Rattle.spec_refill.proofs.Marks.{Mark, shapes, rows, breaks, start, mark_after, shapes-append, rows-append, breaks-append, start-append, shapes-moved, breaks-moved, here, later, here-or, none-there, breaks-among, breaks-shift}
+use Rattle.spec_refill.proofs.Marks.{Mark, shapes, rows, breaks, start, mark_after, shapes-append, rows-append, breaks-append, start-append, shapes-moved, breaks-moved, none-there, breaks-among, breaks-shift}
 use Rattle.spec_refill.proofs.MarkStarts.{IsLeft, AreRising, start-moved, start-low, rising-front, start-full}
 
 -- Spots of two texts, each of which follows an edit.
@@ -212,9 +213,9 @@ module _ (range : RangeOf) (front gone come back olds news : List Mark) (sides :
   starts-new [] [] p q follow to found = absurd (none-there p found)
   starts-new [] (t ∷ ts) p q follow to found = absurd follow
   starts-new (s ∷ ss) [] p q follow to found = absurd follow
-  starts-new (s ∷ ss) (t ∷ ts) p q follow to found = elim (here-or (start olds s) (map (start olds) ss) p found) [
-    | inl is ↦ here (start news t) (map (start news) ts) q (to s t follow.0 is)
-    | inr rest ↦ later (start news t) (map (start news) ts) q (starts-new ss ts p q follow.1 to rest)
+  starts-new (s ∷ ss) (t ∷ ts) p q follow to found = elim (Contains-either (start olds s) p (map (start olds) ss) found) [
+    | inl is ↦ Contains-first (start news t) q (map (start news) ts) (to s t follow.0 is)
+    | inr rest ↦ Contains-later (start news t) q (map (start news) ts) (starts-new ss ts p q follow.1 to rest)
   ]
 
   starts-old : (ss ts : List Spot) (p q : ℕ) → AllFollow range ss ts → ((old new : Spot) → Follows range old new → start news new ≡ q → start olds old ≡ p)
@@ -222,9 +223,9 @@ module _ (range : RangeOf) (front gone come back olds news : List Mark) (sides :
   starts-old [] [] p q follow to found = absurd (none-there q found)
   starts-old [] (t ∷ ts) p q follow to found = absurd follow
   starts-old (s ∷ ss) [] p q follow to found = absurd follow
-  starts-old (s ∷ ss) (t ∷ ts) p q follow to found = elim (here-or (start news t) (map (start news) ts) q found) [
-    | inl is ↦ here (start olds s) (map (start olds) ss) p (to s t follow.0 is)
-    | inr rest ↦ later (start olds s) (map (start olds) ss) p (starts-old ss ts p q follow.1 to rest)
+  starts-old (s ∷ ss) (t ∷ ts) p q follow to found = elim (Contains-either (start news t) q (map (start news) ts) found) [
+    | inl is ↦ Contains-first (start olds s) p (map (start olds) ss) (to s t follow.0 is)
+    | inr rest ↦ Contains-later (start olds s) p (map (start olds) ss) (starts-old ss ts p q follow.1 to rest)
   ]
 
   -- ---- both

@@ -1,8 +1,9 @@
 -- What page ends and page records see of a text: its rows and its page breaks, each at a spot.
-use Rattle.std.proofs.Common.{◌≡◌, ℕ, zero, suc, ◌+◌, ◌<◌, ◌≤◌, ◌⊎◌, Bool, List, [], ◌∷◌, ◌++◌, length, map, get_or, inl, inr, refl, ap, ◌∙◌, arith, length-append}
+use Rattle.std.proofs.Common.{◌≡◌, ℕ, suc, ◌+◌, ◌≤◌, Bool, List, [], ◌∷◌, ◌++◌, length, map, inl, inr, refl, ap, ◌∙◌, arith, length-append}
 use Rattle.std.specs.Prelude.{Contains, filter}
 use Rattle.std.proofs.lemmas.List.Elements.{filter-append}
 use Rattle.spec_text.specs.Ranges.{RangeOf}
+use Rattle.spec_text.proofs.ListLaws.{Contains-first, Contains-later, Contains-either}
 use Rattle.spec_pages.specs.declared.Shape.{Shape}
 use Rattle.spec_labels.specs.Spots.{Spot, is_ahead, spot_after}
 
@@ -42,12 +43,6 @@ abbrev pub mark_after : RangeOf → Mark → Mark
 mark_after range (page_break spot) = page_break (spot_after range spot)
 mark_after range (row spot shape) = row (spot_after range spot) shape
 
-pub spot-after : (range : RangeOf) (mark : Mark) → spot_in (mark_after range mark) ≡ spot_after range (spot_in mark)
-spot-after range (page_break spot) = refl
-spot-after range (row spot shape) = refl
-
--- ---- one behind the other
-
 pub shapes-append : (xs ys : List Mark) → shapes (xs ++ ys) ≡ shapes xs ++ shapes ys
 shapes-append [] ys = refl
 shapes-append (page_break spot ∷ xs) ys = shapes-append xs ys
@@ -80,26 +75,13 @@ breaks-moved range count (row spot shape ∷ marks) = breaks-moved range (count 
 
 -- ---- places of page breaks
 
-pub here : (x : ℕ) (xs : List ℕ) (q : ℕ) → x ≡ q → Contains (x ∷ xs) q
-here x xs q is = (0, omega arith, is)
-
-pub later : (x : ℕ) (xs : List ℕ) (q : ℕ) → Contains xs q → Contains (x ∷ xs) q
-later x xs q found = (suc found.0, (let inside = found.1 in omega (arith, inside)), found.2)
-
-pub here-or : (x : ℕ) (xs : List ℕ) (q : ℕ) → Contains (x ∷ xs) q → (x ≡ q) ⊎ Contains xs q
-here-or x xs q found = by found.0 found.1 found.2
-  where
-    by : (k : ℕ) → k < length (x ∷ xs) → get_or (x ∷ xs) k q ≡ q → (x ≡ q) ⊎ Contains xs q
-    by zero inside is = inl is
-    by (suc k) inside is = inr (k, omega (arith, inside), is)
-
 pub none-there : (q : ℕ) → Contains [] q → ⊥
 none-there q found = let inside = found.1 in omega (arith, inside)
 
 -- A page break stands before one of these rows, or at their end.
 pub breaks-among : (count : ℕ) (marks : List Mark) (q : ℕ) → Contains (breaks count marks) q → (count ≤ q) × (q ≤ count + rows marks)
 breaks-among count [] q found = absurd (none-there q found)
-breaks-among count (page_break spot ∷ marks) q found = elim (here-or count (breaks count marks) q found) [
+breaks-among count (page_break spot ∷ marks) q found = elim (Contains-either count q (breaks count marks) found) [
   | inl is ↦ (omega (arith, is), omega (arith, is))
   | inr rest ↦ breaks-among count marks q rest
 ]
@@ -109,8 +91,8 @@ breaks-among count (row spot shape ∷ marks) q found =
 -- Where other rows stand before them, they move with these.
 pub breaks-shift : (one other : ℕ) (marks : List Mark) (p q : ℕ) → p + other ≡ q + one → Contains (breaks one marks) p → Contains (breaks other marks) q
 breaks-shift one other [] p q shift found = absurd (none-there p found)
-breaks-shift one other (page_break spot ∷ marks) p q shift found = elim (here-or one (breaks one marks) p found) [
-  | inl is ↦ here other (breaks other marks) q (omega (arith, is, shift))
-  | inr rest ↦ later other (breaks other marks) q (breaks-shift one other marks p q shift rest)
+breaks-shift one other (page_break spot ∷ marks) p q shift found = elim (Contains-either one p (breaks one marks) found) [
+  | inl is ↦ Contains-first other q (breaks other marks) (omega (arith, is, shift))
+  | inr rest ↦ Contains-later other q (breaks other marks) (breaks-shift one other marks p q shift rest)
 ]
 breaks-shift one other (row spot shape ∷ marks) p q shift found = breaks-shift (one + 1) (other + 1) marks p q (omega (arith, shift)) found

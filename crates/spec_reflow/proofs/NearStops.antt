@@ -1,6 +1,7 @@
 -- The next stop above a row, by what the list of stops contains.
-use Rattle.std.proofs.Common.{◌≡◌, ℕ, zero, suc, ◌+◌, ◌-◌, ◌<◌, ◌≤◌, ◌⊎◌, min, Bool, true, false, cond, ltb, Some, List, [], ◌∷◌, length, get_or, find, unwrap_or, Contains, All, AllPairs, refl, sym, ap, ◌∙◌, inl, inr, subst, arith}
-use Rattle.std.proofs.lemmas.Bool.{cases_Bool, cases_eq, cases_lt, ltb-true, ltb-false}
+use Rattle.std.proofs.Common.{◌≡◌, ℕ, zero, suc, ◌+◌, ◌-◌, ◌<◌, ◌≤◌, ◌⊎◌, Bool, cond, ltb, Some, List, [], ◌∷◌, length, get_or, find, unwrap_or, Contains, All, AllPairs, refl, sym, inl, inr, subst, arith}
+use Rattle.std.proofs.lemmas.Bool.{cases_Bool, cases_lt, ltb-true, ltb-false}
+use Rattle.spec_text.proofs.ListLaws.{Contains-later}
 use Rattle.spec_pages.specs.declared.Shape.{Shape}
 use Rattle.spec_pages.specs.Heights.{next_stop}
 use Rattle.spec_pages.specs.Pages.{stop_above}
@@ -14,9 +15,6 @@ pub record IsStopAbove (rows : ℕ) (stops : List ℕ) (p stop : ℕ) : Type 0 w
   pub within : stop ≤ rows
   pub least : (row : ℕ) → p < row → row < stop → Contains stops row → ⊥
   pub kind : (stop ≡ rows) ⊎ Contains stops stop
-
-contains_later : (x row : ℕ) (xs : List ℕ) → Contains xs row → Contains (x ∷ xs) row
-contains_later x row xs found = (suc found.0, omega (arith, found.1), found.2)
 
 ordered_later : (x : ℕ) (xs : List ℕ) → AllPairs (λ one other. one ≤ other) (x ∷ xs) → AllPairs (λ one other. one ≤ other) xs
 ordered_later x xs ordered i j d order inside = ordered (suc i) (suc j) d (omega arith) (omega arith)
@@ -54,7 +52,7 @@ above-from rows (x ∷ stops) p are inside =
             above = later.above;
             within = later.within;
             least = λ row above below found. later.least row above below (contains_tail x row stops found.0 found.1 found.2 (omega (arith, low, above)));
-            kind = elim later.kind [ inl end ↦ inl end | inr found ↦ inr (contains_later x (unwrap_or (find (λ stop. ltb p stop) stops) rows) stops found) ];
+            kind = elim later.kind [ inl end ↦ inl end | inr found ↦ inr (Contains-later x (unwrap_or (find (λ stop. ltb p stop) stops) rows) stops found) ];
           }))
     ]
 

@@ -2,7 +2,7 @@
 use Rattle.std.proofs.Common.{◌≡◌, ℕ, ◌+◌, ◌-◌, ◌≤◌, Bool, true, false, cond, List, [], ◌∷◌, ◌++◌, length, map, filter, refl, ap, ap₂, ◌∙◌, arith, length-append}
 use Rattle.std.specs.Prelude.{All}
 use Rattle.std.proofs.lemmas.List.{map-append, length-map}
-use Rattle.std.proofs.lemmas.List.Elements.{All-cons, All-head, All-tail}
+use Rattle.std.proofs.lemmas.List.Elements.{All-cons, All-head, All-tail, filter-append}
 use Rattle.spec_text.specs.Lines.{LineState}
 use Rattle.spec_script.specs.LongestRuns.{Group}
 use Rattle.spec_script.specs.Stanzas.{PlacedBlock}
@@ -17,16 +17,8 @@ use Rattle.spec_relay.proofs.MovedElements.{GroupStays, laid-stays, all-stay, ke
 abbrev pub laid_of : (Group Spoken → Bool) → List LineState → List (Group Spoken) → List ElementOf
 laid_of among lines groups = map (laid_out lines) (filter among groups)
 
-filter-two : (among : Group Spoken → Bool) (xs ys : List (Group Spoken)) → filter among (xs ++ ys) ≡ filter among xs ++ filter among ys
-filter-two among [] ys = refl
-filter-two among (x ∷ xs) ys = by (among x) (filter-two among xs ys)
-  where
-    by : (b : Bool) → filter among (xs ++ ys) ≡ filter among xs ++ filter among ys → cond b (x ∷ filter among (xs ++ ys)) (filter among (xs ++ ys)) ≡ cond b (x ∷ filter among xs) (filter among xs) ++ filter among ys
-    by true rest = ap (λ (those : List (Group Spoken)). x ∷ those) rest
-    by false rest = rest
-
 pub laid-append : (among : Group Spoken → Bool) (lines : List LineState) (xs ys : List (Group Spoken)) → laid_of among lines (xs ++ ys) ≡ laid_of among lines xs ++ laid_of among lines ys
-laid-append among lines xs ys = ap (map (laid_out lines)) (filter-two among xs ys) ∙ map-append (laid_out lines) (filter among xs) (filter among ys)
+laid-append among lines xs ys = ap (map (laid_out lines)) (filter-append among xs ys) ∙ map-append (laid_out lines) (filter among xs) (filter among ys)
 
 pub laid-three : (among : Group Spoken → Bool) (lines : List LineState) (xs ys zs : List (Group Spoken)) → laid_of among lines (xs ++ (ys ++ zs)) ≡ laid_of among lines xs ++ (laid_of among lines ys ++ laid_of among lines zs)
 laid-three among lines xs ys zs = laid-append among lines xs (ys ++ zs) ∙ ap (λ (those : List ElementOf). laid_of among lines xs ++ those) (laid-append among lines ys zs)

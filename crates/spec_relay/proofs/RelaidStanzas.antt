@@ -6,6 +6,7 @@ use Rattle.std.specs.Str.{IsUtf8}
 use Rattle.std.proofs.lemmas.List.Elements.{All-nil, All-cons, All-head, All-tail}
 use Rattle.spec_text.specs.Limits.{line_count_limit}
 use Rattle.spec_text.specs.Lines.{LineState, line_texts}
+use Rattle.spec_text.proofs.ListLaws.{All-front, All-back}
 use Rattle.spec_script.specs.BlockParts.{Rise}
 use Rattle.spec_script.specs.BlockValues.{StanzaOf}
 use Rattle.spec_script.specs.Stanzas.{PlacedBlock, blocks_from, blocks_of, stanzas_of}
@@ -13,7 +14,7 @@ use Rattle.spec_pages.specs.Rows.{line_state}
 use Rattle.spec_layout.proofs.ElementPlaces.{LinesRise, placed_from, placed_to, blocks_of-stand}
 use Rattle.spec_reread.specs.Windows.{HasFrom, stanza_lines_in}
 use Rattle.spec_reread.proofs.Places.{at_place, front-between, has-all}
-use Rattle.spec_relayout.proofs.WindowSides.{EndsBy, StandsIn, all-front, all-back, between-in, front-ends}
+use Rattle.spec_relayout.proofs.WindowSides.{EndsBy, StandsIn, between-in, front-ends}
 use Rattle.spec_relay.specs.Moved.{moved_place, moved_block, BlockStays, speaker_behind, BeginsApart}
 use Rattle.spec_relay.specs.RelaidBlocks.{AreRelaid}
 use Rattle.spec_relay.specs.RelaidStanzas.{StanzasRelaid, stanza_settles}
@@ -128,23 +129,23 @@ module _ (before lines : List LineState) (front ahead gone come behind rest : Li
     all-whole = subst (All IsWhole) old-blocks (blocks-whole (line_texts before) utf8 few)
 
     later-whole : All IsWhole (blocks_from f (ahead ++ (gone ++ behind)) ++ blocks_from place rest)
-    later-whole = all-back IsWhole (blocks_from 0 front) (blocks_from f (ahead ++ (gone ++ behind)) ++ blocks_from place rest) all-whole
+    later-whole = All-back IsWhole (blocks_from 0 front) (blocks_from f (ahead ++ (gone ++ behind)) ++ blocks_from place rest) all-whole
 
     behind-whole : All IsWhole (blocks_from was behind)
     behind-whole =
-        let window = subst (All IsWhole) old-window (all-front IsWhole (blocks_from f (ahead ++ (gone ++ behind))) (blocks_from place rest) later-whole) in
-        all-back IsWhole (blocks_from start gone) (blocks_from was behind) (all-back IsWhole (blocks_from f ahead) (blocks_from start gone ++ blocks_from was behind) window)
+        let window = subst (All IsWhole) old-window (All-front IsWhole (blocks_from f (ahead ++ (gone ++ behind))) (blocks_from place rest) later-whole) in
+        All-back IsWhole (blocks_from start gone) (blocks_from was behind) (All-back IsWhole (blocks_from f ahead) (blocks_from start gone ++ blocks_from was behind) window)
 
     front-stay : All (BlockStays 0 0 before lines) (blocks_from 0 front)
     front-stay =
-        let whole = all-front IsWhole (blocks_from 0 front) (blocks_from f (ahead ++ (gone ++ behind)) ++ blocks_from place rest) all-whole in
+        let whole = All-front IsWhole (blocks_from 0 front) (blocks_from f (ahead ++ (gone ++ behind)) ++ blocks_from place rest) all-whole in
         let stands = front-stands (line_texts before) front ((ahead ++ (gone ++ behind)) ++ rest) utf8 few it.old in
         let is = it.start_is in
         λ k d h. let ends = stands.ends k d h in front-block before lines start _ it.still (whole k d h) (omega (arith, ends, is))
 
     rest-stay : All (BlockStays was end before lines) (blocks_from place rest)
     rest-stay =
-        let whole = all-back IsWhole (blocks_from f (ahead ++ (gone ++ behind))) (blocks_from place rest) later-whole in
+        let whole = All-back IsWhole (blocks_from f (ahead ++ (gone ++ behind))) (blocks_from place rest) later-whole in
         let past = blocks-past was place rest (omega arith) in
         λ k d h. rest-block before lines was end _ it.moved (whole k d h) (past k d h)
 

@@ -10,7 +10,7 @@ use Rattle.spec_script.specs.LongestRuns.{Group, members}
 use Rattle.spec_script.specs.Stanzas.{PlacedBlock}
 use Rattle.spec_script.specs.Elements.{placed_at, line_of_block}
 use Rattle.spec_script.proofs.RunSteps.{map_group}
-use Rattle.spec_pages.specs.Rows.{Row, is_title, single_rows, dual_rows, shifted_row, placed_rows}
+use Rattle.spec_pages.specs.Rows.{Row, is_title, placed_rows}
 use Rattle.spec_pages.specs.Rows as rows
 use Rattle.spec_labels.specs.Labels.{LabelOf}
 use Rattle.spec_layout.specs.Cells.{ShownCell}

@@ -8,6 +8,7 @@ use Rattle.std.proofs.lemmas.List.{length-map}
 use Rattle.std.proofs.lemmas.List.Elements.{All-nil, All-cons}
 use Rattle.spec_text.specs.Limits.{line_count_limit}
 use Rattle.spec_text.specs.Lines.{line_texts}
+use Rattle.spec_text.proofs.ListLaws.{All-front, All-back}
 use Rattle.spec_script.specs.declared.Kind.{Kind}
 use Rattle.spec_script.specs.LongestRuns.{Group, members}
 use Rattle.spec_script.specs.Stanzas.{PlacedBlock}
@@ -25,7 +26,6 @@ use Rattle.spec_pages.specs.Rows.{placed_rows}
 use Rattle.spec_relayout.specs.TextItems.{Script, spoken_group, element_label, text_rows, row_item, row_items, element_items, in_text}
 use Rattle.spec_relayout.proofs.ItemRows.{break-none, break-some, no-break, pair-no-break, shape_in, shapes-rows}
 use Rattle.spec_relayout.proofs.SoundElements.{IsSound, SoundSteps, elements-sound}
-use Rattle.spec_relayout.proofs.WindowSides.{all-front, all-back}
 use Rattle.spec_script.specs.declared.Kind.TheVariants as kinds
 
 -- An element is a block, or a pair in order.
@@ -120,7 +120,7 @@ AllIn P element = All P (members element)
 all-members : (P : PlacedBlock → Type 0) (groups : List (Group PlacedBlock)) → All P (flat_map members groups) → All (AllIn P) groups
 all-members P [] all = All-nil (AllIn P)
 all-members P (group ∷ groups) all =
-    All-cons (AllIn P) group groups (all-front P (members group) (flat_map members groups) all) (all-members P groups (all-back P (members group) (flat_map members groups) all))
+    All-cons (AllIn P) group groups (All-front P (members group) (flat_map members groups) all) (all-members P groups (All-back P (members group) (flat_map members groups) all))
 
 pub elements-all : (P : PlacedBlock → Type 0) (blocks : List PlacedBlock) → All P blocks → All (AllIn P) (elements_in blocks)
 elements-all P blocks all = all-members P (elements_in blocks) (subst (All P) (sym ((longest_runs-exist is_dual blocks).all)) all)

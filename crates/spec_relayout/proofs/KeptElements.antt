@@ -15,13 +15,13 @@ use Rattle.spec_reread.proofs.WindowElements.{pushed_group, elements-pushed}
 use Rattle.spec_reread.proofs.RelaidElements.{IsSome, relaid-old, relaid-new}
 use Rattle.spec_text.specs.Ranges.{RangeOf, IsOutside, place_after}
 use Rattle.spec_relayout.specs.Touched.{is_continued, differs, EditBlocks, changes_partner, changes_speaker, is_touched_old, is_touched_new}
+use Rattle.spec_text.proofs.ListLaws.{All-front, All-back}
 use Rattle.spec_relayout.proofs.Steps.{TextOf, touches}
 use Rattle.spec_script.proofs.RunSteps.{longest_runs-map}
 use Rattle.spec_relayout.proofs.ElementLaw.{Fair, Remains, Lost, Elements}
 use Rattle.spec_relayout.specs.TextItems.{Script}
 use Rattle.spec_relayout.proofs.ItemMoves.{LinesMoved}
 use Rattle.spec_relayout.proofs.ElementMoves.{block_after, element_after, BlockLeft, line-after, SpeaksSame, items-moved, items-left}
-use Rattle.spec_relayout.proofs.WindowSides.{all-front, all-back}
 use Rattle.spec_relayout.proofs.FairElements.{text_with, IsKnown, AllIn, elements-all}
 use Rattle.spec_relayout.proofs.TouchedRuns.{HasTouched}
 use Rattle.spec_relayout.proofs.WindowPartners.{Around}
@@ -130,8 +130,8 @@ module _ (edit : EditBlocks) (w : WindowBlocks) (it : Around edit w) where
         ∙ ap₂ (λ (a b : List (Group PlacedBlock)). a ++ (come ++ b)) (sym (fronts-moved edit w it (front_kept w) (kept-before edit w it))) (sym (rests-moved edit w it (elements_in (rest_kept w)))) in
         let olds_parted = subst (All P) old_are olds in
         let news_parted = subst (All Q) new_are news in
-        let olds_behind = all-back P front (gone ++ back) olds_parted in
-        let news_behind = all-back Q (map move front) (come ++ map move back) news_parted in
+        let olds_behind = All-back P front (gone ++ back) olds_parted in
+        let news_behind = All-back Q (map move front) (come ++ map move back) news_parted in
         record {
           front = front;
           gone = gone;
@@ -140,12 +140,12 @@ module _ (edit : EditBlocks) (w : WindowBlocks) (it : Around edit w) where
           old_are = old_are;
           new_are = new_are;
           elements = record {
-            front_stays = remains-all front (all-front P front (gone ++ back) olds_parted) (fairs-new (map move front) (all-front Q (map move front) (come ++ map move back) news_parted))
+            front_stays = remains-all front (All-front P front (gone ++ back) olds_parted) (fairs-new (map move front) (All-front Q (map move front) (come ++ map move back) news_parted))
                 (elements-all (IsAside edit) (front_kept w) (kept-aside edit w it));
-            back_stays = remains-all back (all-back P gone back olds_behind) (fairs-new (map move back) (all-back Q come (map move back) news_behind))
+            back_stays = remains-all back (All-back P gone back olds_behind) (fairs-new (map move back) (All-back Q come (map move back) news_behind))
                 (subst (All (AllIn (IsAside edit))) (elements-pushed w.old_end (rest_kept w)) (elements-all (IsAside edit) (map (pushed w.old_end) (rest_kept w)) (pushed-aside edit w it (rest_kept w))));
-            gone_goes = lost-old gone (all-front P gone back olds_behind) (relaid-touched-old edit w it some);
-            come_comes = lost-new come (all-front Q come (map move back) news_behind) (relaid-touched-new edit w it some);
+            gone_goes = lost-old gone (All-front P gone back olds_behind) (relaid-touched-old edit w it some);
+            come_comes = lost-new come (All-front Q come (map move back) news_behind) (relaid-touched-new edit w it some);
           };
         }
 

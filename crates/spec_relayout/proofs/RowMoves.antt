@@ -16,7 +16,7 @@ use Rattle.spec_pages.specs.Columns.{column_of, width_of, row_kind, first_lead, 
 use Rattle.spec_pages.specs.Pages.{is_dialogue}
 use Rattle.spec_pages.specs.Sentences.{ends_sentence, shown_chars}
 use Rattle.spec_pages.specs.Wrapping.{WrappedRow, wrapped}
-use Rattle.spec_pages.specs.Rows.{Cell, Row, LineContext, line_state, own_lead, line_rows_from, line_rows, with_number, shaped_row, shaped_rows, continued_cell, spoken_cells, put_cell, in_column_order, spoken_rows, with_speakers, is_title, title_row, half_row, joined_rows, single_rows, dual_rows, shifted_row, blocks_beside, block_alone}
+use Rattle.spec_pages.specs.Rows.{Cell, Row, LineContext, line_state, own_lead, line_rows_from, line_rows, with_number, shaped_row, shaped_rows, continued_cell, spoken_cells, put_cell, in_column_order, with_speakers, is_title, title_row, half_row, joined_rows, single_rows, dual_rows, shifted_row, blocks_beside, block_alone}
 use Rattle.spec_pages.specs.Rows as rows
 use Rattle.spec_layout.proofs.ElementPlaces.{LinesRise}
 use Rattle.spec_relayout.specs.RowLines.{RowAt}

@@ -1,11 +1,11 @@
 -- An element that doesn't stand in a segment has nothing between the segment's ends.
 use Rattle.std.proofs.Common.{◌≡◌, ◌⊎◌, ℕ, ◌+◌, ◌<◌, ◌≤◌, Bool, true, false, not, ◌&&◌, cond, List, [], ◌∷◌, ◌++◌, map, length, get_or, inl, inr, refl, sym, ap, subst, ◌∙◌, arith, length-append, get_or-append-add}
-use Rattle.std.specs.Prelude.{filter, All, AllPairs}
+use Rattle.std.specs.Prelude.{filter, All}
 use Rattle.std.specs.List.{flat_map}
 use Rattle.std.proofs.lemmas.Bool.{cases_Bool}
 use Rattle.std.proofs.lemmas.List.{map-append, append_assoc, get_or_append_left}
 use Rattle.std.proofs.lemmas.List.Elements.{All-nil, All-cons, All-head, All-tail, filter-append}
-use Rattle.spec_text.proofs.ListLaws.{filter-whole}
+use Rattle.spec_text.proofs.ListLaws.{filter-whole, pairs-back}
 use Rattle.spec_labels.specs.Spots.{Spot, is_ahead, Bounds, is_within}
 use Rattle.spec_relayout.specs.Items.{Sight, page_break, row, Item, sight_of, is_inside, sights_in, shapes_among, is_front, all_sights, start_of}
 use Rattle.spec_relayout.proofs.Steps.{Step, AreRising, Stands, NoneStepStands}
@@ -36,17 +36,11 @@ row_count-filter p (x ∷ xs) = by (p x) x.sight (row_count-filter p xs)
     by false page_break rest = rest
     by false (row it) rest = omega (arith, rest)
 
-pairs-behind : {X : Type 0} (R : X → X → Type 0) (xs ys : List X) → AllPairs R (xs ++ ys) → AllPairs R ys
-pairs-behind R xs ys all i j d less inside =
-    subst (λ a. R a (get_or ys j d)) (get_or-append-add xs ys i d)
-    (subst (λ b. R (get_or (xs ++ ys) (length xs + i) d) b) (get_or-append-add xs ys j d)
-    (all (length xs + i) (length xs + j) d (omega (arith, less)) (omega (arith, inside, length-append xs ys))))
-
 -- Where an item isn't before a spot, the rows before the spot are before the item.
 pub not-ahead-start : (spot : Spot) (front : List Item) (x : Item) (later : List Item) → AreRising (front ++ (x ∷ later)) → is_ahead x.spot spot ≡ false
     → start_of (front ++ (x ∷ later)) spot ≤ row_count front
 not-ahead-start spot front x later rising fails =
-    let closed = rising-front spot (x ∷ later) (pairs-behind (λ (a b : Item). is_ahead a.spot b.spot ≡ true) front (x ∷ later) rising) in
+    let closed = rising-front spot (x ∷ later) (pairs-back (λ (a b : Item). is_ahead a.spot b.spot ≡ true) front (x ∷ later) rising) in
     let here : filter (is_front spot) (x ∷ later) ≡ [] =
     ap (λ b. cond b (x ∷ filter (is_front spot) later) (filter (is_front spot) later)) fails ∙ none-behind (is_front spot) x later closed fails in
     let none : start_of (x ∷ later) spot ≡ 0 = ap row_count here in

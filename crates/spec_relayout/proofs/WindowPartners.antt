@@ -12,9 +12,10 @@ use Rattle.spec_reread.specs.Touched.{pushed, WindowBlocks, old_blocks, new_bloc
 use Rattle.spec_reread.proofs.RelaidElements.{IsSome}
 use Rattle.spec_text.specs.Ranges.{RangeOf, place_after}
 use Rattle.spec_relayout.specs.Touched.{partner_of, EditBlocks, block_in, place_before, is_same_partner, changes_partner, changes_speaker, has_changed}
+use Rattle.spec_text.proofs.ListLaws.{All-back}
 use Rattle.spec_relayout.proofs.ElementMoves.{after-front, after-behind}
 use Rattle.spec_relayout.proofs.Partners.{right_partner, left_partner, BeginBefore, partner-right, partner-left, rise-before}
-use Rattle.spec_relayout.proofs.WindowSides.{EndsBy, StandsIn, all-back}
+use Rattle.spec_relayout.proofs.WindowSides.{EndsBy, StandsIn}
 use Rattle.spec_relayout.proofs.PartnerCases.{last-one, last-all, differ-at, front-cases, rest-cases}
 
 -- The blocks of both texts of an edit, round its window.
@@ -93,7 +94,7 @@ module _ (edit : EditBlocks) (w : WindowBlocks) (it : Around edit w) where
     front-low : line_of_block f < edit.from
     front-low =
         let some = rise-some 0 it.old_high xs f (w.gone ++ map (pushed w.old_end) w.rest) (subst (Rise placed_from placed_to 0 it.old_high) old-whole it.old_rise) in
-        let ends = All-head (EndsBy edit.from) f [] (all-back (EndsBy edit.from) xs (f ∷ []) (subst (All (EndsBy edit.from)) whole it.front)) in
+        let ends = All-head (EndsBy edit.from) f [] (All-back (EndsBy edit.from) xs (f ∷ []) (subst (All (EndsBy edit.from)) whole it.front)) in
         omega (arith, some, ends)
 
     front-line : place_after edit.range (line_of_block f) ≡ line_of_block f
@@ -109,7 +110,7 @@ module _ (edit : EditBlocks) (w : WindowBlocks) (it : Around edit w) where
         elim (front-cases edit f w.gone w.come w.rest w.old_end w.new_end some joined
         (λ x c g r is rest. differ-at edit (line_of_block x) (line_of_block (pushed w.new_end c)) (λ side same.
         let above = (All-head (StandsIn edit.from edit.old_to) x g (subst (All (StandsIn edit.from edit.old_to)) is it.gone)).above in
-        let before = All-head (BeginBefore (pushed w.old_end c)) x g (subst (All (BeginBefore (pushed w.old_end c))) is (all-back (BeginBefore (pushed w.old_end c)) w.front w.gone (old-before c r rest))) in
+        let before = All-head (BeginBefore (pushed w.old_end c)) x g (subst (All (BeginBefore (pushed w.old_end c))) is (All-back (BeginBefore (pushed w.old_end c)) w.front w.gone (old-before c r rest))) in
         let moved = rest-line c in
         let past = it.was_past in
         elim side [
@@ -120,7 +121,7 @@ module _ (edit : EditBlocks) (w : WindowBlocks) (it : Around edit w) where
               omega (arith, here, there, same, moved, before, high, past)
         ]))
         (λ y c g r is rest. differ-at edit (line_of_block (pushed w.old_end c)) (line_of_block y) (λ side same.
-        let before = All-head (BeginBefore (pushed w.new_end c)) y g (subst (All (BeginBefore (pushed w.new_end c))) is (all-back (BeginBefore (pushed w.new_end c)) w.front w.come (new-before c r rest))) in
+        let before = All-head (BeginBefore (pushed w.new_end c)) y g (subst (All (BeginBefore (pushed w.new_end c))) is (All-back (BeginBefore (pushed w.new_end c)) w.front w.come (new-before c r rest))) in
         let moved = rest-line c in
         omega (arith, same, moved, before)))) [
           | inl differ ↦
@@ -192,5 +193,5 @@ module _ (edit : EditBlocks) (w : WindowBlocks) (it : Around edit w) where
                     let cut : old_blocks w ≡ xs ++ f ∷ (w.gone ++ map (pushed w.old_end) w.rest) =
                     ap (λ (l : List PlacedBlock). l ++ (w.gone ++ map (pushed w.old_end) w.rest)) is ∙ append_assoc xs (f ∷ []) (w.gone ++ map (pushed w.old_end) w.rest) in
                     let some = rise-some 0 it.old_high xs f (w.gone ++ map (pushed w.old_end) w.rest) (subst (Rise placed_from placed_to 0 it.old_high) cut it.old_rise) in
-                    let ends = All-head (EndsBy edit.from) f [] (all-back (EndsBy edit.from) xs (f ∷ []) (subst (All (EndsBy edit.from)) is it.front)) in
+                    let ends = All-head (EndsBy edit.from) f [] (All-back (EndsBy edit.from) xs (f ∷ []) (subst (All (EndsBy edit.from)) is it.front)) in
                     omega (arith, some, ends)

@@ -1,8 +1,8 @@
 -- Where the blocks before, in and behind a window stand.
-use Rattle.std.proofs.Common.{◌≡◌, ℕ, zero, suc, ◌+◌, ◌-◌, ◌<◌, ◌≤◌, ◌==◌, Bool, true, false, List, [], ◌∷◌, ◌++◌, length, map, take, inl, inr, sym, ap, subst, ◌∙◌, arith, length-take}
+use Rattle.std.proofs.Common.{◌≡◌, ℕ, ◌+◌, ◌-◌, ◌<◌, ◌≤◌, ◌==◌, Bool, true, false, List, [], ◌∷◌, length, map, take, inl, inr, sym, ap, subst, ◌∙◌, arith, length-take}
 use Rattle.std.specs.Prelude.{All}
 use Rattle.std.specs.Str.{IsUtf8}
-use Rattle.std.proofs.lemmas.List.Elements.{All-nil, All-cons, All-head, All-tail, All-append}
+use Rattle.std.proofs.lemmas.List.Elements.{All-nil, All-cons, All-append, All-take}
 use Rattle.std.proofs.lemmas.List.Sums.{sum_by-cons}
 use Rattle.spec_script.specs.BlockValues.{StanzaOf, BlockOf}
 use Rattle.spec_script.specs.BlockParts.{Rise}
@@ -38,19 +38,6 @@ window-sides before after first old new a b e w =
     end (inl x) = x.meets.past
     end (inr x) = let put = e.put in omega (arith, put, x.1)
 
-all-take : {X : Type 0} (P : X → Type 0) (n : ℕ) (xs : List X) → All P xs → All P (take n xs)
-all-take P zero xs all = All-nil P
-all-take P (suc n) [] all = all
-all-take P (suc n) (x ∷ xs) all = All-cons P x (take n xs) (All-head P x xs all) (all-take P n xs (All-tail P x xs all))
-
-pub all-front : {X : Type 0} (P : X → Type 0) (xs ys : List X) → All P (xs ++ ys) → All P xs
-all-front P [] ys all = All-nil P
-all-front P (x ∷ xs) ys all = All-cons P x xs (All-head P x (xs ++ ys) all) (all-front P xs ys (All-tail P x (xs ++ ys) all))
-
-pub all-back : {X : Type 0} (P : X → Type 0) (xs ys : List X) → All P (xs ++ ys) → All P ys
-all-back P [] ys all = all
-all-back P (x ∷ xs) ys all = all-back P xs ys (All-tail P x (xs ++ ys) all)
-
 -- Blocks that stand in order stand each before the end.
 abbrev pub EndsBy : ℕ → PlacedBlock → Type 0
 EndsBy high placed = placed_to placed ≤ high
@@ -73,7 +60,7 @@ front-is before a =
 pub front-ends : (before : List (List ℕ)) (a : ℕ) → All IsUtf8 before → length before ≤ line_count_limit → a ≤ length before → All (EndsBy a) (blocks_from 0 (stanzas_between before 0 a))
 front-ends before a utf8 few low =
     let count : length (take a before) ≡ a = omega (arith, length-take a before, low) in
-    let stand = blocks-rise (take a before) (all-take IsUtf8 a before utf8) (omega (arith, count, low, few)) in
+    let stand = blocks-rise (take a before) (All-take IsUtf8 a before utf8) (omega (arith, count, low, few)) in
     subst (All (EndsBy a)) (sym (front-is before a)) (subst (λ n. All (EndsBy n) (blocks_of (take a before))) count (rise-ends 0 (length (take a before)) (blocks_of (take a before)) stand.rise))
 
 -- Blocks of stanzas from one place to before another.

@@ -1,12 +1,12 @@
 -- What an edit displaced in a list of stanzas stood in its window, by what leads back to the list before it.
-use Rattle.std.proofs.Common.{◌≡◌, ℕ, ◌+◌, ◌-◌, ◌≤◌, List, [], ◌∷◌, ◌++◌, length, take, drop, refl, sym, ap, ap₂, subst, ◌∙◌, inl, arith, length-take, take-append-drop}
+use Rattle.std.proofs.Common.{◌≡◌, ℕ, ◌+◌, ◌-◌, ◌≤◌, List, [], ◌∷◌, ◌++◌, length, take, drop, refl, sym, ap, ap₂, subst, ◌∙◌, inl, arith}
 use Rattle.std.specs.Prelude.{All}
 use Rattle.std.proofs.lemmas.List.{append_cancel_left, append_cancel_right, take_at, drop_at, drop-drop, length-take-le}
 use Rattle.std.proofs.lemmas.List.Elements.{All-head, All-tail, All-take}
 use Rattle.std.proofs.lemmas.List.Sums.{sum_by-cons}
 use Rattle.spec_script.specs.BlockValues.{StanzaOf}
 use Rattle.spec_script.specs.Stanzas.{stanzas_from, stanzas_of}
-use Rattle.spec_reread.specs.Windows.{IsEdited, IsBefore, IsWindow, CountsWindow, HasLines, stanza_lines_in, stanzas_between}
+use Rattle.spec_reread.specs.Windows.{IsEdited, IsWindow, CountsWindow, HasLines, stanza_lines_in, stanzas_between}
 use Rattle.spec_reread.specs.Displaced.{AreOfWindow, DisplacesWindow}
 use Rattle.spec_reread.proofs.Counts.{count-between, lines-from}
 use Rattle.spec_reread.proofs.Splits.{split}

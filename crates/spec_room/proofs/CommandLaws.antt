@@ -1,8 +1,8 @@
 -- What becomes of a room by a seat's command, where its desk took it, where its desk refused it and where the room did.
-use Rattle.std.proofs.Common.{◌≡◌, ℕ, Bool, false, cond, Ok, Err, List, sym, ap, subst, ◌∙◌, refl}
+use Rattle.std.proofs.Common.{◌≡◌, ℕ, Bool, false, cond, Ok, List, sym, ap, subst, ◌∙◌, refl}
 use Rattle.spec_text.specs.Edits.{EditOf, replace, splice}
 use Rattle.spec_wire.specs.Commands.{CommandOf, RoomLineOf, edit, undo, redo, lock_scenes, lock_pages, next_round, sheet, labels, blocks, outline, save, speakers, paper, packet}
-use Rattle.spec_wire.specs.Replies.{RefusalOf, ReplyOf, refused, is_refused}
+use Rattle.spec_wire.specs.Replies.{ReplyOf, refused, is_refused}
 use Rattle.spec_machine.specs.Machine.{Memory, memory_after, Accepts}
 use Rattle.spec_machine.specs.Answers as answers
 use Rattle.spec_machine.specs.Answers.{step_of}
@@ -62,12 +62,3 @@ taken_step room it asked desk reply asks step free =
     ap (λ (b : Bool). room_step_to (cond b room (room_after room it.seat asked desk)) reply) (sym free)
     ∙ ap (asked_step room it.seat asked) step
     ∙ ap (room_step_by room it) (sym asks)
-
--- Where its desk refused it.
-pub refused_step : (room : RoomState) (it : RoomLineOf) (asked : Kind) (desk : Memory) (reason : RefusalOf) → asked_of room it.seat it.seen (kind_of it.command) ≡ Ok asked
-    → step_to desk (refused reason) ≡ step_of room.desk (command_at it.command asked) → room_step_to room (refused reason) ≡ room_step_of room it
-refused_step room it asked desk reason asks step = ap (asked_step room it.seat asked) step ∙ ap (room_step_by room it) (sym asks)
-
--- Where the room did.
-pub unasked_step : (room : RoomState) (it : RoomLineOf) (reason : RefusalOf) → asked_of room it.seat it.seen (kind_of it.command) ≡ Err reason → room_step_to room (refused reason) ≡ room_step_of room it
-unasked_step room it reason asks = ap (room_step_by room it) (sym asks)

@@ -1,5 +1,5 @@
 -- The texts that a room stands for: putting one behind, leaving out the first ones, and the text at a version.
-use Rattle.std.proofs.Common.{◌≡◌, ℕ, zero, suc, ◌+◌, ◌-◌, ◌≤◌, ◌<◌, List, [], ◌∷◌, ◌++◌, length, drop, get_or, sym, arith, refl, subst}
+use Rattle.std.proofs.Common.{◌≡◌, ℕ, zero, suc, ◌+◌, ◌-◌, ◌≤◌, List, [], ◌∷◌, ◌++◌, length, drop, get_or, sym, arith, refl, subst}
 use Rattle.spec_text.specs.Ranges.{RangeOf}
 use Rattle.spec_room.specs.Changes.{Text, Changes}
 use Rattle.spec_room.specs.Rooms.{last_of}
@@ -15,23 +15,6 @@ stands-length (change ∷ changes) (text ∷ []) now stands = absurd stands
 stands-length (change ∷ changes) (text ∷ next ∷ texts) now stands =
     let rest = stands-length changes (next ∷ texts) now stands.1 in
     omega (arith, rest)
-
--- The last text is the present one.
-pub stands-now : (changes : List RangeOf) (texts : List Text) (now : Text) → Stands changes texts now → get_or texts (length changes) [] ≡ now
-stands-now [] [] now stands = absurd stands
-stands-now [] (text ∷ []) now stands = stands
-stands-now [] (text ∷ next ∷ texts) now stands = absurd stands
-stands-now (change ∷ changes) [] now stands = absurd stands
-stands-now (change ∷ changes) (text ∷ []) now stands = absurd stands
-stands-now (change ∷ changes) (text ∷ next ∷ texts) now stands = stands-now changes (next ∷ texts) now stands.1
-
--- Each text equals the one before it outside the range of the change between them.
-pub stands-each : (n : ℕ) (changes : List RangeOf) (texts : List Text) (now : Text) (other : RangeOf) → n < length changes → Stands changes texts now → Changes (get_or changes n other) (get_or texts n []) (get_or texts (suc n) [])
-stands-each n [] texts now other few stands = absurd (omega arith)
-stands-each n (change ∷ changes) [] now other few stands = absurd stands
-stands-each n (change ∷ changes) (text ∷ []) now other few stands = absurd stands
-stands-each zero (change ∷ changes) (text ∷ next ∷ texts) now other few stands = stands.0
-stands-each (suc n) (change ∷ changes) (text ∷ next ∷ texts) now other few stands = stands-each n changes (next ∷ texts) now other (omega arith) stands.1
 
 -- A further change puts its text behind.
 pub stands_put : (changes : List RangeOf) (texts : List Text) (now new : Text) (change : RangeOf) → Stands changes texts now → Changes change now new → Stands (changes ++ change ∷ []) (texts ++ new ∷ []) new

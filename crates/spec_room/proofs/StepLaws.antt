@@ -1,16 +1,15 @@
 -- What the step of a room by a seat's command means for its lines, its version and what its seats saw.
-use Rattle.std.proofs.Common.{◌≡◌, ◌+◌, ◌<◌, ◌≤◌, ◌^◌, Bool, true, false, cond, Result, Ok, Err, List, length, sym, ap, subst, ◌∙◌, refl, arith}
+use Rattle.std.proofs.Common.{◌≡◌, Bool, true, false, cond, Result, Ok, Err, List, sym, ap, subst, ◌∙◌, refl}
 use Rattle.spec_wire.specs.Commands.{RoomLineOf}
 use Rattle.spec_wire.specs.Replies.{RefusalOf, ReplyOf, refused, is_refused}
 use Rattle.spec_machine.specs.Machine.{Memory}
 use Rattle.spec_machine.specs.Answers.{step_of}
 use Rattle.spec_room.specs.Changes.{Text}
-use Rattle.spec_room.specs.Kinds.{Kind, edits, undoes, redoes, forgets, looks, kind_of, command_at}
-use Rattle.spec_room.specs.Rooms.{RoomState, asked_of, rises, room_after, RoomStep, room_step_to, asked_step, room_step_by, room_step_of}
+use Rattle.spec_room.specs.Kinds.{Kind, kind_of, command_at}
+use Rattle.spec_room.specs.Rooms.{RoomState, asked_of, room_after, RoomStep, room_step_to, asked_step, room_step_by, room_step_of}
 use Rattle.spec_room.specs.Standing.{StandsFor, KeepsSeen, texts_after}
 use Rattle.spec_room.specs.Holding.{Holds}
 use Rattle.spec_room.proofs.MachineSteps.{Step}
-use Rattle.spec_room.proofs.RoomLaws.{holds_after}
 use Rattle.spec_room.proofs.SeatLaws.{keeps_seen, stands_after}
 use Rattle.spec_room.proofs.CommandLaws.{unrefused-step}
 
@@ -55,24 +54,6 @@ refused-same room it new reason is = by (asked_of room it.seat it.seen (kind_of 
         let told : is_refused made.reply ≡ true = ap (λ (s : RoomStep). is_refused s.reply) (sym same) in
         ap (λ (s : RoomStep). s.after) same ∙ ap (λ (b : Bool). cond b room (room_after room it.seat asked made.after)) told
     by (Err other) same = ap (λ (s : RoomStep). s.after) same
-
--- It raises the version by one at most.
-rises-one : (kind : Kind) → rises kind ≤ 1
-rises-one (edits range) = omega arith
-rises-one undoes = omega arith
-rises-one redoes = omega arith
-rises-one forgets = omega arith
-rises-one looks = omega arith
-
-pub taken-version : (room : RoomState) (it : RoomLineOf) (new : RoomState) → IsTaken room it new → new.version ≤ room.version + 1
-taken-version room it new taken =
-    let is : new.version ≡ room.version + rises taken.asked = ap (λ (r : RoomState). r.version) taken.room in
-    let few = rises-one taken.asked in
-    omega (arith, is, few)
-
--- The room keeps what each room keeps, and the law of seats.
-pub taken-holds : (room : RoomState) (it : RoomLineOf) (new : RoomState) → Holds room → length room.desk.state.lines < 2 ^ 64 → IsTaken room it new → Holds new
-taken-holds room it new holds few taken = subst Holds (sym taken.room) (holds_after room it.seat taken.asked taken.desk holds taken.step few)
 
 pub taken-seen : (room : RoomState) (it : RoomLineOf) (new : RoomState) (texts : List Text) → Holds room → StandsFor room texts → IsTaken room it new → KeepsSeen room texts it.seen (kind_of it.command) new
 taken-seen room it new texts holds stands taken =

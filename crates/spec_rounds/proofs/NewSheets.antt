@@ -9,15 +9,10 @@ use Rattle.spec_labels.specs.declared.RowKey.{RowKey}
 use Rattle.spec_labels.specs.Labels.{LabelOf, IsLabel, label_cmp, Below}
 use Rattle.spec_labels.specs.PageRecords.{PageRecordOf, RisingRecords, SegmentOf, SheetOf, first_label, segments, is_empty, page_sheet, page_sheets, segment_pages, omitted_sheet, owner_of, runs_of, run_sheets, sheets_of_records, is_recorded, record_of_sheet, is_new, put_in, extended_page_records}
 use Rattle.spec_labels.proofs.LabelOrder.{label_cmp_total, label_cmp-Equal, Below-irreflexive, Below-transitive}
-use Rattle.spec_labels.proofs.SceneLabels.{AllPairs-head, AllPairs-tail}
-use Rattle.spec_labels.proofs.SheetLaws.{All-back}
-use Rattle.spec_text.proofs.ListLaws.{filter-whole}
+use Rattle.spec_text.proofs.ListLaws.{filter-whole, pairs-head, pairs-tail, All-back}
 use Rattle.spec_labels.specs.OwnRecords.{overflow_sheets, all_records}
 use Rattle.spec_labels.proofs.RunLeads.{sheets_in_runs, lead_run, behind_lead, sheets-lead, sheets-empty, sheets-full}
 use Rattle.spec_labels.proofs.RecordInsert.{Before, Under, Stands, overflow-keeps, all-put}
-
-has_label : LabelOf → PageRecordOf → Bool
-has_label label it = is_eq (label_cmp it.label label)
 
 -- A label that all records have others than isn't recorded.
 pub unrecorded : (records : List PageRecordOf) (label : LabelOf) → All (λ (it : PageRecordOf). it.label ≢ label) records → is_recorded records label ≡ false
@@ -100,7 +95,7 @@ all-owned front (it ∷ records) pages rows (start ∷ starts) rising labels =
     let own : SegmentOf = record { owner = it; next = first_label records; start = start; end = slice_index_or starts 0 rows } in
     let split = append_assoc front (it ∷ []) records in
     let behind : RisingRecords (it ∷ records) = back front rising in
-    let stands : Stands it records = first records (All-tail (λ (r : PageRecordOf). IsLabel r.label) it records labels) (AllPairs-head Before it records behind) in
+    let stands : Stands it records = first records (All-tail (λ (r : PageRecordOf). IsLabel r.label) it records labels) (pairs-head Before it records behind) in
     let keeps = overflow-keeps pages it records start (slice_index_or starts 0 rows) stands in
     let each = keeps.each in
     All-cons (Owned (front ++ (it ∷ records)) pages) own (segments rows records starts)
@@ -113,21 +108,21 @@ all-owned front (it ∷ records) pages rows (start ∷ starts) rising labels =
           (All-append (λ (r : PageRecordOf). r.label ≢ sheet.first) front (it ∷ records)
           (λ i e g same. Below-irreflexive sheet.first (subst (λ l. Below l sheet.first) same (Below-transitive (before front rising i e g) is.above)))
           (All-cons (λ (r : PageRecordOf). r.label ≢ sheet.first) it records (λ same. Below-irreflexive sheet.first (subst (λ l. Below l sheet.first) same is.above))
-          (after records sheet.first is.below (AllPairs-tail Before it records behind))));
+          (after records sheet.first is.below (pairs-tail Before it records behind))));
     })
     (subst (λ (rs : List PageRecordOf). All (Owned rs pages) (segments rows records starts)) split
     (all-owned (front ++ (it ∷ [])) records pages rows starts (subst RisingRecords (sym split) rising) (All-tail (λ (r : PageRecordOf). IsLabel r.label) it records labels)))
   where
     back : (f : List PageRecordOf) → RisingRecords (f ++ (it ∷ records)) → RisingRecords (it ∷ records)
     back [] rises = rises
-    back (r ∷ f) rises = back f (AllPairs-tail Before r (f ++ (it ∷ records)) rises)
+    back (r ∷ f) rises = back f (pairs-tail Before r (f ++ (it ∷ records)) rises)
 
     before : (f : List PageRecordOf) → RisingRecords (f ++ (it ∷ records)) → All (λ (r : PageRecordOf). Below r.label it.label) f
     before [] rises = All-nil (λ (r : PageRecordOf). Below r.label it.label)
     before (r ∷ f) rises =
         All-cons (λ (r : PageRecordOf). Below r.label it.label) r f
-        (All-head (Before r) it records (All-back (Before r) f (it ∷ records) (AllPairs-head Before r (f ++ (it ∷ records)) rises)))
-        (before f (AllPairs-tail Before r (f ++ (it ∷ records)) rises))
+        (All-head (Before r) it records (All-back (Before r) f (it ∷ records) (pairs-head Before r (f ++ (it ∷ records)) rises)))
+        (before f (pairs-tail Before r (f ++ (it ∷ records)) rises))
 
     first : (rs : List PageRecordOf) → All (λ (r : PageRecordOf). IsLabel r.label) rs → All (Before it) rs → Stands it rs
     first [] ls above = record { above = tt; labels = tt }
@@ -137,7 +132,7 @@ all-owned front (it ∷ records) pages rows (start ∷ starts) rising labels =
     after [] label under rises = All-nil (λ (r : PageRecordOf). r.label ≢ label)
     after (r ∷ rs) label under rises =
         All-cons (λ (x : PageRecordOf). x.label ≢ label) r rs (λ same. Below-irreflexive label (subst (Below label) same under))
-        (λ k d h same. Below-irreflexive label (subst (Below label) same (Below-transitive under (AllPairs-head Before r rs rises k d h))))
+        (λ k d h same. Below-irreflexive label (subst (Below label) same (Below-transitive under (pairs-head Before r rs rises k d h))))
 
 -- The extended list: each record, and one for each of its overflow pages.
 pub extended-all : (pages : List ℕ) (rows : ℕ) (keys : List RowKey) (records : List PageRecordOf) (starts : List ℕ) → length starts ≡ length records

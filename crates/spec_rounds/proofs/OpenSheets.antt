@@ -38,10 +38,6 @@ pub record Opens (pages : List ℕ) (news behind : List SegmentOf) (own : List S
   pub lead : lead_run (runs_of news) ≡ []
   pub sheets : sheets_in_runs pages (runs_of news) ≡ own ++ sheets_in_runs pages (runs_of behind)
 
-next-first : (later : List SheetOf) (starts : List ℕ) (rows end : ℕ) → slice_index_or starts 0 rows ≡ end → slice_index_or (map start_of_sheet later ++ starts) 0 rows ≡ next_start later end
-next-first [] starts rows end is = is
-next-first (sheet ∷ later) starts rows end is = refl
-
 -- One record of one page in front of others.
 one-opens : (rows : ℕ) (it : PageRecordOf) (sheet : SheetOf) (records : List PageRecordOf) (starts pages : List ℕ) → it.label ≡ sheet.first → it.changed ≡ sheet.round
     → IsOpen pages (slice_index_or starts 0 rows) sheet

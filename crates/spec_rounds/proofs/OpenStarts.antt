@@ -16,9 +16,6 @@ use Rattle.spec_pages.proofs.StartLists.{ArePagesOf}
 use Rattle.spec_rounds.proofs.PageSheets.{first-page}
 use Rattle.spec_rounds.proofs.RecordsOpen.{Paged}
 
-no_key : RowKey
-no_key = record { line = end_line; row = 0 }
-
 not-before : (lines : List LineState) (key : RowKey) → is_before lines key key ≡ false
 not-before lines key =
     ap₂ (λ a b. a || (eqb (line_at lines key.line) (line_at lines key.line) && b)) (le-ltb (line_at lines key.line) (line_at lines key.line) (omega arith)) (le-ltb key.row key.row (omega arith))

@@ -4,12 +4,12 @@ use Rattle.std.specs.Prelude.{filter, slice_index_or, All}
 use Rattle.std.proofs.lemmas.Bool.{cases_Bool, cases_lt, cases_eq, and_parts, lt-ltb, le-leb, lt-leb, ne_eqb, ltb-true}
 use Rattle.std.proofs.lemmas.List.Elements.{All-head, All-tail, filter_passes}
 use Rattle.std.proofs.lemmas.List.Kept.{AllPairs-filter}
+use Rattle.spec_text.proofs.ListLaws.{pairs-head, pairs-tail}
 use Rattle.spec_labels.specs.PageRecords.{SegmentOf, segment_pages, page_sheets}
-use Rattle.spec_labels.proofs.SceneLabels.{AllPairs-head, AllPairs-tail}
 use Rattle.spec_pages.specs.OwnPages.{is_among, lies_in}
 use Rattle.spec_pages.proofs.StartLists.{AreAbove}
 use Rattle.spec_rounds.proofs.OnePages.{one-page}
-use Rattle.spec_rounds.proofs.OpenSheets.{start_of_sheet, next_start, AreOpen}
+use Rattle.spec_rounds.proofs.OpenSheets.{start_of_sheet, AreOpen}
 
 -- What passes a test inside another.
 pub filter-twice : {X : Type 0} (f g : X → Bool) (xs : List X) → ((x : X) → f x ≡ true → g x ≡ true) → filter f (filter g xs) ≡ filter f xs
@@ -40,9 +40,9 @@ first-page segment (page ∷ pages) some rising there = elim (cases_eq page segm
       )
   | inr other ↦
       let behind : is_among pages segment.start ≡ true = sym (ap (λ b. b || is_among pages segment.start) (ne_eqb page segment.start other)) ∙ there in
-      let low : page < segment.start = among-above page segment.start pages (AllPairs-head (λ one other. one < other) page pages rising) behind in
+      let low : page < segment.start = among-above page segment.start pages (pairs-head (λ one other. one < other) page pages rising) behind in
       let test : lies_in segment.start segment.end page ≡ false = ap (λ b. b && ltb page segment.end) (lt-leb segment.start page low) in
-      let rest = first-page segment pages some (AllPairs-tail (λ one other. one < other) page pages rising) behind in
+      let rest = first-page segment pages some (pairs-tail (λ one other. one < other) page pages rising) behind in
       (rest.0, ap (λ b. cond b (page ∷ filter (lies_in segment.start segment.end) pages) (filter (lies_in segment.start segment.end) pages)) test ∙ rest.1)
 ]
   where
@@ -56,10 +56,6 @@ first-page segment (page ∷ pages) some rising there = elim (cases_eq page segm
 pub starts-pages : (segment : SegmentOf) (m : ℕ) (pages : List ℕ) → map start_of_sheet (page_sheets segment m pages) ≡ pages
 starts-pages segment m [] = refl
 starts-pages segment m (page ∷ later) = ap (λ (ps : List ℕ). page ∷ ps) (starts-pages segment (m + 1) later)
-
-next-pages : (segment : SegmentOf) (m : ℕ) (later : List ℕ) → slice_index_or later 0 segment.end ≡ next_start (page_sheets segment m later) segment.end
-next-pages segment m [] = refl
-next-pages segment m (page ∷ later) = refl
 
 end-within : (front : List ℕ) (p : ℕ) (later : List ℕ) (end : ℕ) → All (λ page. page < end) (front ++ (p ∷ later)) → slice_index_or later 0 end ≤ end
 end-within (f ∷ front) p later end all = end-within front p later end (All-tail (λ page. page < end) f (front ++ (p ∷ later)) all)

@@ -2,7 +2,7 @@
 use Rattle.std.specs.Prelude.{◌≡◌, ℕ, ◌+◌, ◌-◌, ◌<◌, ◌≤◌, ◌==◌, Bool, true, false, ◌&&◌, nat_lt, List, [], ◌∷◌, ◌++◌, map, flat_map, length, drop, All}
 use Rattle.std.specs.Str.{IsUtf8, IsCharBoundary}
 use Rattle.std.proofs.Common.{cond, refl, sym, ap, subst, ◌∙◌, inl, inr, arith, append-nil}
-use Rattle.std.proofs.lemmas.Bool.{cases_lt, and_parts, true≢false}
+use Rattle.std.proofs.lemmas.Bool.{cases_lt, and_parts, true≢false, cond_both}
 use Rattle.std.proofs.lemmas.List.Elements.{All-nil, All-cons, All-head, All-tail, All-append}
 use Rattle.spec_text.specs.Parts.{Parts}
 use Rattle.spec_script.specs.declared.Kind.{Kind}
@@ -29,7 +29,7 @@ use Rattle.spec_script.proofs.SpanLaws.{IsUtf8-text_in}
 use Rattle.spec_script.proofs.LongestRuns.{longest_runs-exist}
 use Rattle.spec_script.proofs.CutEnds.{EndsFit, EndsIn, number_len-ends}
 use Rattle.spec_script.proofs.WindowParts.{window-ends, clip_spans-Parts, clip_runs-RunParts, plain_runs-RunParts}
-use Rattle.spec_script.proofs.LineCuts.{by_test, trimmed-fit, marked-fit, heading-fit, numbered-fit, number-fit, cue-fit, section-fit, listed-fit, value-fit}
+use Rattle.spec_script.proofs.LineCuts.{trimmed-fit, marked-fit, heading-fit, numbered-fit, number-fit, cue-fit, section-fit, listed-fit, value-fit}
 use Rattle.spec_script.proofs.LeftParts.{Stands, left_at, left_to, left_lines-standing}
 use Rattle.spec_script.proofs.StanzaList.{stanza-leads_on}
 
@@ -130,7 +130,7 @@ module _ (texts : List (List ℕ)) (first count : ℕ) where
   heading : (line : Left) → Here line → OfLine line (heading_of line)
   heading line h =
       let n = number_len (drop (heading_skip line) (trimmed line)) in
-      by_test (n == 0) (OfLine line) (text_block kinds.Heading line (inner line (heading_skip line) 0)) (numbered_heading line n)
+      cond_both (n == 0) (text_block kinds.Heading line (inner line (heading_skip line) 0)) (numbered_heading line n) (OfLine line)
       (λ _. one-text kinds.Heading line (inner line (heading_skip line) 0) h (heading-fit line (utf8 line h)))
       (λ other. numbered line n h (some n other) refl)
     where
@@ -228,7 +228,7 @@ module _ (texts : List (List ℕ)) (first count : ℕ) where
       let a = order.0 in
       let b = s.rise.0 in
       let made : BlockOf = record (block_of (listed_kind (trimmed line)) line (map listed_line (members g))) { last = last_place line g.more } in
-      by_test (is_forced_heading (trimmed line)) (λ b. Blocked low (last_place line g.more + 1) (b ∷ [])) (heading_of line) made
+      cond_both (is_forced_heading (trimmed line)) (heading_of line) made (λ b. Blocked low (last_place line g.more + 1) (b ∷ []))
       (λ _. alone low (last_place line g.more + 1) line (heading_of line) b (omega arith) (heading line h))
       (λ _. one low (last_place line g.more + 1) made b a (omega arith)
       (several made line g.more refl refl refl
@@ -265,9 +265,9 @@ module _ (texts : List (List ℕ)) (first count : ℕ) where
       let b = s.rise.2 in
       let other = run_blocks (line ∷ []) in
       let transition = text_block kinds.Transition line (trim_all line.text) in
-      by_test (is_natural_heading (trimmed line)) (Blocked low high) (heading_of line ∷ []) (cond (is_natural_transition line.text) (transition ∷ []) other)
+      cond_both (is_natural_heading (trimmed line)) (heading_of line ∷ []) (cond (is_natural_transition line.text) (transition ∷ []) other) (Blocked low high)
       (λ _. alone low high line (heading_of line) a (omega arith) (heading line h))
-      (λ _. by_test (is_natural_transition line.text) (Blocked low high) (transition ∷ []) other
+      (λ _. cond_both (is_natural_transition line.text) (transition ∷ []) other (Blocked low high)
       (λ _. alone low high line transition a (omega arith) (one-text kinds.Transition line (trim_all line.text) h (trimmed-fit line (utf8 line h))))
       (λ _. runs low high (line ∷ []) s))
   part low high line (next ∷ more) s = runs low high (line ∷ next ∷ more) s
@@ -299,11 +299,11 @@ module _ (texts : List (List ℕ)) (first count : ℕ) where
       let told = block_of kinds.Synopsis line (plain_line line parts.Text (inner line 1 0) ∷ []) in
       let titled = section_of line ∷ [] in
       let synopses = cond (is_synopsis (trimmed line)) (told ∷ []) titled in
-      by_test line.held (Blocked low high) [] (cond (is_page_break (trimmed line)) (break ∷ []) synopses)
+      cond_both {A = List BlockOf} line.held [] (cond (is_page_break (trimmed line)) (break ∷ []) synopses) (Blocked low high)
       (λ _. none low high (omega arith))
-      (λ _. by_test (is_page_break (trimmed line)) (Blocked low high) (break ∷ []) synopses
+      (λ _. cond_both (is_page_break (trimmed line)) (break ∷ []) synopses (Blocked low high)
       (λ _. alone low high line break a b (page_break line))
-      (λ _. by_test (is_synopsis (trimmed line)) (Blocked low high) (told ∷ []) titled
+      (λ _. cond_both (is_synopsis (trimmed line)) (told ∷ []) titled (Blocked low high)
       (λ is. alone low high line told a b (synopsis line h is))
       (λ _. alone low high line (section_of line) a b (section line h))))
 
@@ -312,7 +312,7 @@ module _ (texts : List (List ℕ)) (first count : ℕ) where
       let high = last_place g.first g.more + 1 in
       let order = last-order low high g.first g.more s.rise in
       let a = order.0 in
-      by_test (ends_part g.first) (Blocked low high) (ending_blocks g.first) (part_blocks g.first g.more)
+      cond_both (ends_part g.first) (ending_blocks g.first) (part_blocks g.first g.more) (Blocked low high)
       (λ _. ending low high g.first (All-head Here g.first g.more s.all) s.rise.0 (omega arith))
       (λ _. part low high g.first g.more s)
 
@@ -332,9 +332,9 @@ module _ (texts : List (List ℕ)) (first count : ℕ) where
       let said = line_of line parts.Dialogue (trim_all line.text) in
       let sung = cond (begins 126 (trimmed line)) (line_of line parts.Sung (inner line 1 0)) said in
       let heard = cond (is_parenthetical (trimmed line)) (line_of line parts.Parenthetical (trim_all line.text)) sung in
-      by_test line.held P (line_of line parts.Held (record { from = 0; to = 0 })) heard (λ _. refl)
-      (λ _. by_test (is_parenthetical (trimmed line)) P (line_of line parts.Parenthetical (trim_all line.text)) sung (λ _. refl)
-      (λ _. by_test (begins 126 (trimmed line)) P (line_of line parts.Sung (inner line 1 0)) said (λ _. refl) (λ _. refl)))
+      cond_both line.held (line_of line parts.Held (record { from = 0; to = 0 })) heard P (λ _. refl)
+      (λ _. cond_both (is_parenthetical (trimmed line)) (line_of line parts.Parenthetical (trim_all line.text)) sung P (λ _. refl)
+      (λ _. cond_both (begins 126 (trimmed line)) (line_of line parts.Sung (inner line 1 0)) said P (λ _. refl) (λ _. refl)))
 
   spoken-parts : (line : Left) → Here line → LineParts texts first count (spoken line)
   spoken-parts line h =
@@ -343,11 +343,11 @@ module _ (texts : List (List ℕ)) (first count : ℕ) where
       let said = line_of line parts.Dialogue (trim_all line.text) in
       let sung = cond (begins 126 (trimmed line)) (line_of line parts.Sung (inner line 1 0)) said in
       let heard = cond (is_parenthetical (trimmed line)) (line_of line parts.Parenthetical (trim_all line.text)) sung in
-      by_test line.held P (line_of line parts.Held (record { from = 0; to = 0 })) heard
+      cond_both line.held (line_of line parts.Held (record { from = 0; to = 0 })) heard P
       (λ _. of_line line parts.Held (record { from = 0; to = 0 }) h (λ some. absurd (omega arith)))
-      (λ _. by_test (is_parenthetical (trimmed line)) P (line_of line parts.Parenthetical (trim_all line.text)) sung
+      (λ _. cond_both (is_parenthetical (trimmed line)) (line_of line parts.Parenthetical (trim_all line.text)) sung P
       (λ _. of_line line parts.Parenthetical (trim_all line.text) h (trimmed-fit line u))
-      (λ _. by_test (begins 126 (trimmed line)) P (line_of line parts.Sung (inner line 1 0)) said
+      (λ _. cond_both (begins 126 (trimmed line)) (line_of line parts.Sung (inner line 1 0)) said P
       (λ is. of_line line parts.Sung (inner line 1 0) h (marked-fit line 126 (omega arith) u is))
       (λ _. of_line line parts.Dialogue (trim_all line.text) h (trimmed-fit line u))))
 
@@ -380,7 +380,7 @@ module _ (texts : List (List ℕ)) (first count : ℕ) where
   value : (centred : Bool) (low : ℕ) (line : Left) → Here line → low ≤ line.place → Lined low (line.place + 1) (value_of centred line)
   value centred low line h a =
       let made = line_of line (title_part centred) (value_cut line.text) in
-      by_test (nat_lt (value_cut line.text).from (value_cut line.text).to) (Lined low (line.place + 1)) (made ∷ []) []
+      cond_both (nat_lt (value_cut line.text).from (value_cut line.text).to) (made ∷ []) [] (Lined low (line.place + 1))
       (λ _. record {
         all = All-cons (LineParts texts first count) made [] (of_line line (title_part centred) (value_cut line.text) h (value-fit line.text (utf8 line h))) (All-nil (LineParts texts first count));
         rise = (a, omega arith, omega arith);
@@ -445,9 +445,9 @@ module _ (texts : List (List ℕ)) (first count : ℕ) where
   blocks is_first low high (line ∷ more) s =
       let divided = pieces_blocks (longest_runs one_part (line ∷ more)) in
       let spoken = cond (is_speech line more) (speech_of line more ∷ []) divided in
-      by_test (is_first && title_opens line.text) (Blocked low high) (title_of line more (longest_runs one_key (line ∷ more)) ∷ []) spoken
+      cond_both (is_first && title_opens line.text) (title_of line more (longest_runs one_key (line ∷ more)) ∷ []) spoken (Blocked low high)
       (λ _. title low high line more s)
-      (λ _. by_test (is_speech line more) (Blocked low high) (speech_of line more ∷ []) divided
+      (λ _. cond_both (is_speech line more) (speech_of line more ∷ []) divided (Blocked low high)
       (λ _. speech low high line more s)
       (λ _. division low high (line ∷ more) s))
 

@@ -1,8 +1,8 @@
 -- What each form cuts off a line is ASCII, so what is left of it begins and ends between characters.
-use Rattle.std.specs.Prelude.{◌≡◌, ℕ, ◌+◌, ◌-◌, ◌<◌, ◌≤◌, ◌==◌, Bool, true, false, not, ◌&&◌, nat_lt, nat_le, List, length, drop, slice_index}
+use Rattle.std.specs.Prelude.{◌≡◌, ℕ, ◌+◌, ◌-◌, ◌<◌, ◌≤◌, ◌==◌, true, not, ◌&&◌, nat_lt, nat_le, List, length, drop, slice_index}
 use Rattle.std.specs.Str.{IsUtf8, IsCharBoundary}
-use Rattle.std.proofs.Common.{cond, refl, subst, inl, inr, arith, length-drop}
-use Rattle.std.proofs.lemmas.Bool.{cases_lt, and_parts, ltb-true, eqb-true}
+use Rattle.std.proofs.Common.{cond, subst, inl, inr, arith, length-drop}
+use Rattle.std.proofs.lemmas.Bool.{cases_lt, and_parts, ltb-true, eqb-true, cond_both}
 use Rattle.std.proofs.lemmas.List.Sums.{passes_at_first, prefix_len_passes}
 use Rattle.std.proofs.lemmas.Str.{IsCharBoundary-start, IsCharBoundary-end, IsCharBoundary-after_ascii}
 use Rattle.spec_script.specs.declared.Kind.{Kind}
@@ -17,11 +17,6 @@ use Rattle.spec_script.specs.Speeches.{cue_skip, has_caret}
 use Rattle.spec_script.specs.Divisions.{section_depth, action_cut, cut_as, listed_cut}
 use Rattle.spec_script.proofs.CutEnds.{EndsFit, AsciiFront, AsciiBack, EndsIn, trim-fit, trim_all-ends, inner-fit, front-none, back-none, front-one, back-one, back-drop}
 use Rattle.spec_script.proofs.SpanLaws.{length-slice_range}
-
--- By whether a test passes.
-pub by_test : {X : Type 0} (b : Bool) (P : X → Type 0) (x y : X) → (b ≡ true → P x) → (b ≡ false → P y) → P (cond b x y)
-by_test true P x y h i = h refl
-by_test false P x y h i = i refl
 
 -- All of a line, trimmed.
 pub trimmed-fit : (line : Left) → IsUtf8 line.text → EndsFit line.text (trim_all line.text)
@@ -42,7 +37,7 @@ forced_heading-begins text is = (and_parts (begins 46 text) (begins_alphanumeric
 
 heading-front : (line : Left) → AsciiFront (trimmed line) (heading_skip line)
 heading-front line =
-    by_test (is_forced_heading (trimmed line)) (AsciiFront (trimmed line)) 1 0
+    cond_both {A = ℕ} (is_forced_heading (trimmed line)) 1 0 (AsciiFront (trimmed line))
     (λ is. front-one 46 (trimmed line) (omega arith) (forced_heading-begins (trimmed line) is))
     (λ _. front-none (trimmed line))
 
@@ -75,14 +70,14 @@ forced_cue-begins text is = (and_parts (begins 64 text) (nat_lt 1 (length text))
 
 cue-front : (line : Left) → AsciiFront (trimmed line) (cue_skip line)
 cue-front line =
-    by_test (is_forced_cue (trimmed line)) (AsciiFront (trimmed line)) 1 0
+    cond_both {A = ℕ} (is_forced_cue (trimmed line)) 1 0 (AsciiFront (trimmed line))
     (λ is. front-one 64 (trimmed line) (omega arith) (forced_cue-begins (trimmed line) is))
     (λ _. front-none (trimmed line))
 
 caret-back : (line : Left) → AsciiBack (trimmed line) (cond (has_caret line) 1 0)
 caret-back line =
     let rest = drop (cue_skip line) (trimmed line) in
-    by_test (has_caret line) (AsciiBack (trimmed line)) 1 0
+    cond_both {A = ℕ} (has_caret line) 1 0 (AsciiBack (trimmed line))
     (λ is.
     let some = ltb-true 0 (length rest) (and_parts (nat_lt 0 (length rest)) (slice_index rest (length rest - 1) == 94) is).0 in
     back-drop (trimmed line) (cue_skip line) 1 (omega arith) (back-one 94 rest (omega arith) is))
@@ -106,7 +101,7 @@ action-fit line u some =
     let from = (trim_all line.text).from in
     let to = (trim_all line.text).to in
     let order : from ≤ to = omega arith in (
-      by_test (begins 33 (trimmed line)) (IsCharBoundary line.text) (from + 1) 0
+      cond_both {A = ℕ} (begins 33 (trimmed line)) (from + 1) 0 (IsCharBoundary line.text)
           (λ is.
           let long = ltb-true 0 (length (trimmed line)) (and_parts (nat_lt 0 (length (trimmed line))) (slice_index (trimmed line) 0 == 33) is).0 in
           let size : length (trimmed line) ≡ to - from = length-slice_range line.text from to order bound in
@@ -136,11 +131,11 @@ listed-fit line u =
     let transition = cond (begins 62 t) kinds.Transition lyric in
     let centred = cond (is_centred t) kinds.Centred transition in
     let action = cond (begins 33 t) kinds.Action centred in
-    by_test (is_forced_heading t) P kinds.Heading action (λ is. marked-fit line 46 (omega arith) u (forced_heading-begins t is))
-    (λ _. by_test (begins 33 t) P kinds.Action centred (λ _. action-fit line u)
-    (λ _. by_test (is_centred t) P kinds.Centred transition (λ is. centred-fit line u is)
-    (λ _. by_test (begins 62 t) P kinds.Transition lyric (λ is. marked-fit line 62 (omega arith) u is)
-    (λ _. by_test (begins 126 t) P kinds.Lyric kinds.Action (λ is. marked-fit line 126 (omega arith) u is)
+    cond_both (is_forced_heading t) kinds.Heading action P (λ is. marked-fit line 46 (omega arith) u (forced_heading-begins t is))
+    (λ _. cond_both (begins 33 t) kinds.Action centred P (λ _. action-fit line u)
+    (λ _. cond_both (is_centred t) kinds.Centred transition P (λ is. centred-fit line u is)
+    (λ _. cond_both (begins 62 t) kinds.Transition lyric P (λ is. marked-fit line 62 (omega arith) u is)
+    (λ _. cond_both (begins 126 t) kinds.Lyric kinds.Action P (λ is. marked-fit line 126 (omega arith) u is)
     (λ _. action-fit line u)))))
 
 -- A value of a title page.
@@ -148,7 +143,7 @@ pub value-fit : (text : List ℕ) → IsUtf8 text → EndsFit text (value_cut te
 value-fit text u =
     trim-fit text (record { from = value_from text; to = length text }) u
     (λ some. (
-      by_test (has_key text) (IsCharBoundary text) (colon text + 1) 0
+      cond_both {A = ℕ} (has_key text) (colon text + 1) 0 (IsCharBoundary text)
           (λ is.
           let low = ltb-true (colon text) (length text) (and_parts (not (is_indented text) && nat_lt 0 (colon text)) (nat_lt (colon text) (length text)) is).1 in
           let mark = eqb-true (slice_index text (colon text)) 58 (passes_at_first (λ b. b == 58) text 0 low) in

@@ -1,5 +1,5 @@
 -- What lines answered in order come to, one step after another and seen in another way.
-use Rattle.std.proofs.Common.{◌≡◌, ℕ, zero, suc, List, [], ◌∷◌, ◌++◌, length, take, refl, sym, ap, ◌∙◌, append_assoc, append-nil}
+use Rattle.std.proofs.Common.{◌≡◌, ℕ, List, [], ◌∷◌, ◌++◌, refl, sym, ap, ◌∙◌, append_assoc, append-nil}
 use Rattle.spec_session.specs.Runs.{Answered, Runs, output_of, left_by, steps_seen}
 
 -- One line more.
@@ -17,23 +17,6 @@ left_by-push before (one ∷ steps) step = left_by-push one.after steps step
 pub output_of-push : {R : Type 0} (steps : List (Answered R)) (step : Answered R) → output_of (steps ++ step ∷ []) ≡ output_of steps ++ step.reply
 output_of-push [] step = append-nil step.reply
 output_of-push (one ∷ steps) step = ap (λ l. one.reply ++ l) (output_of-push steps step) ∙ sym (append_assoc one.reply (output_of steps) step.reply)
-
--- There is a step for each line.
-pub length-runs : {R : Type 0} (answers : R → List ℕ → R → List ℕ → Type 0) (before : R) (lines : List (List ℕ)) (steps : List (Answered R))
-    → Runs answers before lines steps → length steps ≡ length lines
-length-runs answers before [] [] runs = refl
-length-runs answers before [] (step ∷ steps) runs = absurd runs
-length-runs answers before (line ∷ lines) [] runs = absurd runs
-length-runs answers before (line ∷ lines) (step ∷ steps) runs = ap (λ n. suc n) (length-runs answers step.after lines steps runs.1)
-
--- The first lines were answered by the first steps.
-pub runs-take : {R : Type 0} (answers : R → List ℕ → R → List ℕ → Type 0) (before : R) (lines : List (List ℕ)) (steps : List (Answered R)) (count : ℕ)
-    → Runs answers before lines steps → Runs answers before (take count lines) (take count steps)
-runs-take answers before lines steps zero runs = tt
-runs-take answers before [] [] (suc count) runs = tt
-runs-take answers before [] (step ∷ steps) (suc count) runs = absurd runs
-runs-take answers before (line ∷ lines) [] (suc count) runs = absurd runs
-runs-take answers before (line ∷ lines) (step ∷ steps) (suc count) runs = (runs.0, runs-take answers step.after lines steps count runs.1)
 
 -- What each answer keeps, all of them keep.
 pub runs-keep : {R : Type 0} (answers : R → List ℕ → R → List ℕ → Type 0) (P : R → Type 0)
@@ -73,15 +56,6 @@ runs-append answers before [] more (step ∷ steps) rest runs later = absurd run
 runs-append answers before (line ∷ lines) more [] rest runs later = absurd runs
 runs-append answers before (line ∷ lines) more (step ∷ steps) rest runs later = (runs.0, runs-append answers step.after lines more steps rest runs.1 later)
 
-pub left_by-append : {R : Type 0} (before : R) (steps rest : List (Answered R)) → left_by before (steps ++ rest) ≡ left_by (left_by before steps) rest
-left_by-append before [] rest = refl
-left_by-append before (step ∷ steps) rest = left_by-append step.after steps rest
-
-pub output_of-append : {R : Type 0} (steps rest : List (Answered R)) → output_of (steps ++ rest) ≡ output_of steps ++ output_of rest
-output_of-append [] rest = refl
-output_of-append (step ∷ steps) rest = ap (λ l. step.reply ++ l) (output_of-append steps rest) ∙ sym (append_assoc step.reply (output_of steps) (output_of rest))
-
--- Steps that answer the lines.
 pub record HasRun {R : Type 0} (answers : R → List ℕ → R → List ℕ → Type 0) (before : R) (lines : List (List ℕ)) : Type 0 where
   pub steps : List (Answered R)
   pub runs : Runs answers before lines steps

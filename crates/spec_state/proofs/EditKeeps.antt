@@ -2,10 +2,9 @@
 use Rattle.std.proofs.Common.{◌≡◌, ℕ, ◌+◌, ◌<◌, ◌≤◌, Bool, true, false, cond, Option, Some, None, List, [], ◌∷◌, ◌++◌, map, length, take, drop, get_or, refl, sym, ap, ap₂, subst, ◌∙◌, arith}
 use Rattle.std.specs.Prelude.{All, IfSome, option_map, is_some}
 use Rattle.std.proofs.lemmas.List.{length-map, get_or-map}
-use Rattle.std.proofs.lemmas.List.Elements.{All-nil, All-cons, All-append}
+use Rattle.std.proofs.lemmas.List.Elements.{All-nil, All-cons, All-append, All-take, All-drop}
 use Rattle.spec_text.specs.Lines.{LineState, TextState}
 use Rattle.spec_text.specs.Edits.{Replacement, stretch, line_ids, lines_put, put_by, changed}
-use Rattle.spec_text.proofs.ListLaws.{take-All, drop-All}
 use Rattle.spec_labels.specs.Labels.{LabelOf, IsLabel, Below}
 use Rattle.spec_labels.specs.Scenes.{SceneRecordOf}
 use Rattle.spec_labels.specs.PageRecords.{PageRecordOf, carried_records}
@@ -35,9 +34,9 @@ put-marks (id ∷ ids) next round (text ∷ texts) =
 pub changed-marks : (text : TextState) (it : Replacement) (round : ℕ) → All (LowMark round) text.lines → All (LowMark round) (changed text it round).lines
 changed-marks text it round all =
     let put = put_by text it round in
-    All-append (LowMark round) (take it.first text.lines) (put ++ drop (it.first + it.old) text.lines) (take-All (LowMark round) it.first text.lines all)
+    All-append (LowMark round) (take it.first text.lines) (put ++ drop (it.first + it.old) text.lines) (All-take (LowMark round) it.first text.lines all)
     (All-append (LowMark round) put (drop (it.first + it.old) text.lines) (put-marks (stretch (line_ids text.lines) it.first it.old) text.next round it.texts)
-    (drop-All (LowMark round) (it.first + it.old) text.lines all))
+    (All-drop (LowMark round) (it.first + it.old) text.lines all))
 
 -- ---- labels
 

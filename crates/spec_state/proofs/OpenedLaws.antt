@@ -3,7 +3,7 @@ use Rattle.std.proofs.Common.{ℕ, ◌+◌, ◌≤◌, List, [], ◌∷◌, arit
 use Rattle.std.specs.Prelude.{All}
 use Rattle.std.proofs.lemmas.List.Elements.{All-nil, All-cons}
 use Rattle.spec_text.specs.Lines.{LineState, IsText, lines_from}
-use Rattle.spec_state.specs.State.{State, opened_state, text_of}
+use Rattle.spec_state.specs.State.{opened_state, text_of}
 use Rattle.spec_state.specs.KeptStates.{IsKept}
 use Rattle.spec_state.specs.Keeping.{IsWhole}
 use Rattle.spec_state.proofs.RulesLaws.{parts-whole}

@@ -2,8 +2,7 @@
 use Rattle.std.proofs.Common.{◌≡◌, ℕ, ◌-◌, ◌≤◌, max, List, [], ◌∷◌, length, get_or, sym, ap, ◌∙◌, arith}
 use Rattle.std.specs.Prelude.{All, fold, slice_range, drop}
 use Rattle.std.proofs.lemmas.List.{length-map, get_or-map}
-use Rattle.std.proofs.lemmas.List.Elements.{All-head, All-tail}
-use Rattle.spec_text.proofs.ListLaws.{take-All, drop-All}
+use Rattle.std.proofs.lemmas.List.Elements.{All-head, All-tail, All-take, All-drop}
 use Rattle.spec_labels.specs.declared.RowKey.{RowKey}
 use Rattle.spec_pages.specs.Rows.{Row}
 use Rattle.spec_layout.specs.Shown.{Shown, mark_of, row_key, no_row}
@@ -49,4 +48,4 @@ fold-low round least (it ∷ rows) low all =
 
 pub greatest-low : (round from to : ℕ) (rows : List Shown) → All (λ (it : Shown). it.mark ≤ round) rows → greatest_mark (slice_range rows from to) ≤ round
 greatest-low round from to rows all =
-    fold-low round 0 (slice_range rows from to) (omega arith) (take-All (λ (it : Shown). it.mark ≤ round) (to - from) (drop from rows) (drop-All (λ (it : Shown). it.mark ≤ round) from rows all))
+    fold-low round 0 (slice_range rows from to) (omega arith) (All-take (λ (it : Shown). it.mark ≤ round) (to - from) (drop from rows) (All-drop (λ (it : Shown). it.mark ≤ round) from rows all))

@@ -3,11 +3,11 @@ use Rattle.std.proofs.Common.{◌≡◌, ◌≢◌, ℕ, ◌<◌, ◌≤◌, tru
 use Rattle.std.specs.Prelude.{All, AllPairs, IfSome, drop, is_some}
 use Rattle.std.proofs.lemmas.Bool.{cases_eq}
 use Rattle.std.proofs.lemmas.List.{length-map}
-use Rattle.std.proofs.lemmas.List.Elements.{All-map}
+use Rattle.std.proofs.lemmas.List.Elements.{All-map, All-drop}
 use Rattle.spec_text.specs.Lines.{LineState, IsText}
 use Rattle.spec_text.specs.EditedLines.{HasIds}
 use Rattle.spec_text.proofs.EditedLaws.{text-HasIds}
-use Rattle.spec_text.proofs.ListLaws.{pairs-map, all-unmap, drop-All}
+use Rattle.spec_text.proofs.ListLaws.{pairs-map, all-unmap}
 use Rattle.spec_text.proofs.RelabelLaws.{relabelled-own}
 use Rattle.spec_labels.specs.PageRecords.{PageRecordOf, InOrder, line_at, end_line}
 use Rattle.spec_labels.specs.Anchors.{spot_of, NotBehind}
@@ -67,7 +67,7 @@ kept-pages state records ids locked are = record {
   locked = λ k d h. (let it = are.each k d h in record { is_label = locked.labels k d h; above = it.above; bounded = it.bounded });
   rising = locked.rising;
   anchored = λ k d h. (let it = are.each k d h in anchored-rule state.round state.next state.lines (get_or records k d) ids it.anchored it.low it.last);
-  order = all-pairs state.next state.lines (drop 1 records) ids (drop-All (anchors.IsAnchored state.lines) 1 records (λ k d h. (are.each k d h).anchored)) are.order;
+  order = all-pairs state.next state.lines (drop 1 records) ids (All-drop (anchors.IsAnchored state.lines) 1 records (λ k d h. (are.each k d h).anchored)) are.order;
 }
 
 -- What every state of a desk keeps is what its record file asks for.
@@ -101,7 +101,7 @@ order-back next lines one other ids first second order = elim second [
 pages-back : (state : State) (records : List PageRecordOf) → HasIds state.next state.lines → AreKeptPages state.round state.lines records → AreLocked records × ArePagesKept state.round state.lines records
 pages-back state records ids are =
     let anchored : All (anchors.IsAnchored state.lines) records = λ k d h. anchored-back state.round state.lines (get_or records k d) (are.anchored k d h) in
-    let rest = drop-All (anchors.IsAnchored state.lines) 1 records anchored in (
+    let rest = All-drop (anchors.IsAnchored state.lines) 1 records anchored in (
       record { some = are.some; labels = λ k d h. (are.locked k d h).is_label; rising = are.rising },
       record {
         few = are.few;

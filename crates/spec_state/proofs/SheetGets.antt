@@ -1,10 +1,9 @@
 -- The sheets of a state by their places.
-use Rattle.std.proofs.Common.{◌≡◌, ℕ, zero, suc, ◌+◌, ◌-◌, ◌<◌, ◌≤◌, List, [], ◌∷◌, ◌++◌, length, map, slice_get, get_or, refl, sym, ap, ◌∙◌, zero-add, arith, length-append}
-use Rattle.std.specs.Prelude.{Option, Some, None, slice_range, slice_index_or, option_map}
+use Rattle.std.proofs.Common.{◌≡◌, ℕ, zero, suc, ◌+◌, ◌-◌, ◌<◌, ◌≤◌, List, [], ◌∷◌, ◌++◌, length, map, slice_get, get_or, refl, sym, ap, ◌∙◌, arith, length-append}
+use Rattle.std.specs.Prelude.{Some, slice_range, slice_index_or, option_map}
 use Rattle.std.proofs.lemmas.List.{length-map}
-use Rattle.spec_labels.specs.PageRecords.{SheetOf}
+use Rattle.spec_text.proofs.ListLaws.{slice_get-front, slice_get-back}
 use Rattle.spec_layout.specs.Shown.{Shown}
-use Rattle.spec_print.specs.Sheets.{Sheet}
 use Rattle.spec_state.specs.State.{State}
 use Rattle.spec_state.specs.StateSheets.{title_sheet, title_sheets, titles_in, title_starts, rows_in, body_sheets, shown_sheet, sheets_of_state}
 
@@ -21,17 +20,6 @@ title_sheets-get titles (page ∷ later) (suc i) inside =
     let next : suc i + 1 ≡ suc (i + 1) = omega arith in
     title_sheets-get titles later i (omega (arith, inside))
     ∙ ap (λ n. Some (title_sheet (slice_range titles (get_or later i 0) (get_or (page ∷ later) n (length titles))))) (sym next)
-
-get-front : {X : Type 0} (xs ys : List X) (i : ℕ) → i < length xs → slice_get (xs ++ ys) i ≡ slice_get xs i
-get-front [] ys i inside = absurd (omega (arith, inside))
-get-front (x ∷ xs) ys zero inside = refl
-get-front (x ∷ xs) ys (suc i) inside = get-front xs ys i (omega (arith, inside))
-
-get-behind : {X : Type 0} (xs ys : List X) (i : ℕ) → slice_get (xs ++ ys) (length xs + i) ≡ slice_get ys i
-get-behind [] ys i = ap (slice_get ys) (zero-add i)
-get-behind (x ∷ xs) ys i =
-    let next : length (x ∷ xs) + i ≡ suc (length xs + i) = omega arith in
-    ap (slice_get (x ∷ xs ++ ys)) next ∙ get-behind xs ys i
 
 get-map : {X Y : Type 0} (f : X → Y) (xs : List X) (i : ℕ) → slice_get (map f xs) i ≡ option_map f (slice_get xs i)
 get-map f [] i = refl
@@ -51,7 +39,7 @@ pub sheets-title : (state : State) (i : ℕ) → i < length (title_starts state)
     → slice_get (sheets_of_state state) i ≡ Some (title_sheet (slice_range (titles_in state) (get_or (title_starts state) i 0) (slice_index_or (title_starts state) (i + 1) (length (titles_in state)))))
 sheets-title state i inside =
     let titles = length-title_sheets (titles_in state) (title_starts state) in
-    get-front (title_sheets (titles_in state) (title_starts state)) (map (shown_sheet (rows_in state)) (body_sheets state)) i (omega (arith, inside, titles))
+    slice_get-front (title_sheets (titles_in state) (title_starts state)) (map (shown_sheet (rows_in state)) (body_sheets state)) i (omega (arith, inside, titles))
     ∙ title_sheets-get (titles_in state) (title_starts state) i inside
 
 -- The sheet at a place behind the title page.
@@ -63,5 +51,5 @@ sheets-body state i behind =
     let count = length-title_sheets (titles_in state) (title_starts state) in
     let at : length titles + (i - length (title_starts state)) ≡ i = omega (arith, behind, count) in
     ap (slice_get (titles ++ body)) (sym at)
-    ∙ get-behind titles body (i - length (title_starts state))
+    ∙ slice_get-back titles body (i - length (title_starts state))
     ∙ get-map (shown_sheet (rows_in state)) (body_sheets state) (i - length (title_starts state))

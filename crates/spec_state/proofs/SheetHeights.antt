@@ -8,7 +8,7 @@ use Rattle.std.proofs.lemmas.Option.{slice_get-get_or, slice_get_past}
 use Rattle.spec_text.specs.Lines.{IsText}
 use Rattle.spec_script.specs.LongestRuns.{last_of}
 use Rattle.spec_pages.specs.declared.Shape.{Shape}
-use Rattle.spec_pages.specs.Pages.{continues_speech, goes_on, carried, height_of}
+use Rattle.spec_pages.specs.Pages.{carried, height_of}
 use Rattle.spec_pages.specs.Pages as pages
 use Rattle.spec_pages.specs.OwnPages.{left_open, AreJoined}
 use Rattle.spec_pages.specs.Rows.{Row, title_shape}

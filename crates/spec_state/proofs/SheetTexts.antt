@@ -201,18 +201,6 @@ body-rows : (lines : List LineState) (labels : Option (List LabelOf)) (elements 
 body-rows lines labels elements round from to all show =
     given-rows (line_texts lines) (unwrap_or labels []) all (page_body round (slice_range (shown_rows lines labels elements) from to)) (page_body-given lines labels elements round from to show)
 
--- The bytes of a sheet with such rows are UTF-8, and so are those of a sheet for omitted pages.
-pub page-utf8 : (lines : List LineState) (labels : Option (List LabelOf)) (elements : List ElementOf) (own : Option SheetLabelOf) (round from to : ℕ) → All IsUtf8 (line_texts lines)
-    → All (RowShows (line_texts lines)) (placed_in elements)
-    → IsUtf8 (sheet_bytes (record { label = own; round = round; rows = page_body round (slice_range (shown_rows lines labels elements) from to) }))
-page-utf8 lines labels elements own round from to all show =
-    let rows = page_body round (slice_range (shown_rows lines labels elements) from to) in
-    sheet-utf8 (record { label = own; round = round; rows = rows }) (body-rows lines labels elements round from to all show)
-
-pub omitted-utf8 : (own : Option SheetLabelOf) (round : ℕ) → IsUtf8 (sheet_bytes (record { label = own; round = round; rows = omitted_rows }))
-omitted-utf8 own round =
-    sheet-utf8 (record { label = own; round = round; rows = omitted_rows }) (given-rows [] [] (All-nil IsUtf8) omitted_rows (omitted-given [] []))
-
 titles-utf8 : (lines : List LineState) (elements : List ElementOf) → All IsUtf8 (line_texts lines) → All (RowShows (line_texts lines)) (placed_in elements)
     → (starts : List ℕ) → All HasText (title_sheets (shown_rows lines None elements) starts)
 titles-utf8 lines elements all show [] = All-nil HasText

@@ -48,10 +48,6 @@ state-rows state is =
     let count = length-map state.lines (λ (line : LineState). line.text) in
     record { places = λ k d h. (let it = show k d h in let low = it.place in omega (arith, low, count)); rise = (layout_of-keys state.speakers (text_of state) is).1 }
 
--- The place of a row's line is that of its key.
-pub key-place : (lines : List LineState) (row : Row) → AllPairs (λ (a b : LineState). a.id ≢ b.id) lines → row.line < length lines → line_at lines (row_key lines row).line ≡ row.line
-key-place lines row distinct inside = place-is lines row.line distinct inside
-
 before-true : (lines : List LineState) (one other : Row) → one.line < length lines → other.line < length lines → AllPairs (λ (a b : LineState). a.id ≢ b.id) lines → KeyBelow one other
     → is_before lines (row_key lines one) (row_key lines other) ≡ true
 before-true lines one other a b distinct below =

@@ -1,6 +1,6 @@
 -- Laws of lists.
-use Rattle.std.proofs.Common.{◌≡◌, ℕ, zero, suc, Bool, true, List, [], ◌∷◌, ◌++◌, map, take, drop, cond, refl, ap, ◌∙◌, arith}
-use Rattle.std.specs.Prelude.{All, AllPairs, filter}
+use Rattle.std.proofs.Common.{◌≡◌, ◌⊎◌, inl, inr, ℕ, zero, suc, ◌+◌, ◌<◌, Bool, true, List, [], ◌∷◌, ◌++◌, map, cond, refl, ap, ◌∙◌, arith, length}
+use Rattle.std.specs.Prelude.{All, AllPairs, Contains, filter, slice_get}
 use Rattle.std.proofs.lemmas.List.Elements.{All-nil, All-cons, All-head, All-tail, All-append, All-map}
 use Rattle.std.proofs.lemmas.List.Kept.{AllPairs-cons}
 
@@ -43,14 +43,39 @@ pairs-unmap {X} R f [] pairs = pairs-none (λ (a b : X). R (f a) (f b))
 pairs-unmap {X} R f (x ∷ xs) pairs =
     AllPairs-cons (λ (a b : X). R (f a) (f b)) x xs (all-unmap (R (f x)) f xs (pairs-head R (f x) (map f xs) pairs)) (pairs-unmap R f xs (pairs-tail R (f x) (map f xs) pairs))
 
+pub pairs-back : {X : Type 0} (R : X → X → Type 0) (xs ys : List X) → AllPairs R (xs ++ ys) → AllPairs R ys
+pairs-back R [] ys pairs = pairs
+pairs-back R (x ∷ xs) ys pairs = pairs-back R xs ys (pairs-tail R x (xs ++ ys) pairs)
+
 -- ---- parts
 
-pub take-All : {X : Type 0} (P : X → Type 0) (n : ℕ) (xs : List X) → All P xs → All P (take n xs)
-take-All P zero xs all = All-nil P
-take-All P (suc n) [] all = all
-take-All P (suc n) (x ∷ xs) all = All-cons P x (take n xs) (All-head P x xs all) (take-All P n xs (All-tail P x xs all))
+pub All-front : {X : Type 0} (P : X → Type 0) (xs ys : List X) → All P (xs ++ ys) → All P xs
+All-front P [] ys all = All-nil P
+All-front P (x ∷ xs) ys all = All-cons P x xs (All-head P x (xs ++ ys) all) (All-front P xs ys (All-tail P x (xs ++ ys) all))
 
-pub drop-All : {X : Type 0} (P : X → Type 0) (n : ℕ) (xs : List X) → All P xs → All P (drop n xs)
-drop-All P zero xs all = all
-drop-All P (suc n) [] all = all
-drop-All P (suc n) (x ∷ xs) all = drop-All P n xs (All-tail P x xs all)
+pub All-back : {X : Type 0} (P : X → Type 0) (xs ys : List X) → All P (xs ++ ys) → All P ys
+All-back P [] ys all = all
+All-back P (x ∷ xs) ys all = All-back P xs ys (All-tail P x (xs ++ ys) all)
+
+pub slice_get-front : {X : Type 0} (xs ys : List X) (k : ℕ) → k < length xs → slice_get (xs ++ ys) k ≡ slice_get xs k
+slice_get-front [] ys k inside = absurd (omega (arith, inside))
+slice_get-front (x ∷ xs) ys zero inside = refl
+slice_get-front (x ∷ xs) ys (suc k) inside = slice_get-front xs ys k (omega (arith, inside))
+
+pub slice_get-back : {X : Type 0} (xs ys : List X) (k : ℕ) → slice_get (xs ++ ys) (length xs + k) ≡ slice_get ys k
+slice_get-back [] ys k = let e : 0 + k ≡ k = omega arith in ap (slice_get ys) e
+slice_get-back (x ∷ xs) ys k =
+    let e : suc (length xs) + k ≡ suc (length xs + k) = omega arith in
+    ap (slice_get (x ∷ (xs ++ ys))) e ∙ slice_get-back xs ys k
+
+-- ---- what stands in a list
+
+pub Contains-first : {X : Type 0} (x y : X) (xs : List X) → x ≡ y → Contains (x ∷ xs) y
+Contains-first x y xs is = (0, omega arith, is)
+
+pub Contains-later : {X : Type 0} (x y : X) (xs : List X) → Contains xs y → Contains (x ∷ xs) y
+Contains-later x y xs (k, within, is) = (suc k, omega (arith, within), is)
+
+pub Contains-either : {X : Type 0} (x y : X) (xs : List X) → Contains (x ∷ xs) y → (x ≡ y) ⊎ Contains xs y
+Contains-either x y xs (zero, within, is) = inl is
+Contains-either x y xs (suc k, within, is) = inr (k, omega (arith, within), is)
