@@ -76,6 +76,17 @@ def clauses():
                 yield f"docs/PROMISES.md cites {word} of {crate}{call}, whose contract hasn't it"
 
 
+def dependencies():
+    """Each crate names in crates.txt those that its files name, and no others."""
+    for line in (TOP / "crates.txt").read_text().splitlines():
+        crate, _, named = line.split("#")[0].partition(":")
+        written = " ".join(path.read_text() for path in sources(".rt", ".antt", below=CRATES / crate)) if named else ""
+        known = {name for found in re.finditer(r"\bRattle\.(\w+)\.|\b(\w+)::", written) for name in found.groups()}
+        for name in named.split():
+            if name not in known:
+                yield f"crates.txt says that {crate} stands on {name}, which none of its files names"
+
+
 def edits():
     for line in (TOP / "crates.txt").read_text().splitlines():
         name = line.split(":")[0]
@@ -97,7 +108,7 @@ def cases():
 
 
 def main():
-    checks = [handles, sizes, sections, names, clauses, edits, cases]
+    checks = [handles, sizes, sections, names, clauses, dependencies, edits, cases]
     return tell("checks", f"{len(checks)} checks", [fault for check in checks for fault in check()])
 
 

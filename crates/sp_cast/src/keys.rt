@@ -12,6 +12,7 @@ pub(crate) struct LabelKey<'a> {
     path: &'a [u32],
 }
 
+/// The number and the steps of this label.
 pub(crate) fn label_key(label: &Label) -> LabelKey<'_>
     ensures { label_of result ≡ label.now }
 {

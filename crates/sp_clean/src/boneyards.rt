@@ -1,5 +1,5 @@
 //! Boneyards, and the sorts of lines (docs/RULES.md, "Boneyards" and "Sorts of lines").
-ghost use Rattle.std.specs.Prelude.{◌≡◌, ◌==◌, ◌<◌, ◌≤◌, ◌&&◌, ◌||◌, length, nat_le, IfOk};
+ghost use Rattle.std.specs.Prelude.{◌≡◌, ◌==◌, ◌<◌, ◌≤◌, ◌&&◌, ◌||◌, length, IfOk};
 ghost use Rattle.std.specs.List.{list_all};
 ghost use Rattle.spec_text.specs.Parts.{Parts};
 ghost use Rattle.spec_script.specs.Marked.{covered, inside_after, turns_at};

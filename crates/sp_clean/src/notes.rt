@@ -4,7 +4,7 @@ ghost use Rattle.std.specs.List.{All, sum_by};
 ghost use Rattle.spec_text.specs.Parts.{Parts};
 ghost use Rattle.spec_script.specs.Marked.{covered, inside_after, open_at, turns_at};
 ghost use Rattle.spec_script.specs.Notes.{note_turns, note_scanned};
-ghost use Rattle.spec_script.specs.Spans.{span_len, runs_left, cut_spans, text_in, place_in};
+ghost use Rattle.spec_script.specs.Spans.{span_len, runs_left, cut_spans};
 
 use sp_forms::parts::{LINE_LIMIT, joined_text, place_of, push_part};
 use spec_text::Span;

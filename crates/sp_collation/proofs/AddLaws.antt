@@ -1,5 +1,5 @@
 -- The next sheet of a list.
-use Rattle.std.proofs.Common.{◌≡◌, inl, inr, ℕ, ◌+◌, ◌-◌, ◌<◌, ◌≤◌, ◌==◌, Bool, true, false, not, cond, List, [], ◌∷◌, ◌++◌, length, take, get_or, refl, ap, ap₂, sym, ◌∙◌, append_assoc, append-nil, length-append, ne_eqb, eqb-true, arith}
+use Rattle.std.proofs.Common.{◌≡◌, inl, inr, ℕ, ◌+◌, ◌-◌, ◌<◌, ◌≤◌, ◌==◌, Bool, true, false, not, cond, List, [], ◌∷◌, ◌++◌, length, take, get_or, refl, ap, ap₂, sym, ◌∙◌, append_assoc, length-append, eqb-true, arith}
 use Rattle.std.specs.Prelude.{Option, Some, None, slice_get}
 use Rattle.std.specs.List.{after_first, slice_split, position_or_len}
 use Rattle.spec_script.specs.Letters.{ends}
@@ -11,10 +11,10 @@ use Rattle.std.proofs.lemmas.Grind.{common_steps}
 use Rattle.std.proofs.lemmas.Option.{slice_get_cases}
 use Rattle.std.proofs.lemmas.Bool.{cases_lt}
 use Rattle.std.proofs.lemmas.List.{take_at}
+use Rattle.std.proofs.lemmas.List.Folds.{list_any_none}
 use Rattle.std.proofs.lemmas.List.Sums.{passes_at_first, fails_before_first, split_at_first}
-use Rattle.spec_collation.proofs.Words.{any-none}
 use Rattle.spec_collation.proofs.ReadingLaws.{HasFirst, has-first}
-use Rattle.sp_collation.specs.Cuts.{IsUncut, IsCut}
+use Rattle.sp_collation.specs.Cuts.{IsCut}
 use Rattle.sp_collation.specs.Collating.{IsNotAdded, IsNotRead, fault_of}
 use Rattle.sp_collation.specs.declared.sheets.SheetFault.{SheetFault}
 use Rattle.sp_collation.specs.declared.sheets.SheetFault.TheVariants as faults
@@ -91,17 +91,6 @@ pub read-broken : (k : ℕ) (list : SheetListOf) (bytes piece behind : List ℕ)
 read-broken k list bytes piece behind cut breaks =
     ap (onto list) (read-cut k (last_label list) bytes piece behind cut ∙ breaks.reads k (λ last. read_pieces (k + 1) last (slice_split (λ b. b == 12) behind)))
 
-pub read-rest : (k : ℕ) (list : SheetListOf) (bytes : List ℕ) → IsUncut (λ b. b == 12) bytes → 0 < length bytes
-    → onto list (read_pieces k (last_label list) (slice_split (λ b. b == 12) bytes)) ≡ broken k
-read-rest k list bytes uncut some =
-    ap (λ (parts : List (List ℕ)). onto list (read_pieces k (last_label list) parts)) uncut.alone
-    ∙ ap (λ b. onto list (cond b (sheets (record { titles = []; labelled = [] })) (broken k))) (ne_eqb (length bytes) 0 (λ e. omega (arith, e, some)))
-
-pub read-end : (k : ℕ) (list : SheetListOf) (bytes : List ℕ) → bytes ≡ [] → onto list (read_pieces k (last_label list) (slice_split (λ b. b == 12) bytes)) ≡ sheets list
-read-end k list bytes none =
-    ap (λ (b : List ℕ). onto list (read_pieces k (last_label list) (slice_split (λ b. b == 12) b))) none
-    ∙ (λ i. sheets (record { titles = append-nil list.titles i; labelled = append-nil list.labelled i }))
-
 pub whole-piece : (bytes piece behind : List ℕ) → IsCut (λ b. b == 12) bytes piece behind → (take (length piece + 1) bytes ≡ piece ++ (12 ∷ [])) × (length piece + 1 ≤ length bytes)
 whole-piece bytes piece behind cut =
     let p : ℕ → Bool = λ b. b == 12 in
@@ -109,7 +98,7 @@ whole-piece bytes piece behind cut =
     let shorter = cut.shorter in
     let within : n < length bytes = elim (cases_lt n (length bytes)) [
       | inl less ↦ less
-      | inr past ↦ absurd (let none = any-none p bytes (λ k d inside. fails_before_first p bytes k d (omega (arith, past, inside))) in let bad : true ≡ false = sym cut.some ∙ none in let no_way : ⊥ = cc in no_way)
+      | inr past ↦ absurd (let none = list_any_none p bytes (λ k d inside. fails_before_first p bytes k d (omega (arith, past, inside))) in let bad : true ≡ false = sym cut.some ∙ none in let no_way : ⊥ = cc in no_way)
     ] in
     let byte : get_or bytes n 0 ≡ 12 = eqb-true (get_or bytes n 0) 12 (passes_at_first p bytes 0 within) in
     let parts : bytes ≡ piece ++ (12 ∷ behind) =

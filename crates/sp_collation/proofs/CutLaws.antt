@@ -5,9 +5,10 @@ use Rattle.std.specs.List.{list_any, position_or_len, before_first, after_first,
 use Rattle.std.proofs.lemmas.Bool.{cases_lt}
 use Rattle.std.proofs.lemmas.List.Sums.{passes_at_first, fails_before_first, split_at_first}
 use Rattle.std.proofs.lemmas.List.Splits.{slice_split_none, slice_split_first}
-use Rattle.spec_collation.proofs.Words.{any-behind, any-none}
+use Rattle.spec_collation.proofs.Words.{any-behind}
 use Rattle.std.specs.Str.{IsUtf8}
 use Rattle.std.proofs.lemmas.List.{drop_more, take_rest, take-append-drop}
+use Rattle.std.proofs.lemmas.List.Folds.{list_any_none}
 use Rattle.spec_labels.specs.Labels.{LabelOf}
 use Rattle.spec_labels.specs.LabelReading.{IsReading, label_read}
 use Rattle.spec_labels.proofs.LabelBytes.{label-utf8}
@@ -52,7 +53,7 @@ cut-none p bytes is =
       | inl less ↦ absurd (let bad : Some n ≡ None = sym (ap (λ b. cond b (Some n) None) (lt-ltb n (length bytes) less)) ∙ is in let no_way : ⊥ = cc in no_way)
       | inr past ↦ λ k d within. fails_before_first p bytes k d (omega (arith, past, within))
     ] in
-    record { none = any-none p bytes all; alone = slice_split_none p bytes all }
+    record { none = list_any_none p bytes all; alone = slice_split_none p bytes all }
 
 -- The last word of a header.
 last-some : (xs ys word : List ℕ) → last_word ys ≡ Some word → last_word (xs ++ ys) ≡ Some word

@@ -2,7 +2,7 @@
 use Rattle.std.specs.Prelude.{◌≡◌, ℕ, ◌-◌, List, ◌++◌, length, slice_get, Option, Some, None}
 use Rattle.spec_labels.specs.Labels.{LabelOf}
 use Rattle.spec_collation.specs.SheetLists.{PrintedOf, SheetListOf}
-use Rattle.spec_collation.specs.SheetReadings.{SheetsReading, sheets, broken, kind_of, read_piece, sheets_in}
+use Rattle.spec_collation.specs.SheetReadings.{SheetsReading, sheets, broken, kind_of, read_piece}
 
 -- The last label of sheets, where one has labels.
 abbrev pub last_of_sheet : Option PrintedOf → Option LabelOf
@@ -24,7 +24,3 @@ pub record Adds (old : SheetListOf) (piece : List ℕ) (new : SheetListOf) : Typ
 -- A piece is no next sheet.
 pub record Breaks (old : SheetListOf) (piece : List ℕ) : Type 0 where
   pub reads : (k : ℕ) (later : Option LabelOf → SheetsReading) → read_piece k (last_label old) piece (kind_of piece) later ≡ broken k
-
--- Bytes were read as this list.
-pub record IsRead (bytes : List ℕ) (list : SheetListOf) : Type 0 where
-  pub is : sheets_in bytes ≡ sheets list

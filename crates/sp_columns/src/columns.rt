@@ -1,6 +1,6 @@
 //! Where the rows of a line stand.
 ghost use Rattle.std.specs.Prelude.{◌≡◌, ◌<◌};
-ghost use Rattle.spec_pages.specs.Columns.{centred_column, column_of, ending_column, first_lead, has_rows, own_column, own_width, row_kind, text_column, text_row_kind, text_width, width_of};
+ghost use Rattle.spec_pages.specs.Columns.{centred_column, column_of, ending_column, first_lead, has_rows, own_column, own_width, row_kind, text_column, text_row_kind, width_of};
 
 use spec_pages::{RowKind, Side};
 use spec_script::{Kind, Part};

@@ -1,6 +1,5 @@
 //! The rows of blocks by themselves and of dual dialogue.
-ghost use Rattle.std.specs.Prelude.{◌≡◌, ◌+◌, ◌*◌, ◌^◌, ◌<◌, ◌≤◌, length, map, max, IfOk, OnOk};
-ghost use Rattle.spec_text.specs.Limits.{line_count_limit};
+ghost use Rattle.std.specs.Prelude.{◌≡◌, ◌+◌, ◌^◌, ◌<◌, ◌≤◌, length, map, max, IfOk, OnOk};
 ghost use Rattle.spec_text.specs.Lines.{line_texts};
 ghost use Rattle.spec_script.specs.BlockParts.{BlockLies};
 ghost use Rattle.spec_pages.specs.Rows.{block_alone, blocks_beside, dual_rows, half_row, is_title, joined_row, joined_rows, lead_at, number_cell, numbered_cells, shaped_row, shaped_rows, single_rows, title_row, with_number};

@@ -1,5 +1,5 @@
 //! Rows that end a sentence.
-ghost use Rattle.std.specs.Prelude.{◌≡◌, ◌++◌, false, fold};
+ghost use Rattle.std.specs.Prelude.{◌≡◌, false, fold};
 ghost use Rattle.std.specs.Str.{chars};
 ghost use Rattle.spec_script.specs.Runs.{RunParts};
 ghost use Rattle.spec_pages.specs.Sentences.{is_closing, is_stop, ends_sentence, shown_chars};

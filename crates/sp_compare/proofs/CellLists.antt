@@ -1,18 +1,13 @@
 -- Parts and cells, compared one by one.
-use Rattle.std.proofs.Common.{◌≡◌, ◌≢◌, ℕ, zero, suc, ◌+◌, ◌-◌, ◌<◌, ◌≤◌, Bool, true, false, cond, List, [], ◌∷◌, length, map, drop, get_or, eq-eqb, ne_eqb, refl, sym, ap, ap₂, subst, ◌∙◌, arith}
+use Rattle.std.proofs.Common.{◌≡◌, ◌≢◌, ℕ, zero, suc, ◌+◌, ◌-◌, ◌<◌, ◌≤◌, Bool, true, false, cond, List, [], ◌∷◌, length, map, drop, get_or, eq-eqb, ne_eqb, refl, sym, ap, subst, ◌∙◌, arith}
 use Rattle.std.specs.Prelude.{not, nat_eq, ◌&&◌, All}
 use Rattle.std.proofs.lemmas.List.{drop_more, drop_all, get_or-map, length-map}
-use Rattle.spec_script.specs.declared.Run.{Run}
 use Rattle.spec_pages.specs.Rows.{Cell, shifted_cell}
-use Rattle.spec_layout.specs.Cells.{ShownCell, ShownPart, continued, fixed_cell, shown_cell, shown_part, text_at, without_numbers}
+use Rattle.spec_layout.specs.Cells.{ShownCell, ShownPart, shown_cell, without_numbers}
 use Rattle.spec_state.specs.SameRows.{same_cells, same_part, same_parts}
-use Rattle.sp_compare.specs.BareRows.{bare_cells, own_runs, own_text, whole}
+use Rattle.sp_compare.specs.BareRows.{bare_cells}
 
 -- ---- parts
-
-pub parts-step : (f g : Run → ShownPart) (xs ys : List Run) (i : ℕ) (d e : Run) → i < length xs → i < length ys
-    → same_parts (map f (drop i xs)) (map g (drop i ys)) ≡ (same_part (f (get_or xs i d)) (g (get_or ys i e)) && same_parts (map f (drop (i + 1) xs)) (map g (drop (i + 1) ys)))
-parts-step f g xs ys i d e here there = ap₂ (λ (us vs : List Run). same_parts (map f us) (map g vs)) (drop_more xs i d here) (drop_more ys i e there)
 
 pub parts-differ : (xs ys : List ShownPart) → length xs ≢ length ys → same_parts xs ys ≡ false
 parts-differ [] [] ne = absurd (ne refl)
@@ -24,19 +19,6 @@ parts-differ (x ∷ xs) (y ∷ ys) ne = ap (λ b. same_part x y && b) (parts-dif
     and-false true = refl
     and-false false = refl
 
--- What a cell shows, by its own text and parts.
-pub cell-own : (texts : List (List ℕ)) (first : ℕ) (cell : Cell)
-    → shown_cell texts (shifted_cell first cell) ≡ (let it : ShownCell = record { column = cell.column; parts = map (shown_part (own_text texts first cell)) (own_runs cell) } in it)
-cell-own texts first cell = by cell.fixed
-  where
-    by : (fixed : Bool) → cond fixed (fixed_cell cell.column continued) (record { column = cell.column; parts = map (shown_part (text_at texts (first + cell.line))) cell.runs })
-        ≡ (let it : ShownCell = record { column = cell.column; parts = map (shown_part (cond fixed continued (text_at texts (first + cell.line)))) (cond fixed (whole ∷ []) cell.runs) } in it)
-    by true = refl
-    by false = refl
-
--- ---- cells
-
--- Written numbers are left out before cells are shown.
 pub bare-is : (texts : List (List ℕ)) (first : ℕ) (cells : List Cell) → bare_cells texts first cells ≡ map (λ (cell : Cell). shown_cell texts (shifted_cell first cell)) (without_numbers cells)
 bare-is texts first [] = refl
 bare-is texts first (cell ∷ cells) = by (bare-is texts first cells) cell.number
@@ -46,11 +28,6 @@ bare-is texts first (cell ∷ cells) = by (bare-is texts first cells) cell.numbe
         ≡ map (λ (it : Cell). shown_cell texts (shifted_cell first it)) (cond (not number) (cell ∷ without_numbers cells) (without_numbers cells))
     by rest true = rest
     by rest false = ap (λ (those : List ShownCell). shown_cell texts (shifted_cell first cell) ∷ those) rest
-
-pub numbers-none : (cells : List Cell) (i : ℕ) (d : Cell) → i < length cells → (get_or cells i d).number ≡ true → without_numbers (drop i cells) ≡ without_numbers (drop (i + 1) cells)
-numbers-none cells i d inside number =
-    ap without_numbers (drop_more cells i d inside)
-    ∙ ap (λ (b : Bool). cond (not b) (get_or cells i d ∷ without_numbers (drop (i + 1) cells)) (without_numbers (drop (i + 1) cells))) number
 
 pub numbers-one : (cells : List Cell) (i : ℕ) (d : Cell) → i < length cells → (get_or cells i d).number ≡ false → without_numbers (drop i cells) ≡ get_or cells i d ∷ without_numbers (drop (i + 1) cells)
 numbers-one cells i d inside number =

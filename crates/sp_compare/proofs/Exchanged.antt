@@ -15,13 +15,6 @@ exchanged-before xs first old new k d within less =
     let size = front-size xs first within in
     get_or-append (take first xs) (new ++ drop (first + old) xs) d k (omega (arith, size, less)) ∙ get_or-take first xs k d less
 
-pub exchanged-inside : {X : Type 0} (xs : List X) (first old : ℕ) (new : List X) (k i : ℕ) (d : X) → first ≤ length xs → i < length new → k ≡ first + i → get_or (exchanged xs first old new) k d ≡ get_or new i d
-exchanged-inside xs first old new k i d within less is =
-    let size = front-size xs first within in
-    let e : k ≡ length (take first xs) + i = omega (arith, size, is) in
-    ap (λ n. get_or (exchanged xs first old new) n d) e
-    ∙ get_or-append-add (take first xs) (new ++ drop (first + old) xs) i d ∙ get_or-append new (drop (first + old) xs) d i less
-
 pub exchanged-behind : {X : Type 0} (xs : List X) (first old : ℕ) (new : List X) (k i : ℕ) (d : X) → first ≤ length xs → k ≡ first + (length new + i) → get_or (exchanged xs first old new) k d ≡ get_or xs (first + old + i) d
 exchanged-behind xs first old new k i d within is =
     let size = front-size xs first within in
@@ -42,12 +35,6 @@ pub old-before : (lines gone : List LineState) (first stands place : ℕ) → fi
 old-before lines gone first stands place within less =
     let size = many lines in
     ap (λ (texts : List (List ℕ)). text_at texts place) (texts-exchanged lines gone first stands) ∙ exchanged-before (line_texts lines) first stands (line_texts gone) place [] (omega (arith, within, size)) less
-
-pub old-inside : (lines gone : List LineState) (first stands place i : ℕ) → first ≤ length lines → i < length gone → place ≡ first + i → text_at (line_texts (exchanged lines first stands gone)) place ≡ text_at (line_texts gone) i
-old-inside lines gone first stands place i within less is =
-    let size = many lines in
-    let count = many gone in
-    ap (λ (texts : List (List ℕ)). text_at texts place) (texts-exchanged lines gone first stands) ∙ exchanged-inside (line_texts lines) first stands (line_texts gone) place i [] (omega (arith, within, size)) (omega (arith, less, count)) is
 
 pub old-behind : (lines gone : List LineState) (first stands place i : ℕ) → first ≤ length lines → place ≡ first + (length gone + i) → text_at (line_texts (exchanged lines first stands gone)) place ≡ text_at (line_texts lines) (first + stands + i)
 old-behind lines gone first stands place i within is =

@@ -1,10 +1,10 @@
 -- Rows of elements of which some made way for others.
 use Rattle.std.proofs.Common.{◌≡◌, ℕ, zero, suc, ◌+◌, ◌-◌, ◌<◌, ◌≤◌, List, [], ◌∷◌, ◌++◌, length, map, take, drop, get_or, refl, sym, ap, ap₂, subst, ◌∙◌, arith, length-append, length-drop, take_at, drop_at, take-append-drop}
 use Rattle.std.proofs.Math.ListN.{get_or-append}
-use Rattle.std.proofs.lemmas.List.{drop-drop, drop-take, take-take, get_or-append-add, get_or-append_right, get_or-drop, get_or-map, length-map, length-take-le, map-append}
+use Rattle.std.proofs.lemmas.List.{drop-drop, drop-take, take-take, get_or-append-add, get_or-drop, get_or-map, length-map, length-take-le, map-append}
 use Rattle.std.specs.Prelude.{slice_range, All}
 use Rattle.spec_text.specs.Lines.{LineState}
-use Rattle.spec_pages.specs.Rows.{Row, ElementOf, placed_rows, shifted_row}
+use Rattle.spec_pages.specs.Rows.{Row, ElementOf, shifted_row}
 use Rattle.spec_labels.specs.declared.RowKey.{RowKey}
 use Rattle.spec_layout.specs.Layout.{placed_in}
 use Rattle.spec_state.specs.SameRows.{BareRow}

@@ -1,7 +1,7 @@
 -- Rows, compared one by one.
 use Rattle.std.proofs.Common.{◌≡◌, ◌≢◌, ℕ, zero, suc, ◌+◌, ◌-◌, ◌<◌, ◌≤◌, Bool, true, false, Option, List, [], ◌∷◌, ◌++◌, length, map, take, drop, get_or, refl, sym, ap, ap₂, ◌∙◌, arith, length-drop}
 use Rattle.std.specs.Prelude.{◌&&◌, nat_eq, slice_range}
-use Rattle.std.proofs.lemmas.Bool.{and_left, and_right}
+use Rattle.std.proofs.lemmas.Bool.{and_left}
 use Rattle.std.proofs.lemmas.List.{drop_more, get_or-map, length-map, length-take, map-append}
 use Rattle.spec_text.specs.Lines.{LineState, line_texts}
 use Rattle.spec_pages.specs.Rows.{Row, ElementOf, placed_rows, shifted_row}
@@ -78,9 +78,6 @@ slice-more {X = X} xs from to d order within =
     let e : to - from ≡ suc (to - (from + 1)) = omega (arith, order) in
     ap (λ n. take n (drop from xs)) e ∙ ap (take (suc (to - (from + 1)))) (drop_more xs from d (omega (arith, order, within)))
 
-pub slice-none : {X : Type 0} (xs : List X) (from to : ℕ) → to ≤ from → slice_range xs from to ≡ []
-slice-none xs from to past = let e : to - from ≡ 0 = omega (arith, past) in ap (λ n. take n (drop from xs)) e
-
 pub rows-step : (old new : List LineState) (olds news : List ElementOf) (from to start end : ℕ) (d : Row) → from < to → to ≤ length (placed_in olds) → start < end → end ≤ length (placed_in news)
     → same_list (bare_rows old olds from to) (bare_rows new news start end)
     ≡ (same_row (bare_row old (get_or (placed_in olds) from d)) (bare_row new (get_or (placed_in news) start d)) && same_list (bare_rows old olds (from + 1) to) (bare_rows new news (start + 1) end))
@@ -101,17 +98,6 @@ bare-at lines body row first it key d laid inside there keyed =
 
 pub other-key : (one other : BareRow) → same_key one.key other.key ≡ false → same_row one other ≡ false
 other-key one other differ = and_left (same_key one.key other.key) (same_shape one.shape other.shape && (nat_eq one.mark other.mark && same_cells one.cells other.cells)) differ
-
-pub other-shape : (one other : BareRow) → same_shape one.shape other.shape ≡ false → same_row one other ≡ false
-other-shape one other differ =
-    let rest = nat_eq one.mark other.mark && same_cells one.cells other.cells in
-    and_right (same_key one.key other.key) (same_shape one.shape other.shape && rest) (and_left (same_shape one.shape other.shape) rest differ)
-
-pub other-mark : (one other : BareRow) → nat_eq one.mark other.mark ≡ false → same_row one other ≡ false
-other-mark one other differ =
-    let rest = nat_eq one.mark other.mark && same_cells one.cells other.cells in
-    and_right (same_key one.key other.key) (same_shape one.shape other.shape && rest)
-    (and_right (same_shape one.shape other.shape) rest (and_left (nat_eq one.mark other.mark) (same_cells one.cells other.cells) differ))
 
 pub by-cells : (one other : BareRow) → same_key one.key other.key ≡ true → same_shape one.shape other.shape ≡ true → nat_eq one.mark other.mark ≡ true → same_row one other ≡ same_cells one.cells other.cells
 by-cells one other key shape mark =

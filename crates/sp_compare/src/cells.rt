@@ -1,5 +1,5 @@
 //! Cells of rows, compared.
-ghost use Rattle.std.specs.Prelude.{◌≡◌, ◌+◌, ◌<◌, ◌≤◌, ◌∷◌, [], All, drop, false, if◌then◌else◌, length, map, slice_index_or};
+ghost use Rattle.std.specs.Prelude.{◌≡◌, ◌+◌, ◌<◌, ◌≤◌, All, drop, false, length, map, slice_index_or};
 ghost use Rattle.spec_text.specs.Lines.{line_texts};
 ghost use Rattle.spec_text.specs.Parts.{Lies};
 ghost use Rattle.spec_script.specs.Runs.{RunParts, span_of};

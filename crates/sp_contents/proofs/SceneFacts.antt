@@ -1,6 +1,6 @@
 -- What the headings and the records of a state are.
 use Rattle.std.proofs.Common.{◌≡◌, List, Option, Some, None, length, filter, refl, sym, ◌∙◌, subst}
-use Rattle.std.specs.Prelude.{All, AllPairs, IfSome, option_map}
+use Rattle.std.specs.Prelude.{All, AllPairs, IfSome}
 use Rattle.std.proofs.lemmas.List.{length-map}
 use Rattle.spec_text.specs.Lines.{TextState, IsText, line_texts}
 use Rattle.spec_script.specs.Stanzas.{PlacedBlock, blocks_of}
@@ -15,11 +15,6 @@ use Rattle.spec_state.specs.Keeping.{IsWhole}
 use Rattle.spec_state.proofs.StateLaws.{state-AreSceneRecords}
 use Rattle.spec_machine.specs.Outlines.{scenes_of}
 use Rattle.sp_entries.proofs.Counts.{label-count, gone-rising}
-
--- The records of a state, as values of the program show them.
-pub records-are : {V : Type 0} (items : V → List SceneRecordOf) (state : State) (o : Option V) → IsWhole state → option_map items o ≡ state.scenes → IfSome o (λ those. AreSceneRecords (items those))
-records-are items state None whole is = tt
-records-are items state (Some those) whole is = state-AreSceneRecords state (items those) whole (sym is)
 
 scenes-are : (state : State) (o : Option (List SceneRecordOf)) → IsWhole state → state.scenes ≡ o → IfSome o AreSceneRecords
 scenes-are state None whole is = tt

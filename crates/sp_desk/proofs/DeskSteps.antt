@@ -1,6 +1,6 @@
 -- What the calls of a script make of a desk are the steps of its machine.
 use Rattle.std.proofs.Common.{◌≡◌, ℕ, ◌<◌, ◌==◌, Bool, false, Option, Some, None, Result, Ok, Err, List, [], ◌∷◌, ◌++◌, length, get_or, refl, sym, ap, subst, ◌∙◌, arith}
-use Rattle.std.specs.Prelude.{All, option_map, is_some, nat_le, slice_get}
+use Rattle.std.specs.Prelude.{All, option_map, nat_le, slice_get}
 use Rattle.std.proofs.lemmas.List.{length-append}
 use Rattle.std.proofs.Math.Seq.{get_or-append_seam}
 use Rattle.std.proofs.lemmas.Bool.Decides.{nat_tests}
@@ -8,25 +8,24 @@ use Rattle.std.proofs.lemmas.Option.{slice_get_within}
 use Rattle.spec_text.specs.Lines.{IsText}
 use Rattle.spec_text.specs.Edits.{EditOf, Replacement, replacement_of, refusal_of}
 use Rattle.spec_text.specs.Ranges.{RangeOf, range_of}
-use Rattle.spec_pages.specs.declared.Paper.{Paper}
 use Rattle.spec_state.specs.State.{State, text_of}
 use Rattle.spec_state.specs.Changes.{text_after, edited_state}
 use Rattle.spec_state.specs.Openings.{scenes_locked, pages_locked, round_begun}
 use Rattle.spec_state.specs.Keeping.{IsWhole}
 use Rattle.spec_state.specs.StateSheets.{sheets_of_state}
 use Rattle.spec_print.specs.Sheets.{Sheet}
-use Rattle.spec_wire.specs.Commands.{CommandOf, edit, undo, redo, lock_scenes, lock_pages, next_round, sheet, speakers, paper}
+use Rattle.spec_wire.specs.Commands.{CommandOf, edit, undo, redo, lock_scenes, lock_pages, next_round, sheet}
 use Rattle.spec_wire.specs.Replies as replies
 use Rattle.spec_wire.specs.Replies.{RefusalOf, refused, nothing_to_undo, nothing_to_redo, no_sheet}
 use Rattle.spec_machine.specs.Machine.{EntryOf, Memory, opened_memory, last_entry, without_last, entry_of, edited_memory, undone_to, redone_to, memory_after, Accepts}
 use Rattle.spec_machine.specs.KeptMemories.{IsEntry, IsWholeMemory}
-use Rattle.spec_machine.specs.Refusals.{refusal_to, edit_refusal, reason_if, scenes_refusal, pages_refusal, round_refusal, setting_refusal}
+use Rattle.spec_machine.specs.Refusals.{refusal_to, edit_refusal, reason_if, scenes_refusal, pages_refusal, round_refusal}
 use Rattle.spec_machine.specs.Answers.{Step, step_by, step_of, accepted_reply, found_sheet, sheet_reply}
-use Rattle.spec_machine.proofs.MachineLaws.{opened-whole, step-whole}
+use Rattle.spec_machine.proofs.MachineLaws.{step-whole}
 use Rattle.spec_machine.proofs.StepLaws.{Keeps, free-Accepts, same-Keeps, step-Keeps}
 use Rattle.spec_locked_pages.specs.Chains.{AreLinked}
 use Rattle.spec_locked_pages.specs.Promises.{KeepsPages}
-use Rattle.spec_locked_pages.proofs.ChainLaws.{opened-linked, step-linked}
+use Rattle.spec_locked_pages.proofs.ChainLaws.{step-linked}
 use Rattle.spec_locked_pages.proofs.PageLaws.{command-keeps, unchanged-keeps}
 use Rattle.spec_machine.proofs.RefusalLaws.{free-scenes, free-pages, free-round}
 use Rattle.sp_state.specs.Entries.{EntryState, undone_state, redone_state, done_range, undone_range, CanUndo, CanRedo, LeadsBack, LeadsForth}
@@ -157,12 +156,6 @@ undo-step old new done undone entry again desk is leads range =
       };
     }
 
-pub nothing-undone : (state : State) (done undone : List EntryState) → done ≡ [] → step_to (memory_by state done undone) (refused nothing_to_undo) ≡ step_of (memory_by state done undone) undo
-nothing-undone state done undone none =
-    refused-step (memory_by state done undone) undo nothing_to_undo (ap (λ (es : List EntryState). reason_if (length (entries_by undone_state done_range state es) == 0) nothing_to_undo) none)
-
--- ---- redo
-
 redone-memory : (old new : State) (done undone : List EntryState) (entry again : EntryState) → new ≡ redone_state old entry → LeadsBack old new again → done_range again ≡ undone_range entry
     → memory_by new (done ++ again ∷ []) undone ≡ memory_after (memory_by old done (undone ++ entry ∷ [])) redo
 redone-memory old new done undone entry again is leads range =
@@ -185,12 +178,6 @@ redo-step old new done undone entry again desk is leads range =
         can_redo = subst (λ (s : State). CanTurnAll CanRedo redone_state s undone) (sym is) (can-front CanRedo redone_state old undone entry desk.can_redo);
       };
     }
-
-pub nothing-redone : (state : State) (done undone : List EntryState) → undone ≡ [] → step_to (memory_by state done undone) (refused nothing_to_redo) ≡ step_of (memory_by state done undone) redo
-nothing-redone state done undone none =
-    refused-step (memory_by state done undone) redo nothing_to_redo (ap (λ (es : List EntryState). reason_if (length (entries_by redone_state undone_range state es) == 0) nothing_to_redo) none)
-
--- ---- the lists as the journal has them
 
 pub edited-step : (old new : State) (done undone dones undones : List EntryState) (entry : EntryState) (it : EditOf) → IsDesk old done undone → refusal_of (text_of old) it ≡ None
     → new ≡ edited_state old (replacement_of old.lines it) → IsText (text_of new) → LeadsBack old new entry → done_range entry ≡ range_of (replacement_of old.lines it) → dones ≡ done ++ entry ∷ [] → undones ≡ []
@@ -316,23 +303,6 @@ pub round-step : (old new : State) (done undone dones undones : List EntryState)
     → IsStep (memory_by old done undone) next_round new dones undones
 round-step old new done undone dones undones desk free is first second =
     emptied old new done undone dones undones next_round first second (opening-step old new done undone next_round desk free (free-round old free) (ap opened_memory is))
-
--- Pages aren't locked.
-free-setting : (state : State) → state.pages ≡ None → setting_refusal state ≡ None
-free-setting state none = ap (λ pages. reason_if (is_some pages) replies.pages_locked) none
-
-pub speakers-step : (old new : State) (done undone dones undones : List EntryState) (on : Bool) → IsDesk old done undone → old.pages ≡ None → new ≡ record old { speakers = on } → dones ≡ [] → undones ≡ []
-    → IsStep (memory_by old done undone) (speakers on) new dones undones
-speakers-step old new done undone dones undones on desk none is first second =
-    emptied old new done undone dones undones (speakers on) first second (opening-step old new done undone (speakers on) desk (free-setting old none) none (ap opened_memory is))
-
-pub paper-step : (old new : State) (done undone dones undones : List EntryState) (size : Paper) → IsDesk old done undone → old.pages ≡ None → new ≡ record old { paper = size } → dones ≡ [] → undones ≡ []
-    → IsStep (memory_by old done undone) (paper size) new dones undones
-paper-step old new done undone dones undones size desk none is first second =
-    emptied old new done undone dones undones (paper size) first second (opening-step old new done undone (paper size) desk (free-setting old none) none (ap opened_memory is))
-
-pub opened-desk : (state : State) → IsWhole state → IsDesk state [] []
-opened-desk state whole = record { whole = opened-whole state whole; linked = opened-linked state; can_undo = tt; can_redo = tt }
 
 -- What refuses a lock or a round is told.
 pub refused-opening : (memory : Memory) (command : CommandOf) (fault : OpeningFault) → IsReason (refusal_to memory command) fault → IsAnswer memory command memory (Err (opening_fault_of fault))

@@ -109,11 +109,12 @@ impl Desk {
     }
 
     /// Answers a command, as the machine does: what it makes of the memory, and the reply; a refusal is a fault and never
-    /// `Reply::Refused`. NoMemory may come in place of any answer, and then nothing is changed. An edit lays out anew the part
-    /// of the text that it changes, and a setting the whole text; the other commands, undo, redo, locks and rounds among them,
-    /// lay out nothing (docs/RULES.md, "The desk"). An edit reads each stanza of its window once and fills each page of its page window once, a change of the
-    /// paper fills each page on the new one once, and no other command reads a stanza or fills a page (docs/RULES.md,
-    /// "Windows"). No command loses a locked label, and an accepted lock of pages or a new round leaves the bytes of every
+    /// `Reply::Refused`. `Save` and `Packet` are refused UnknownCommand, since a session answers them itself. NoMemory may come
+    /// in place of any answer. On a fault nothing is changed. An edit lays out anew the part of the text that it changes, and a
+    /// setting the whole text; the other commands, undo, redo, locks and rounds among them, lay out nothing (docs/RULES.md, "The
+    /// desk"). An edit reads each stanza of its window once and fills each page of its page window once, a change of the paper
+    /// fills each page on the new one once, and no other command reads a stanza or fills a page (docs/RULES.md, "Windows"). No
+    /// command loses a locked label, and an accepted lock of pages or a new round leaves the bytes of every
     /// sheet as they were (docs/RULES.md, "Page records" and "Scene numbers"). An edit keeps the bytes of each locked page
     /// that it leaves alone, and so do all edits that can be undone, from each of them on (docs/RULES.md, "Windows").
     pub fn apply<S: Steps>(

@@ -48,7 +48,8 @@ pub fn is_packet(command: &Command) -> bool
     matches!(command, Command::Packet)
 }
 
-/// The packet of the present state, or the refusal where pages aren't locked (docs/RULES.md, "Packets").
+/// The packet of the present state, or the refusal where pages aren't locked (docs/RULES.md, "Packets"). `AllocError` comes for
+/// want of memory alone.
 pub fn packet_reply(alloc: Global, desk: &Desk) -> Result<Reply, AllocError>
     ensures { IfOk result (λ reply. reply_of reply ≡ packet_reply (desk.now).state) }
 {

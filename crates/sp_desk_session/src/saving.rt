@@ -9,7 +9,9 @@ use sp_kit::Shelf;
 use sp_opening::save;
 use std::alloc::{AllocError, Global};
 
-/// Stores the present state of a desk, and answers the digest of its text, or that a store failed.
+/// Stores the present state of a desk, and answers the digest of its text, or refuses `Shelf` where a store failed: then the
+/// shelf's count rose. `AllocError` comes for want of memory: then under each of both names stands what stood there or what was to be
+/// stored, or the count rose. Other names keep what they have.
 pub fn save_desk<F: Shelf>(
     alloc: Global,
     name: &str,

@@ -18,7 +18,8 @@ use sp_session::session;
 use sp_words::{Origin, Status};
 use std::alloc::Global;
 
-/// The desk of the script that the shelf has under a name, with the records beside it.
+/// The desk of the script that the shelf has under a name, with the records beside it. An error is the status that the form ends
+/// with (docs/RULES.md, "The program"). The source is not read, and what the shelf holds stays.
 pub fn open_desk<I: Source, F: Shelf, S: Steps>(
     alloc: Global,
     name: &str,
@@ -39,7 +40,8 @@ pub fn open_desk<I: Source, F: Shelf, S: Steps>(
     Ok(desk)
 }
 
-/// Answers the command lines of the source by a desk of the script that the shelf has under a name.
+/// Answers the command lines of the source by a desk of the script that the shelf has under a name, and tells how the session ended
+/// (docs/RULES.md, "The program" and "Sessions"). What stands under other names than the script's and its records' stays.
 pub fn hold_session<I: Source, O: Sink, F: Shelf, S: Steps>(
     alloc: Global,
     name: &str,

@@ -2,8 +2,6 @@
 use Rattle.std.proofs.Common.{◌≡◌, ℕ, ◌+◌, ◌-◌, ◌<◌, ◌≤◌, Option, List, [], ◌∷◌, ◌++◌, length, take, drop, get_or, slice_range, inl, inr, refl, sym, ap, ap₂, subst, ◌∙◌, arith, length-append, take-append-drop, take_all, take-add, drop-drop}
 use Rattle.std.specs.Prelude.{AllPairs}
 use Rattle.std.proofs.lemmas.Bool.{cases_lt, cases_eq}
-use Rattle.std.proofs.lemmas.List.{take_more}
-use Rattle.std.proofs.lemmas.List.Sums.{sum_by_push}
 use Rattle.std.specs.List.Sorted.{IsNonDecreasingBy}
 use Rattle.spec_text.specs.Lines.{LineState}
 use Rattle.spec_pages.specs.Rows.{ElementOf}
@@ -12,8 +10,8 @@ use Rattle.spec_layout.specs.Layout.{placed_in}
 use Rattle.spec_layout.specs.Shown.{heading_count, labels_past, shown_rows}
 use Rattle.spec_layout.proofs.ShownLaws.{shown_rows-slice}
 use Rattle.sp_elements.specs.Places.{CountsBelow, IsLastStart}
-use Rattle.sp_elements.specs.Bodies.{PageOf, IsPageOf, StandsIn, IsHeadingAt, row_count, starts_by, rows_of, headings_of}
-use Rattle.sp_elements.proofs.BodyLaws.{headings-few, placed_in-append, sum-rows, sum-headings, starts_by-get, starts_by-rise, length-starts_by}
+use Rattle.sp_elements.specs.Bodies.{PageOf, IsPageOf, StandsIn, row_count, starts_by, rows_of, headings_of}
+use Rattle.sp_elements.proofs.BodyLaws.{placed_in-append, sum-rows, sum-headings, starts_by-get, starts_by-rise, length-starts_by}
 
 -- Places that never fall.
 pub non_decreasing : (places : List ℕ) → AllPairs (λ one other. one ≤ other) places → IsNonDecreasingBy (λ (place : ℕ). place) places
@@ -68,30 +66,6 @@ stands-in elements starts row place are below is =
     let here = are.get place 0 inside in
     record { inside = inside; from = omega (arith, here, is.from); to = last-reaches row_count elements starts row place are is below }
 
--- An element is one heading, or none.
-one-more : (elements : List ElementOf) (i : ℕ) → i < length elements → heading_count (take (i + 1) elements) ≤ heading_count (take i elements) + 1
-one-more [] i inside = absurd (omega (arith, inside))
-one-more (element ∷ elements) i inside =
-    let all = element ∷ elements in
-    let next = get_or all i element in
-    let split : take (i + 1) all ≡ take i all ++ next ∷ [] = take_more all i element inside in
-    let count = ap heading_count split in
-    let sum = sum-headings (take i all ++ next ∷ []) in
-    let before = sum-headings (take i all) in
-    let push = sum_by_push headings_of (take i all) next in
-    let few = headings-few (next ∷ []) in
-    omega (arith, count, sum, before, push, few)
-
-pub is-heading : (elements : List ElementOf) (starts : List ℕ) (count place : ℕ) → AreStarts heading_count elements starts → count < heading_count elements → IsLastStart starts count place
-    → IsHeadingAt elements count place
-is-heading elements starts count place are below is =
-    let inside : place < length elements = omega (arith, is.inside, are.count) in
-    let here = are.get place 0 inside in
-    let past = last-reaches heading_count elements starts count place are is below in
-    let step = one-more elements place inside in
-    record { inside = inside; before = omega (arith, here, is.from, past, step); one = omega (arith, here, is.from, past, step) }
-
--- The elements from that in which a row stands to before those that begin at or behind another.
 pub record PagePart (elements : List ElementOf) (from to first end start : ℕ) : Type 0 where
   pub order : first ≤ end
   pub within : end ≤ length elements

@@ -82,12 +82,6 @@ pub record StandsIn (elements : List ElementOf) (row place : ℕ) : Type 0 where
   pub from : row_count (take place elements) ≤ row
   pub to : row < row_count (take (place + 1) elements)
 
--- The element at a place is a heading, before which so many others stand.
-pub record IsHeadingAt (elements : List ElementOf) (count place : ℕ) : Type 0 where
-  pub inside : place < length elements
-  pub before : heading_count (take place elements) ≡ count
-  pub one : heading_count (take (place + 1) elements) ≡ count + 1
-
 -- Elements of a page, the rows of the page among theirs, and how many headings stand before them.
 pub record PageOf : Type 0 where
   pub elements : List ElementOf

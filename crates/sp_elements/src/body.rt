@@ -1,13 +1,11 @@
 //! Elements one behind the other, and what is asked of their rows.
-ghost use Rattle.std.specs.Prelude.{◌≡◌, ℕ, ◌+◌, ◌-◌, ◌<◌, ◌≤◌, ◌++◌, List, length, map, take, drop, slice_range, vec_len, vec_capacity, Option, All, IsOk, OnOk, OnErr};
+ghost use Rattle.std.specs.Prelude.{◌≡◌, ◌+◌, ◌-◌, ◌<◌, ◌≤◌, ◌++◌, List, length, map, take, drop, slice_range, vec_len, vec_capacity, Option, All, IsOk, OnOk, OnErr};
 ghost use Rattle.spec_text.specs.Limits.{line_count_limit};
 ghost use Rattle.spec_text.specs.Lines.{LineState};
-ghost use Rattle.spec_pages.specs.Pages.{is_heading};
 ghost use Rattle.spec_pages.specs.Rows.{Row as RowValue, placed_rows, shifted_row};
 ghost use Rattle.spec_labels.specs.Labels.{LabelOf};
-ghost use Rattle.spec_layout.specs.Layout.{placed_in};
 ghost use Rattle.spec_layout.specs.Shown.{heading_count, is_heading_element, labels_past, row_key, shown_rows};
-ghost use Rattle.sp_elements.specs.Bodies.{IsHeadingAt, IsPageOf, StandsIn, headings_of, keyed_elements, marks_in, no_elements, row_count, shapes_in, with_element};
+ghost use Rattle.sp_elements.specs.Bodies.{IsPageOf, StandsIn, headings_of, keyed_elements, marks_in, no_elements, row_count, shapes_in, with_element};
 ghost use Rattle.sp_elements.specs.Exchanges.{CanMove, run_of, with_run};
 ghost use Rattle.sp_splice.specs.Runs.{exchanged};
 
@@ -365,15 +363,6 @@ impl Body {
     {
         let _len = self.len();
         last_start(&self.row_starts, row)
-    }
-
-    /// The element that is the heading with so many headings before it.
-    pub fn element_of_heading(&self, heading: usize) -> usize
-        requires { heading < heading_count self.now.elements }
-        ensures { IsHeadingAt self.now.elements heading result }
-    {
-        let _len = self.len();
-        last_start(&self.heading_starts, heading)
     }
 
     /// How many rows stand before the element at a place, or how many there are.

@@ -1,5 +1,5 @@
 //! Elements whose lines stand elsewhere.
-ghost use Rattle.std.specs.Prelude.{◌≡◌, ◌≤◌, ◌++◌, map, length, take, drop, vec_len, vec_capacity, All};
+ghost use Rattle.std.specs.Prelude.{◌≡◌, ◌≤◌, ◌++◌, map, take, drop, vec_len, vec_capacity, All};
 ghost use Rattle.sp_elements.specs.Exchanges.{moved_element, CanMove};
 
 use crate::values::Element;

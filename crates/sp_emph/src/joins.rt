@@ -1,4 +1,4 @@
-// Runs, joined as far as they go on with one another.
+//! Runs, joined as far as they go on with one another.
 ghost use Rattle.std.specs.Prelude.{◌≡◌, List, [], ◌∷◌, OnOk, IfOk};
 ghost use Rattle.spec_script.specs.Emphasis.{goes_on, joined};
 ghost use Rattle.spec_script.specs.declared.Run.{Run};
@@ -23,6 +23,7 @@ pub struct Joiner {
 impl Joiner {
     ghost use Rattle.sp_emph.specs.Joining.{joined_with};
 
+    /// A joiner that was given no run.
     pub fn new(alloc: Global) -> Self
         ensures { (more : List Run) → joined_with result more ≡ joined more }
     {
@@ -32,6 +33,7 @@ impl Joiner {
         }
     }
 
+    /// Adds a run, joined with the last one where it goes on with it. On an error there was no memory, and what it holds is open.
     pub fn add(&mut self, run: Run) -> Result<(), AllocError>
         ensures { OnOk result ((more : List Run) → joined_with self.new more ≡ joined_with self.old (run ∷ more)) }
     {
@@ -48,6 +50,7 @@ impl Joiner {
         Ok(())
     }
 
+    /// The joined runs. On an error there was no memory.
     pub fn finish(self) -> Result<Vec<Run>, AllocError>
         ensures { IfOk result (λ v. v.items ≡ joined_with self []) }
     {

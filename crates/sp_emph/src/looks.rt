@@ -1,4 +1,4 @@
-// What is seen of each byte of a line: its style, or nothing where it is removed.
+//! What is seen of each byte of a line: its style, or nothing where it is removed.
 ghost use Rattle.std.specs.Prelude.{◌≡◌, ◌<◌, ◌≤◌, ◌+◌, ◌^◌, length, map, IfOk, OnOk};
 ghost use Rattle.std.specs.List.{range_with_len};
 ghost use Rattle.spec_script.specs.Emphasis.{looks_of, markers_of, pairs_of, size_of};

@@ -1,4 +1,4 @@
-// The markers of all layers.
+//! The markers of all layers.
 ghost use Rattle.std.specs.Prelude.{◌≡◌, ◌+◌, ◌^◌, ◌<◌, ◌≤◌, List, ℕ, length, IfOk, OnOk};
 ghost use Rattle.sp_emph.specs.Markers.{AreBelow, HasOneMore, begins_run, layer_at, star_layer};
 

@@ -1,4 +1,4 @@
-// Marks of a cleaned line, and the layers that they make markers for.
+//! Marks of a cleaned line, and the layers that they make markers for.
 ghost use Rattle.std.specs.Prelude.{◌≡◌, ◌+◌, ◌^◌, ◌<◌, ◌≤◌};
 ghost use Rattle.spec_script.specs.Trim.{is_space};
 ghost use Rattle.spec_script.specs.Emphasis.{mark_of, size_of, style_of, is_markup, byte_at, byte_before, is_mark, is_escape, opens, closes};

@@ -1,5 +1,5 @@
-// The pairs of a layer's markers.
-ghost use Rattle.std.specs.Prelude.{◌≡◌, ◌+◌, ◌^◌, ◌<◌, ◌≤◌, nat_lt, ◌&&◌, ℕ, false, true, length, slice_index, IfOk};
+//! The pairs of a layer's markers.
+ghost use Rattle.std.specs.Prelude.{◌≡◌, ◌+◌, ◌<◌, ◌≤◌, nat_lt, ◌&&◌, ℕ, false, true, length, slice_index, IfOk};
 ghost use Rattle.spec_script.specs.Emphasis.{closes, markers_of, pairs_of};
 ghost use Rattle.sp_emph.specs.Layering.{AreWithin};
 

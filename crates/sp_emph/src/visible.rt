@@ -1,4 +1,4 @@
-// The runs of a line.
+//! The runs of a line.
 ghost use Rattle.std.specs.Prelude.{◌≡◌, ◌+◌, ◌^◌, ◌<◌, ◌≤◌, List, ◌++◌, None, length, take, replicate, slice_index_or, slice_range, OnOk, IfOk};
 ghost use Rattle.std.specs.List.{list_any, sum_by};
 ghost use Rattle.spec_text.specs.Parts.{Lies, Parts};

@@ -1,10 +1,6 @@
 -- One more heading, record, block or row.
-use Rattle.std.proofs.Common.{◌≡◌, ℕ, ◌+◌, ◌<◌, ◌==◌, ◌||◌, Bool, true, false, cond, Option, Some, List, [], ◌∷◌, ◌++◌, length, map, filter, take, drop, get_or, nat_lt, nat_cmp, Less, Equal, Greater, refl, sym, ap, ap₂, ◌∙◌, ⊎_elim, ne_eqb, ltb-true, arith, add-one, append_assoc, drop-cons}
-use Rattle.std.specs.Prelude.{is_some, slice_get}
-use Rattle.std.specs.List.{list_any}
-use Rattle.std.specs.Ordering.{is_eq}
-use Rattle.std.specs.BTreeMap.{is_at}
-use Rattle.std.proofs.lemmas.Bool.{cases_Bool}
+use Rattle.std.proofs.Common.{◌≡◌, ℕ, ◌+◌, ◌<◌, Bool, true, false, cond, Option, Some, List, [], ◌∷◌, ◌++◌, length, map, filter, take, drop, get_or, refl, sym, ap, ap₂, ◌∙◌, arith, add-one, append_assoc, drop-cons}
+use Rattle.std.specs.Prelude.{slice_get}
 use Rattle.std.proofs.lemmas.List.{take_more, length-take}
 use Rattle.std.proofs.lemmas.Option.{slice_get_within, get_or_from_slice_get}
 use Rattle.spec_pages.specs.declared.Shape.{Shape}
@@ -17,7 +13,7 @@ use Rattle.spec_layout.specs.Speakers.{cue_text, name_in}
 use Rattle.spec_outline.specs.Outline.{EntryOf}
 use Rattle.spec_state.specs.Headings.{is_heading_block}
 use Rattle.spec_machine.specs.Outlines.{Scenes, heading_rows, is_gone, speaker_names, block_entries, entries_from, headings_behind}
-use Rattle.sp_entries.specs.Gone.{has_line, gone_among}
+use Rattle.sp_entries.specs.Gone.{gone_among}
 use Rattle.sp_entries.proofs.Counts.{heading_rows-push}
 
 filter-push : {X Y : Type 0} (f : X → Y) (p : X → Bool) (xs : List X) (x : X) → map f (filter p (xs ++ x ∷ [])) ≡ map f (filter p xs) ++ cond (p x) (f x ∷ []) []
@@ -38,43 +34,6 @@ filter-more : {X Y : Type 0} (f : X → Y) (p : X → Bool) (xs : List X) (i : �
 filter-more f p xs i d inside = ap (λ ys. map f (filter p ys)) (take_more xs i d inside) ∙ filter-push f p (take i xs) (get_or xs i d)
 
 -- ---- lines of headings
-
-any-push : {X : Type 0} (p : X → Bool) (xs : List X) (x : X) → list_any p (xs ++ x ∷ []) ≡ (p x || list_any p xs)
-any-push p [] x = refl
-any-push p (first ∷ xs) x = by (p first) (p x) (any-push p xs x)
-  where
-    by : (a b : Bool) → list_any p (xs ++ x ∷ []) ≡ (b || list_any p xs) → (a || list_any p (xs ++ x ∷ [])) ≡ (b || (a || list_any p xs))
-    by true true rest = refl
-    by true false rest = refl
-    by false b rest = rest
-
--- The order of numbers tells which are equal.
-same-number : (a b : ℕ) → is_eq (nat_cmp a b) ≡ (a == b)
-same-number a b =
-    let test : Bool → Bool = λ less. is_eq (cond less Less (cond (a == b) Equal Greater)) in
-    ⊎_elim
-    (λ less. ap test less ∙ sym (ne_eqb a b (λ e. omega (arith, e, ltb-true a b less))))
-    (λ past. ap test past ∙ by (a == b))
-    (cases_Bool (nat_lt a b))
-  where
-    by : (same : Bool) → is_eq (cond same Equal Greater) ≡ same
-    by true = refl
-    by false = refl
-
-some-cond : {X : Type 0} (b : Bool) (x : X) (o : Option X) → is_some (cond b (Some x) o) ≡ (b || is_some o)
-some-cond true x o = refl
-some-cond false x o = refl
-
--- A table by line of the first headings has one more with this entry.
-pub line-more : {X : Type 0} (headings : List HeadingOf) (i line id : ℕ) (d : HeadingOf) (x : X) (old new : Option X) → i < length headings → id ≡ (get_or headings i d).id
-    → is_some old ≡ has_line (take i headings) line → new ≡ cond (is_at (nat_cmp id) line) (Some x) old → is_some new ≡ has_line (take (i + 1) headings) line
-line-more headings i line id d x old new inside here before is =
-    ap is_some is
-    ∙ some-cond (is_at (nat_cmp id) line) x old
-    ∙ ap (λ b. b || is_some old) (same-number id line ∙ ap (λ n. n == line) here)
-    ∙ ap (λ b. ((get_or headings i d).id == line) || b) before
-    ∙ sym (any-push (λ (heading : HeadingOf). heading.id == line) (take i headings) (get_or headings i d))
-    ∙ sym (ap (λ hs. has_line hs line) (take_more headings i d inside))
 
 pub gone-more : (headings : List HeadingOf) (records : List SceneRecordOf) (i : ℕ) (d : SceneRecordOf) → i < length records
     → gone_among headings (take (i + 1) records) ≡ gone_among headings (take i records) ++ cond (is_gone headings (get_or records i d)) ((get_or records i d).label ∷ []) []

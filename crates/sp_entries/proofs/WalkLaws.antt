@@ -79,9 +79,6 @@ place-order p q leads (x ∷ xs) = by (p x) (q x) (leads x) (place-order p q lea
 
 -- ---- labels above others
 
-is_below : LabelOf → LabelOf → Bool
-is_below gone label = is_lt (label_cmp gone label)
-
 lt-Less : (o : Ordering) → is_lt o ≡ true → o ≡ Less
 lt-Less Less e = refl
 lt-Less Equal e = cc
@@ -97,10 +94,6 @@ above-order labels one other low =
 
 -- ---- walks
 
-pub walk-none : (labels gone : List LabelOf) → IsWalked labels gone 0 0
-walk-none labels gone = record { within = omega arith; before = λ i below. absurd (omega (arith, below)); behind = λ i low below. omega arith }
-
--- Of those that are left, a label is above the ones up to a place, at the heading behind so many others and at none before.
 pub record IsPassed (labels gone : List LabelOf) (i p q : ℕ) : Type 0 where
   pub here : (j : ℕ) → p ≤ j → j < q → first_above labels (label_at gone j) ≡ i
   pub behind : (j : ℕ) → q ≤ j → j < length gone → i < first_above labels (label_at gone j)

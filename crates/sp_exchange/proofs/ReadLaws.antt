@@ -7,7 +7,6 @@ use Rattle.spec_text.proofs.ExchangeLaws.{length-stretch}
 use Rattle.spec_text.proofs.TakenEdits.{taken-inside}
 use Rattle.spec_script.specs.BlockValues.{StanzaOf}
 use Rattle.spec_reread.specs.Windows.{CountsWindow, IsBefore, IsEdited, stanzas_between}
-use Rattle.spec_reread.specs.Displaced.{DisplacesWindow}
 use Rattle.spec_reread.proofs.DisplacedWindow.{displaces-window}
 use Rattle.spec_reread.proofs.Edits.{edited-back, edited-lines}
 use Rattle.spec_reread.proofs.Resync.{window-one}

@@ -1,5 +1,5 @@
 -- How writes follow one another: what the proof of a function that writes in several calls cites.
-use Rattle.std.proofs.Common.{◌≡◌, ℕ, ◌+◌, ◌<◌, ◌≤◌, min, List, [], ◌++◌, length, length-append, take, sym, ◌∙◌, subst, refl, arith}
+use Rattle.std.proofs.Common.{◌≡◌, ℕ, ◌+◌, ◌≤◌, min, List, [], ◌++◌, length, length-append, take, sym, ◌∙◌, subst, refl, arith}
 use Rattle.std.specs.Prelude.{Ok, Err, IsErr}
 use Rattle.std.specs.declared.option.Option.{Option}
 use Rattle.std.specs.declared.result.Result.{Result}

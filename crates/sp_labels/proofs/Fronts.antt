@@ -1,5 +1,5 @@
 -- The step at the front of a text.
-use Rattle.std.proofs.Common.{◌≡◌, ℕ, zero, suc, ◌-◌, ◌<◌, ◌≤◌, ◌≢◌, ◌⊎◌, ◌==◌, true, false, not, cond, List, [], ◌∷◌, ◌++◌, length, drop, get_or, inl, inr, ⊎_elim, refl, ap, sym, ◌∙◌, length-append, append_assoc, eq-eqb, eqb-true, ltb-true, ltb-false, arith}
+use Rattle.std.proofs.Common.{◌≡◌, ℕ, zero, suc, ◌-◌, ◌<◌, ◌≤◌, ◌≢◌, ◌⊎◌, ◌==◌, true, false, not, cond, List, [], ◌∷◌, ◌++◌, drop, get_or, inl, inr, ⊎_elim, refl, ap, sym, ◌∙◌, append_assoc, eq-eqb, eqb-true, ltb-true, ltb-false, arith}
 use Rattle.std.specs.Prelude.{Some, None, decimal, nat_lt, slice_index, position}
 use Rattle.std.specs.List.{position_or_len}
 use Rattle.std.proofs.lemmas.Bool.{cases_Bool}
@@ -7,7 +7,7 @@ use Rattle.std.proofs.lemmas.List.Quantifiers.{position-Some}
 use Rattle.std.proofs.lemmas.List.Sums.{prefix_len_passes}
 use Rattle.spec_labels.specs.Labels.{step_letters, step_text}
 use Rattle.spec_labels.specs.LabelReading.{step_limit}
-use Rattle.spec_labels.proofs.LabelTexts.{step_letters-above, step_text-letter, step_text-far, step_text-some, numbers-first}
+use Rattle.spec_labels.proofs.LabelTexts.{step_letters-above, step_text-letter, step_text-far, numbers-first}
 use Rattle.sp_labels.specs.Fronts.{NumberFront, StepFront}
 
 -- A step is a dot, a letter, or a number in brackets.
@@ -27,48 +27,6 @@ step-kind (suc n) = ⊎_elim
     (λ near. let few : suc n ≤ 24 = ltb-false 24 (suc n) near in inr (inl (record { above = omega arith; few = few; written = step_text-letter (suc n) (omega arith) few })))
     (cases_Bool (nat_lt 24 (suc n)))
 
--- A text that is empty begins with no step.
-pub no-step : (step : ℕ) (rest : List ℕ) → StepFront [] step rest → ⊥
-no-step step rest front =
-    let long = ap length front.written in
-    omega (arith, long, length-append (step_text step) rest, step_text-some step (omega (arith, front.low)))
-
--- Behind a step there is less text.
-pub step-shorter : {text rest : List ℕ} {step : ℕ} → StepFront text step rest → length rest < length text
-step-shorter {text} {rest} {step} front =
-    let long = ap length front.written in
-    omega (arith, long, length-append (step_text step) rest, step_text-some step (omega (arith, front.low)))
-
--- A dot.
-pub dot-front : (rest : List ℕ) → StepFront (46 ∷ rest) 0 rest
-dot-front rest = record { low = omega arith; written = refl }
-
--- The letter of a step.
-pub letter-front : (byte step : ℕ) (rest : List ℕ) → 0 < step → step ≤ 24 → slice_index step_letters (step - 1) ≡ byte → StepFront (byte ∷ rest) step rest
-letter-front byte step rest above few is =
-    record { low = omega (arith, few); written = ap (λ t. t ++ rest) (step_text-letter step above few) ∙ ap (λ b. b ∷ rest) is }
-
--- What is no dot, no bracket and no letter of a step begins no step.
-pub no-letter : (byte : ℕ) (text : List ℕ) → byte ≢ 46 → byte ≢ 40 → ((k : ℕ) → k < 24 → slice_index step_letters k ≢ byte)
-    → (step : ℕ) (rest : List ℕ) → StepFront (byte ∷ text) step rest → ⊥
-no-letter byte text no_dot no_bracket no_letter step rest front = by (step-kind step)
-  where
-    first : (one : ℕ) (tail : List ℕ) → step_text step ≡ one ∷ tail → one ≡ byte
-    first one tail is = ap (λ (t : List ℕ). get_or t 0 0) (ap (λ (t : List ℕ). t ++ rest) (sym is) ∙ front.written)
-
-    by : (step ≡ 0) ⊎ IsLetter step ⊎ IsFar step → ⊥
-    by (inl is) = no_dot (sym (first 46 [] (ap step_text is)))
-    by (inr (inl letter)) = no_letter (step - 1) (omega (arith, letter.above, letter.few)) (first (slice_index step_letters (step - 1)) [] letter.written)
-    by (inr (inr far)) = no_bracket (sym (first 40 (decimal step ++ 41 ∷ []) far.written))
-
--- A number in brackets.
-pub bracket-front : (text rest after : List ℕ) (step : ℕ) → NumberFront text step_limit step after → 24 < step → after ≡ 41 ∷ rest → StepFront (40 ∷ text) step rest
-bracket-front text rest after step front many closed =
-    record {
-      low = front.low;
-      written = ap (λ t. t ++ rest) (step_text-far step many) ∙ ap (λ t. 40 ∷ t) (append_assoc (decimal step) (41 ∷ []) rest ∙ ap (λ t. decimal step ++ t) (sym closed) ∙ front.written);
-    }
-
 -- What a step behind an opening bracket is: a number past the letters, and a closing bracket behind it.
 pub bracket-parts : (text rest : List ℕ) (step : ℕ) → StepFront (40 ∷ text) step rest → (24 < step) × NumberFront text step_limit step (41 ∷ rest)
 bracket-parts text rest step front = by (step-kind step)
@@ -86,11 +44,6 @@ bracket-parts text rest step front = by (step-kind step)
     by (inr (inr far)) =
         let (bracket, left) = first 40 (decimal step ++ 41 ∷ []) far.written in
         (far.many, record { low = front.low; written = sym (append_assoc (decimal step) (41 ∷ []) rest) ∙ left; ends = record { none = refl } })
-
--- No number behind an opening bracket, no step.
-pub no-bracket : (text : List ℕ) → ((number : ℕ) (rest : List ℕ) → NumberFront text step_limit number rest → ⊥)
-    → (step : ℕ) (rest : List ℕ) → StepFront (40 ∷ text) step rest → ⊥
-no-bracket text none step rest front = none step (41 ∷ rest) (bracket-parts text rest step front).1
 
 -- The number is the only one.
 pub only-bracket : {text after rest : List ℕ} {number step : ℕ} → NumberFront text step_limit number after → StepFront (40 ∷ text) step rest

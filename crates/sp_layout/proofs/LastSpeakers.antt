@@ -24,11 +24,3 @@ last_speaker-at texts blocks place block inside is quiet =
     ap (fold (speaker_after texts) None) (sym (take-append-drop place blocks) ∙ ap (λ (those : List PlacedBlock). front ++ those) split)
     ∙ fold-append texts None front (block ∷ behind)
     ∙ quiet.same (speaker_after texts (last_speaker texts front) block)
-
--- One more that is neither a heading nor a speech.
-pub quiet-more : (texts : List (List ℕ)) (blocks : List PlacedBlock) (place : ℕ) (block : PlacedBlock) → place < length blocks → block ≡ get_or blocks place block → IsQuiet texts (drop (place + 1) blocks)
-    → ((last : Option (List ℕ)) → speaker_after texts last block ≡ last) → IsQuiet texts (drop place blocks)
-quiet-more texts blocks place block inside is quiet same =
-    let behind = drop (place + 1) blocks in
-    let split : drop place blocks ≡ block ∷ behind = at_drop_more (λ (those : List PlacedBlock). those) blocks place block inside ∙ ap (λ (it : PlacedBlock). it ∷ behind) (sym is) in
-    record { same = λ last. ap (fold (speaker_after texts) last) split ∙ quiet.same (speaker_after texts last block) ∙ same last }

@@ -1,5 +1,5 @@
 -- What is laid out, and the elements ahead of it.
-use Rattle.std.proofs.Common.{◌≡◌, ℕ, ◌+◌, Bool, true, false, not, cond, List, [], ◌∷◌, ◌++◌, length, map, filter, refl, sym, ap, ap₂, ◌∙◌, append-nil, append_assoc, length-append, arith}
+use Rattle.std.proofs.Common.{◌≡◌, ℕ, ◌+◌, Bool, true, false, not, cond, List, [], ◌∷◌, ◌++◌, length, map, filter, refl, sym, ap, ap₂, ◌∙◌, append_assoc, length-append, arith}
 use Rattle.std.proofs.lemmas.List.{map-append, length-map}
 use Rattle.spec_text.specs.Lines.{LineState}
 use Rattle.spec_script.specs.declared.Kind.{Kind}
@@ -11,7 +11,7 @@ use Rattle.spec_layout.specs.Speakers.{Spoken}
 use Rattle.spec_layout.specs.Layout.{laid_out, kind_of, is_title_element, in_body, is_page_break, breaks_from, layout_in, placed_in}
 use Rattle.spec_layout.specs.Shown.{row_key}
 use Rattle.sp_elements.specs.Bodies.{KeyedElements, with_element, row_count}
-use Rattle.sp_layout.specs.LaidOut.{LayoutOf, no_layout, keyed, with_laid}
+use Rattle.sp_layout.specs.LaidOut.{LayoutOf, with_laid}
 use Rattle.sp_elements.proofs.BodyLaws.{placed_in-push}
 
 -- A body, with elements behind it.
@@ -35,9 +35,6 @@ with_elements-push lines body element elements =
     ap₂ (λ (those : List ElementOf) (keys : List RowKey). record { elements = those; keys = keys })
     (append_assoc body.elements (element ∷ []) elements)
     (append_assoc body.keys (map key own) (map key (placed_in elements)) ∙ ap (λ (keys : List RowKey). body.keys ++ keys) (sym (map-append key own (placed_in elements))))
-
-with_elements-none : (lines : List LineState) (body : KeyedElements) → with_elements lines body [] ≡ body
-with_elements-none lines body = ap₂ (λ (those : List ElementOf) (keys : List RowKey). record { elements = those; keys = keys }) (append-nil body.elements) (append-nil body.keys)
 
 -- No page break is a title page.
 title-break : (kind : Kind) → is_title kind ≡ true → is_page_break kind ≡ false
@@ -106,11 +103,3 @@ followed-next lines layout element elements =
       body = with_elements lines layout.body bodies;
       breaks = layout.breaks ++ breaks_from lines (row_count layout.body.elements) (element ∷ elements);
     }) (sym (laid-titles lines element (filter is_title_element elements) t)) (sym (laid-titles lines element (filter in_body elements) (not t)))
-
-pub followed-none : (lines : List LineState) (layout : LayoutOf) → followed_by lines layout [] ≡ layout
-followed-none lines layout =
-    ap₂ (λ (titles body : KeyedElements). record { titles = titles; body = body; breaks = layout.breaks ++ [] }) (with_elements-none lines layout.titles) (with_elements-none lines layout.body)
-    ∙ ap (λ (breaks : List ℕ). record { titles = layout.titles; body = layout.body; breaks = breaks }) (append-nil layout.breaks)
-
-pub followed-first : (lines : List LineState) (elements : List (Group Spoken)) → followed_by lines no_layout elements ≡ keyed lines (layout_in lines elements)
-followed-first lines elements = refl

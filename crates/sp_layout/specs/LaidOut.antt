@@ -7,7 +7,7 @@ use Rattle.spec_script.specs.Stanzas.{PlacedBlock}
 use Rattle.spec_layout.specs.Cells.{RowShows}
 use Rattle.spec_layout.specs.Speakers.{Spoken, spoken_elements}
 use Rattle.spec_layout.specs.Layout.{Layout, kind_of, is_page_break, is_title_element, AreJoined, laid_out, layout_in, layout_of, placed_in}
-use Rattle.sp_elements.specs.Bodies.{KeyedElements, no_elements, body_of, with_element, row_count}
+use Rattle.sp_elements.specs.Bodies.{KeyedElements, body_of, with_element, row_count}
 use Rattle.sp_layout.specs.Speaking.{SpeakersOf}
 
 -- Its title page, its body, and the rows of the body before which its page breaks stand.
@@ -15,9 +15,6 @@ pub record LayoutOf : Type 0 where
   pub titles : KeyedElements
   pub body : KeyedElements
   pub breaks : List ℕ
-
-abbrev pub no_layout : LayoutOf
-no_layout = record { titles = no_elements; body = no_elements; breaks = [] }
 
 -- A layout of these lines, with the keys of its rows.
 abbrev pub keyed : List LineState → Layout → LayoutOf

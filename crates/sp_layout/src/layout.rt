@@ -6,7 +6,7 @@ ghost use Rattle.spec_script.specs.Stanzas.{blocks_of};
 ghost use Rattle.spec_pages.specs.Rows.{is_title};
 ghost use Rattle.spec_layout.specs.Layout.{is_page_break};
 ghost use Rattle.sp_text.specs.Gap.{text_of};
-ghost use Rattle.sp_layout.specs.LaidOut.{AddsElement, IsLayoutOf, layout_behind, no_layout, spoken_beside, spoken_block, with_laid};
+ghost use Rattle.sp_layout.specs.LaidOut.{AddsElement, IsLayoutOf, layout_behind, spoken_beside, spoken_block, with_laid};
 ghost use Rattle.sp_layout.specs.Speaking.{speakers_before};
 
 use crate::speakers::Speakers;

@@ -3,8 +3,8 @@ use Rattle.std.proofs.Common.{◌≡◌, ℕ, ◌+◌, ◌<◌, Option, List, �
 use Rattle.std.specs.Prelude.{All, slice_range}
 use Rattle.spec_text.specs.Lines.{LineState}
 use Rattle.spec_pages.specs.Rows.{Row, ElementOf}
+use Rattle.spec_text.proofs.ListLaws.{All-front, All-back}
 use Rattle.spec_labels.specs.Labels.{LabelOf}
-use Rattle.spec_labels.proofs.SheetLaws.{All-front, All-back}
 use Rattle.spec_layout.specs.Cells.{RowShows}
 use Rattle.spec_layout.specs.Layout.{placed_in}
 use Rattle.spec_layout.specs.Shown.{shown_rows, labels_past}

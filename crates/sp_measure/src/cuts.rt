@@ -1,4 +1,4 @@
-// Where a row ends among the clusters that are left, what it keeps of them, and what it leaves.
+//! Where a row ends among the clusters that are left, what it keeps of them, and what it leaves.
 ghost use Rattle.std.specs.Prelude.{◌≡◌, ◌+◌, ◌-◌, ◌<◌, ◌≤◌, length, take};
 ghost use Rattle.spec_pages.specs.Greatest.{greatest};
 ghost use Rattle.spec_pages.specs.Wrapping.{total_width, has_word, is_break, first_cut, cut_place, trim_end, trim_start, row_before, rest_after};

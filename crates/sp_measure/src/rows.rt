@@ -1,4 +1,4 @@
-// The rows of a line.
+//! The rows of a line.
 ghost use Rattle.std.specs.Prelude.{◌≡◌, ◌^◌, ◌<◌, ◌≤◌, length, map, max, All, IfOk};
 ghost use Rattle.spec_script.specs.Runs.{RunParts};
 ghost use Rattle.spec_pages.specs.Wrapping.{WrappedRow, wrapped, total_width, goes_on, run_of, runs_of, row_of, rows_of};

@@ -13,8 +13,7 @@ use Rattle.spec_labels.specs.Scenes.{HeadingOf}
 use Rattle.spec_layout.specs.Cells.{text_at}
 use Rattle.spec_layout.proofs.RowLaws.{state-text}
 use Rattle.spec_pages.specs.Rows.{line_state}
-use Rattle.spec_state.specs.Headings.{is_numbered, as_scene_label, heading_of, line_of_block}
-use Rattle.sp_numbers.specs.Numbers.{parts_text}
+use Rattle.spec_state.specs.Headings.{is_numbered, as_scene_label, heading_of}
 
 abbrev pub number_of : List ℕ → List SpanOf → Option LabelOf
 number_of text parts = cond (length parts == 0) None (option_and_then as_scene_label (label_read (text_in text parts)))

@@ -1,10 +1,9 @@
 -- Sheets of pages, made one by one in a list.
 use Rattle.std.proofs.Common.{◌≡◌, ℕ, zero, suc, ◌+◌, ◌-◌, ◌<◌, ◌≤◌, max, List, [], ◌∷◌, ◌++◌, length, take, drop, get_or, set, reverse, refl, sym, ap, ap₂, ◌∙◌, arith, add-one, All}
-use Rattle.std.specs.Prelude.{Some, fold, slice_get, slice_range}
+use Rattle.std.specs.Prelude.{fold, slice_range}
 use Rattle.std.proofs.lemmas.List.{take_more, reverse-append}
 use Rattle.std.proofs.lemmas.Grind.{fold-append}
-use Rattle.std.proofs.lemmas.List.Elements.{All-head, All-tail}
-use Rattle.spec_text.proofs.ListLaws.{take-All, drop-All}
+use Rattle.std.proofs.lemmas.List.Elements.{All-head, All-tail, All-take, All-drop}
 use Rattle.spec_labels.specs.PageRecords.{SheetOf}
 use Rattle.sp_numbers.specs.Numbered.{marked_sheet, marked_sheets}
 
@@ -63,7 +62,7 @@ fold-none (mark ∷ marks) none =
 
 -- Rows without marks have no round.
 pub greatest-none : (marks : List ℕ) (start end : ℕ) → All (λ (mark : ℕ). mark ≡ 0) marks → fold max 0 (slice_range marks start end) ≡ 0
-greatest-none marks start end none = fold-none (slice_range marks start end) (take-All (λ (m : ℕ). m ≡ 0) (end - start) (drop start marks) (drop-All (λ (m : ℕ). m ≡ 0) start marks none))
+greatest-none marks start end none = fold-none (slice_range marks start end) (All-take (λ (m : ℕ). m ≡ 0) (end - start) (drop start marks) (All-drop (λ (m : ℕ). m ≡ 0) start marks none))
 
 -- The greatest mark of rows in two parts, of which the second is turned round.
 greatest-from : (mark : ℕ) (marks : List ℕ) → fold max mark marks ≡ max mark (fold max 0 marks)

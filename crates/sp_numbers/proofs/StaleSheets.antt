@@ -2,8 +2,7 @@
 use Rattle.std.proofs.Common.{◌≡◌, ℕ, zero, suc, ◌+◌, ◌-◌, ◌^◌, ◌<◌, ◌≤◌, min, List, [], ◌∷◌, ◌++◌, length, take, drop, map, get_or, sym, ap, ap₂, ◌∙◌, subst, inl, inr, arith, append-nil, take-append-drop, take_all, take_at, drop_at, take-take, length-take, length-take-le, length-drop, All}
 use Rattle.std.proofs.lemmas.Bool.{cases_lt}
 use Rattle.std.proofs.lemmas.List.{drop_all, length-map}
-use Rattle.std.proofs.lemmas.List.Elements.{All-nil, All-cons, All-head, All-tail}
-use Rattle.spec_text.proofs.ListLaws.{drop-All}
+use Rattle.std.proofs.lemmas.List.Elements.{All-nil, All-cons, All-head, All-tail, All-drop}
 use Rattle.spec_labels.specs.PageRecords.{SheetOf}
 use Rattle.sp_splice.specs.Moves.{shifted}
 use Rattle.sp_reflow.specs.Starts.{Taken}
@@ -91,7 +90,7 @@ can-move marks pages olds sheets stale place same place_is fewer few within so_f
           let here : place ≡ stale.to = omega (arith, place_is, inside) in
           let Small : SheetOf → Type 0 = λ it. (it.start < 2 ^ 64) × (it.end < 2 ^ 64) in
           subst (λ n. All (CanMoveSheet stale.less stale.more) (drop n olds)) (sym here)
-          (moved-fit stale.less stale.more (drop stale.to olds) (drop stale.to all) (same.behind inside) (drop-All Small stale.to all (marked-small marks 1 pages few within)))
+          (moved-fit stale.less stale.more (drop stale.to olds) (drop stale.to all) (same.behind inside) (All-drop Small stale.to all (marked-small marks 1 pages few within)))
       | inr behind ↦
           let none : drop place olds ≡ [] = drop_all place olds (omega (arith, place_is, behind)) in
           subst (All (CanMoveSheet stale.less stale.more)) (sym none) (All-nil (CanMoveSheet stale.less stale.more))

@@ -19,9 +19,10 @@ use sp_text::Lines;
 use spec_text::Span;
 use std::alloc::{AllocError, Global};
 
-/// The greatest number of a written scene label, and the most steps in it.
+/// The greatest number of a written scene label.
 const NUMBER_LIMIT: u32 = 999_999_999;
 
+/// The most steps in a written scene label.
 const STEP_COUNT_LIMIT: usize = 16;
 
 /// The greatest step that is written as a letter.

@@ -1,5 +1,5 @@
 //! The sheets of a text whose pages aren't locked.
-ghost use Rattle.std.specs.Prelude.{◌≡◌, ℕ, ◌+◌, ◌-◌, ◌<◌, ◌≤◌, ◌++◌, false, List, All, AllPairs, drop, fold, length, map, max, slice_index, slice_index_or, slice_range, take, IfSome, OnErr, OnOk, vec_capacity, vec_len};
+ghost use Rattle.std.specs.Prelude.{◌≡◌, ℕ, ◌+◌, ◌-◌, ◌<◌, ◌≤◌, ◌++◌, false, List, All, AllPairs, drop, fold, length, map, max, slice_index, slice_index_or, slice_range, take, OnErr, OnOk, vec_capacity, vec_len};
 ghost use Rattle.std.specs.Bool.{OnTrue};
 ghost use Rattle.spec_labels.specs.Labels.{plain_label};
 ghost use Rattle.spec_labels.specs.PageRecords.{SheetOf};

@@ -18,13 +18,6 @@ one_more-bit : (count : ℕ) (fresh : Bool) → one_more count fresh ≡ count +
 one_more-bit count true = refl
 one_more-bit count false = omega arith
 
-count_of-is : (count : ℕ) (fresh : List Bool) → count_of count fresh ≡ count + true_count fresh
-count_of-is count [] = omega arith
-count_of-is count (it ∷ later) =
-    let ih = count_of-is (one_more count it) later in
-    let more = one_more-bit count it in
-    omega (arith, ih, more)
-
 before-is : (count : ℕ) (fresh : List Bool) (place : ℕ) → get_or (count ∷ counts_behind count fresh) place (count_of count fresh) ≡ count + true_count (take place fresh)
 before-is count [] zero = omega arith
 before-is count [] (suc place) = omega arith

@@ -16,7 +16,7 @@ use spec_pages::Shape;
 use std::alloc::{AllocError, Global};
 use std::marker::Model;
 
-/// Records from one place to another, both included.
+/// Records from one place, from 0, to another, both included.
 #[derive(Drop)]
 pub struct Places {
     pub first: usize,

@@ -31,8 +31,8 @@ impl From<AllocError> for PacketFault {
     }
 }
 
-/// The places of the sheets that have to be handed out anew in the script's round, in print order (docs/RULES.md,
-/// "Packets"). PagesNotLocked comes exactly where there are no page records; NoMemory may come in place of any answer.
+/// The places, from 0 and title sheets counted, of the sheets that have to be handed out anew in the script's round, in print
+/// order (docs/RULES.md, "Packets"). PagesNotLocked comes exactly where there are no page records; NoMemory may come in place of any answer.
 pub fn packet(alloc: Global, script: &Script) -> Result<Vec<u64>, PacketFault>
     ensures locked { IfOk result (λ places. is_some (script.now).pages ≡ true) }
     ensures places { IfOk result (λ places. places.items ≡ packet_places script.now) }

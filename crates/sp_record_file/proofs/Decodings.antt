@@ -1,25 +1,17 @@
 -- From what rules 1 to 6 answer to what decoding answers.
-use Rattle.std.proofs.Common.{◌≡◌, ℕ, ◌≤◌, List, map, refl, ap, ap₂, sym, subst, ◌∙◌, arith}
-use Rattle.std.specs.Prelude.{Some, All, IfOk, IfErr, Result, Ok, Err, string_bytes}
+use Rattle.std.proofs.Common.{◌≡◌, ℕ, List, map, refl, ap, ap₂, sym, subst, ◌∙◌}
+use Rattle.std.specs.Prelude.{IfOk, IfErr, Result, Ok, Err, string_bytes}
 use Rattle.spec_text.specs.Lines.{LineState, line_texts}
 use Rattle.spec_text.specs.Edits.{relabelled}
 use Rattle.spec_text.proofs.RelabelLaws.{FitLines, relabelled-ids, relabelled-marks, relabelled-texts}
-use Rattle.spec_labels.specs.PageRecords.{PageRecordOf}
-use Rattle.spec_records.specs.Kept.{RecordsOf, KeptOf, kept_of, IsSame, KeepsPages, KeepsRules}
-use Rattle.spec_records.specs.RecordFile.{FileOf, formed, form_of, digest_of, IsRecordFile, IsRefused, early, fourth, fifth, sixth}
+use Rattle.spec_records.specs.Kept.{RecordsOf, KeptOf, kept_of, IsSame}
+use Rattle.spec_records.specs.RecordFile.{FileOf, formed, form_of, digest_of, IsRecordFile, IsRefused, fourth, fifth, sixth}
 use Rattle.spec_records.proofs.SameTexts.{IsRecordFile-texts, read-same}
 use Rattle.spec_records.proofs.WrittenLaws.{read-not_refused, read-not_mismatched}
 use Rattle.sp_text.specs.Gap.{LinesState, text_of}
 use Rattle.sp_record_file.specs.declared.fault.RecordsFault.{RecordsFault}
 use Rattle.sp_record_file.specs.declared.fault.RecordsFault.TheVariants.{BadForm, Mismatch, NoMemory}
-use Rattle.sp_record_file.specs.Forming.{IsForm}
-use Rattle.sp_record_file.specs.Judging.{Breaks, IsNoMemory, of_lines, of_scenes, of_pages, IsDecoding, IsJudgedFile, IsKept, IsRelabelled, AreNarrow}
-
--- A broken rule among the first three.
-pub kept-unformed : (bytes : List ℕ) (text : List LineState) (fault : RecordsFault) → IsForm (form_of bytes) (Err fault) → IsKept bytes text (Err fault)
-kept-unformed bytes text (BadForm rule) h = early h
-kept-unformed bytes text (Mismatch kept found) h = absurd h
-kept-unformed bytes text NoMemory h = tt
+use Rattle.sp_record_file.specs.Judging.{Breaks, IsNoMemory, of_lines, of_scenes, of_pages, IsDecoding, IsJudgedFile, IsKept, IsRelabelled}
 
 broken-rule : (bytes : List ℕ) (text : List LineState) (file : FileOf) (rule : ℕ) → form_of bytes ≡ formed file → file.digest ≡ digest_of text → Breaks text file.kept rule → IsRefused bytes text rule
 broken-rule bytes text file rule form same (of_lines is no_more) = fourth is file.kept (record { form = form ∙ ap (λ d. formed (record { digest = d; kept = file.kept })) same }) no_more
@@ -42,20 +34,6 @@ kept-judged bytes text file (Err NoMemory) form h = tt
 
 -- ---- the numbers fit
 
-pub rounds-fit : (marks : List ℕ) (round : ℕ) → round ≤ 99 → All (λ mark. mark ≤ round) marks → All (λ mark. mark ≤ 99) marks
-rounds-fit marks round low all = λ i d within. omega (arith, low, all i d within)
-
-pub pages-fit : (text : List LineState) (it : KeptOf) (records : List PageRecordOf) → KeepsRules text it → it.records.pages ≡ Some records → AreNarrow records
-pages-fit text it records rules is =
-    let kept : KeepsPages text it (Some records) = subst (KeepsPages text it) is rules.pages in
-    record {
-      row = λ i d within. (kept.1.anchored i d within).row;
-      changed = λ i d within. omega (arith, rules.lines.round, (kept.1.anchored i d within).changed);
-    }
-
--- ---- the lines
-
--- The lines with the ids and marks of a file that was read, and its records.
 pub decoded : (bytes : List ℕ) (old new : LinesState) (it : KeptOf) (records : RecordsOf) → IsRecordFile bytes old.lines it
     → new ≡ record { lines = relabelled old.lines it.ids it.marks; next = it.next; room = old.room } → records ≡ it.records → IsRelabelled bytes old new records
 decoded bytes old new it records file is same =

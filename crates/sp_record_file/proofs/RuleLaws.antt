@@ -122,7 +122,3 @@ scenes-kept next steps records r few locked answer rises below distinct = record
 pub KeepsScenes-from : (it : KeptOf) (scenes : Option (List SceneRecordOf)) → AreOptionalScenes it.next (scene_steps it.records) scenes → KeepsScenes it scenes
 KeepsScenes-from it None kept = tt
 KeepsScenes-from it (Some records) kept = kept
-
-pub KeepsScenes-at : (it : KeptOf) (scenes : Option (List SceneRecordOf)) → KeepsScenes it scenes → AreOptionalScenes it.next (scene_steps it.records) scenes
-KeepsScenes-at it None kept = tt
-KeepsScenes-at it (Some records) kept = kept

@@ -1,5 +1,5 @@
 //! The bounds on locked labels.
-ghost use Rattle.std.specs.Prelude.{◌≡◌, ◌≤◌, nat_le, length};
+ghost use Rattle.std.specs.Prelude.{◌≡◌, ◌≤◌, nat_le};
 ghost use Rattle.std.specs.List.{list_all};
 ghost use Rattle.spec_records.specs.Bounds.{locked_step_limit};
 ghost use Rattle.sp_record_file.specs.Tests.{is_label, is_above, is_bounded, is_locked};

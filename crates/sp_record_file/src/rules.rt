@@ -1,5 +1,5 @@
 //! Rules 4 to 6: what every state keeps.
-ghost use Rattle.std.specs.Prelude.{◌≡◌, ◌≢◌, ◌≤◌, ◌+◌, ◌<◌, nat_lt, nat_le, nat_eq, All, AllPairs, IfOk, IfSome, IfNone, Decides, is_some, map, option_map};
+ghost use Rattle.std.specs.Prelude.{◌≡◌, ◌≤◌, ◌+◌, ◌<◌, nat_lt, nat_le, nat_eq, IfOk, IfSome, IfNone, Decides, is_some, map, option_map};
 ghost use Rattle.std.specs.List.{list_all, IsAllAdjacentAnswer};
 ghost use Rattle.std.specs.Ordering.{is_lt};
 ghost use Rattle.std.specs.HashMap.{get};

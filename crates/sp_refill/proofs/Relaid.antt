@@ -8,6 +8,7 @@ use Rattle.std.proofs.lemmas.List.Elements.{All-nil, All-cons, All-head, All-tai
 use Rattle.std.proofs.lemmas.List.Sums.{take_while-cons}
 use Rattle.spec_text.specs.Lines.{LineState}
 use Rattle.spec_text.specs.Ranges.{IsOutside, place_after}
+use Rattle.spec_text.proofs.ListLaws.{All-front, All-back}
 use Rattle.spec_script.specs.BlockParts.{Rise}
 use Rattle.spec_script.specs.LongestRuns.{Group}
 use Rattle.spec_script.specs.Stanzas.{PlacedBlock}
@@ -21,7 +22,7 @@ use Rattle.spec_relayout.specs.Touched.{EditBlocks}
 use Rattle.spec_relayout.specs.TextItems.{Script}
 use Rattle.spec_relayout.proofs.ItemMoves.{LinesMoved}
 use Rattle.spec_relayout.proofs.ElementMoves.{after-front, after-behind, block_after, element_after}
-use Rattle.spec_relayout.proofs.WindowSides.{EndsBy, all-front, all-back}
+use Rattle.spec_relayout.proofs.WindowSides.{EndsBy}
 use Rattle.spec_relayout.proofs.FairElements.{ElementSound, AllIn, elements-all}
 use Rattle.spec_relayout.proofs.AsideBlocks.{IsAside, front-aside, pushed-aside, kept-aside, fronts-same, rests-same, fronts-moved, front-before, kept-before}
 use Rattle.spec_relayout.proofs.WindowPartners.{Around}
@@ -205,12 +206,12 @@ module _ (edit : EditBlocks) (w : WindowBlocks) (it : Around edit w) (olds news 
           let speech : is_speech_kind first.own.first.block.kind ≡ true = ap (λ (b : PlacedBlock). is_speech_kind b.block.kind) first.begins ∙ last.speech in
           let count = length (body_in olds front) in
           let same : count + 1 - 1 ≡ count = omega arith in
-          let own_low : Low edit.from first.own.first = subst (Low edit.from) (sym first.begins) (All-head (Low edit.from) last.own [] (all-back (Low edit.from) (but_last w.front) (last.own ∷ []) low)) in
+          let own_low : Low edit.from first.own.first = subst (Low edit.from) (sym first.begins) (All-head (Low edit.from) last.own [] (All-back (Low edit.from) (but_last w.front) (last.own ∷ []) low)) in
           record {
             place = count + 1;
             is = subst (CountsBefore (body_in olds old_elements) edit.from) (one-more olds front first.own speech)
                 (counts-groups olds edit.from old_elements (front ++ first.own ∷ []) (first.others ++ old_back) split
-                (All-append (Begins (Low edit.from)) front (first.own ∷ []) (all-begin (Low edit.from) (but_last w.front) (all-front (Low edit.from) (but_last w.front) (last.own ∷ []) low))
+                (All-append (Begins (Low edit.from)) front (first.own ∷ []) (all-begin (Low edit.from) (but_last w.front) (All-front (Low edit.from) (but_last w.front) (last.own ∷ []) low))
                 (All-cons (Begins (Low edit.from)) first.own [] own_low (All-nil (Begins (Low edit.from)))))
                 (All-append (Begins (High edit.from)) first.others old_back first.others_all old-back-high));
             some = omega arith;
@@ -227,7 +228,7 @@ module _ (edit : EditBlocks) (w : WindowBlocks) (it : Around edit w) (olds news 
   kept-rows : IsSome w → count_rows news.lines (elements_in (front_kept w)) ≡ count_rows olds.lines (elements_in (front_kept w))
   kept-rows is =
       ap (count_rows news.lines) (sym (fronts-moved edit w it (front_kept w) (kept-before edit w it)))
-      ∙ moved-rows (elements_in (front_kept w)) (all-front ElementSound (elements_in (front_kept w)) (elements_in (old_relaid w) ++ old_back) (subst (All ElementSound) (relaid-old w is) sound))
+      ∙ moved-rows (elements_in (front_kept w)) (All-front ElementSound (elements_in (front_kept w)) (elements_in (old_relaid w) ++ old_back) (subst (All ElementSound) (relaid-old w is) sound))
       (elements-all (IsAside edit) (front_kept w) (kept-aside edit w it))
 
   -- ---- the new text, where a block stands in a window
@@ -244,7 +245,7 @@ module _ (edit : EditBlocks) (w : WindowBlocks) (it : Around edit w) (olds news 
       by : (f : Bool) → All (Low edit.new_to) (cond f (only_last w.front) [])
       by true =
           all-lower edit.from edit.new_to (only_last w.front) order-new
-          (all-back (Low edit.from) (but_last w.front) (only_last w.front) (subst (All (Low edit.from)) (sym (last-parts w.front)) (front-before edit w it)))
+          (All-back (Low edit.from) (but_last w.front) (only_last w.front) (subst (All (Low edit.from)) (sym (last-parts w.front)) (front-before edit w it)))
       by false = All-nil (Low edit.new_to)
 
   relaid-low : All (Low edit.new_to) relaid_front
@@ -438,8 +439,8 @@ module _ (edit : EditBlocks) (w : WindowBlocks) (it : Around edit w) (olds news 
       let aside : All (IsAside edit) (old_blocks w) =
       All-append (IsAside edit) w.front (w.gone ++ map (pushed w.old_end) w.rest) (front-aside edit w it)
       (subst (λ (l : List PlacedBlock). All (IsAside edit) (l ++ map (pushed w.old_end) w.rest)) (sym no_gone) (pushed-aside edit w it w.rest)) in
-      let front_sound = all-front ElementSound p.front p.back (subst (All ElementSound) p.are sound) in
-      let front_aside = all-front (AllIn (IsAside edit)) p.front p.back (subst (All (AllIn (IsAside edit))) p.are (elements-all (IsAside edit) (old_blocks w) aside)) in
+      let front_sound = All-front ElementSound p.front p.back (subst (All ElementSound) p.are sound) in
+      let front_aside = All-front (AllIn (IsAside edit)) p.front p.back (subst (All (AllIn (IsAside edit))) p.are (elements-all (IsAside edit) (old_blocks w) aside)) in
       let low = All-map (Begins (Low edit.new_to)) (element_after edit.range) p.front
       (λ k d h. let x = p.front_all k d h in let here = after-front edit.range (get_or p.front k d).first.first (omega (arith, x, begin)) in omega (arith, here, x, order)) in
       let high = All-map (Begins (High edit.new_to)) (element_after edit.range) p.back

@@ -1,5 +1,5 @@
 //! The blocks next to the window of an edit.
-ghost use Rattle.std.specs.Prelude.{◌≡◌, ℕ, ◌+◌, ◌-◌, ◌≤◌, ◌&&◌, not, length, take, drop, slice_get, option_copied, Some};
+ghost use Rattle.std.specs.Prelude.{◌≡◌, ◌+◌, ◌-◌, ◌≤◌, ◌&&◌, length, take, drop, option_copied, Some};
 ghost use Rattle.spec_script.specs.Elements.{is_speech_kind};
 ghost use Rattle.sp_refill.specs.Neighbours.{first_in, first_one, is_pair, is_there, last_in, last_one, nearer, parts_behind, parts_rest, relays_before, relays_front};
 

@@ -1,5 +1,5 @@
 //! Look-ups in lists of places that never fall.
-ghost use Rattle.std.specs.Prelude.{◌≡◌, true, false, ◌+◌, ◌-◌, ◌<◌, ◌≤◌, ◌^◌, length, AllPairs, IfSome, IfNone, nat_lt, get_or};
+ghost use Rattle.std.specs.Prelude.{◌≡◌, true, false, ◌+◌, ◌-◌, ◌<◌, ◌≤◌, length, AllPairs, IfSome, IfNone, nat_lt, get_or};
 ghost use Rattle.std.specs.List.{prefix_len};
 ghost use Rattle.spec_pages.specs.Heights.{next_stop};
 ghost use Rattle.spec_reflow.specs.Windows.{AreStops, is_settled, came_from};

@@ -1,5 +1,5 @@
 -- What stands before the edges of a part of a layout.
-use Rattle.std.proofs.Common.{◌≡◌, ℕ, ◌+◌, ◌-◌, ◌<◌, ◌≤◌, true, Bool, None, List, [], ◌++◌, length, get_or, take, drop, slice_range, inl, inr, refl, sym, ap, ap₂, subst, ◌∙◌, arith, length-append, take_at, All}
+use Rattle.std.proofs.Common.{◌≡◌, ℕ, ◌+◌, ◌-◌, ◌<◌, ◌≤◌, true, Bool, None, List, ◌++◌, length, get_or, take, drop, slice_range, inl, inr, refl, sym, ap, ap₂, subst, ◌∙◌, arith, length-append, take_at, All}
 use Rattle.std.specs.Prelude.{AllPairs}
 use Rattle.std.proofs.lemmas.Bool.{cases_lt}
 use Rattle.std.proofs.lemmas.List.{get_or_append_left, get_or-append_right}

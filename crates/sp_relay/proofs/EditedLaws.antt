@@ -6,6 +6,7 @@ use Rattle.std.proofs.lemmas.List.{append-nil, drop_all, length-map}
 use Rattle.std.proofs.lemmas.List.Elements.{All-append}
 use Rattle.std.proofs.lemmas.List.Folds.{drop_split}
 use Rattle.spec_text.specs.Lines.{LineState, TextState, IsText, line_texts}
+use Rattle.spec_text.proofs.ListLaws.{All-front, All-back}
 use Rattle.spec_script.specs.BlockValues.{StanzaOf}
 use Rattle.spec_script.specs.Elements.{PlacedLies}
 use Rattle.spec_script.specs.LongestRuns.{Group}
@@ -17,7 +18,6 @@ use Rattle.spec_layout.proofs.RowLaws.{IsText-texts}
 use Rattle.spec_layout.proofs.SpokenLaws.{spoken_elements-off}
 use Rattle.spec_reread.specs.Windows.{stanza_lines_in}
 use Rattle.spec_reread.proofs.Counts.{count-from}
-use Rattle.spec_relayout.proofs.WindowSides.{all-front, all-back}
 use Rattle.spec_relay.specs.Moved.{moved_place, moved_group, speaker_behind}
 use Rattle.spec_relay.specs.RelaidBlocks.{AreRelaid}
 use Rattle.spec_relay.specs.RelaidStanzas.{OpensApart, StanzasRelaid, stanza_settles}
@@ -260,7 +260,7 @@ module _ (lines : TextState) (stanzas : List StanzaOf) (swapped : SwappedState) 
         let sum : stanza_lines_in (front ++ mid) ≡ past = lines-append front mid ∙ window-lines in
         let each : All P (blocks_from 0 (front ++ mid)) = λ k d h. let below = (stands.each k d h).below in omega (arith, below, sum) in
         subst (All (λ (g : Group Spoken). element_first g < past)) (sym elements.gone_is)
-        (spoken-firsts on it.before.lines (speaker_behind (line_texts it.before.lines) None (blocks_from 0 front)) P (blocks_from first mid) (all-back P (blocks_from 0 front) (blocks_from first mid) (subst (All P) split each)))
+        (spoken-firsts on it.before.lines (speaker_behind (line_texts it.before.lines) None (blocks_from 0 front)) P (blocks_from first mid) (All-back P (blocks_from 0 front) (blocks_from first mid) (subst (All P) split each)))
 
     gone-high : All (λ (g : Group Spoken). first ≤ element_first g) elements.elements_gone
     gone-high =
@@ -422,7 +422,7 @@ slice-lies text stanzas from to keeps is order =
     ap (blocks_from 0) (sym is ∙ parts) ∙ blocks-three 0 (take from stanzas) (slice_range stanzas from to) (drop to stanzas)
     ∙ ap (λ n. blocks_from 0 (take from stanzas) ++ (blocks_from n (slice_range stanzas from to) ++ blocks_from (n + stanza_lines_in (slice_range stanzas from to)) (drop to stanzas))) start in
     let lie = subst (All (PlacedLies texts)) blocks (blocks_of-lie texts are.utf8 are.few).lie in
-    all-front (PlacedLies texts) mid last (all-back (PlacedLies texts) (blocks_from 0 (take from stanzas)) (mid ++ last) lie)
+    All-front (PlacedLies texts) mid last (All-back (PlacedLies texts) (blocks_from 0 (take from stanzas)) (mid ++ last) lie)
 
 -- Who spoke last before a stanza, by those up to an earlier one and those behind it.
 behind-to : (texts : List (List ℕ)) (stanzas : List StanzaOf) (from to : ℕ) → from ≤ to

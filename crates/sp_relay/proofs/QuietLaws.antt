@@ -6,12 +6,12 @@ use Rattle.std.specs.Str.{IsUtf8}
 use Rattle.std.proofs.lemmas.List.{append-nil}
 use Rattle.spec_text.specs.Limits.{line_count_limit}
 use Rattle.spec_text.specs.Lines.{LineState, line_texts}
+use Rattle.spec_text.proofs.ListLaws.{All-front, All-back}
 use Rattle.spec_script.specs.BlockValues.{StanzaOf}
 use Rattle.spec_script.specs.Stanzas.{PlacedBlock, blocks_from, blocks_of, stanzas_of}
 use Rattle.spec_pages.specs.Rows.{line_state}
 use Rattle.spec_reread.specs.Windows.{stanza_lines_in}
 use Rattle.spec_reread.proofs.WindowBlocks.{blocks-append}
-use Rattle.spec_relayout.proofs.WindowSides.{all-front, all-back}
 use Rattle.spec_relay.specs.Moved.{moved_place, moved_block, BlockStays, speaker_behind, BeginsApart}
 use Rattle.spec_relay.specs.RelaidBlocks.{AreRelaid}
 use Rattle.spec_relay.specs.RelaidStanzas.{OpensApart, StanzasRelaid, stanza_settles}
@@ -88,7 +88,7 @@ module _ (before lines : List LineState) (front ahead gone come behind rest : Li
 
     early-stay : All (BlockStays 0 0 before lines) early
     early-stay =
-        let those = all-front IsWhole early (blocks_from start gone ++ late) whole in
+        let those = All-front IsWhole early (blocks_from start gone ++ late) whole in
         let stands = front-stands (line_texts before) (front ++ ahead) (gone ++ (behind ++ rest)) utf8 few old-stanzas in
         λ k d h. let ends = stands.ends k d h in record {
           rise = (those k d h).lines;
@@ -101,7 +101,7 @@ module _ (before lines : List LineState) (front ahead gone come behind rest : Li
 
     late-stay : All (BlockStays was end before lines) late
     late-stay =
-        let those = all-back IsWhole (blocks_from start gone) late (all-back IsWhole early (blocks_from start gone ++ late) whole) in
+        let those = All-back IsWhole (blocks_from start gone) late (All-back IsWhole early (blocks_from start gone ++ late) whole) in
         let past = blocks-past was was (behind ++ rest) (omega arith) in
         λ k d h. let low = past k d h in record {
           rise = (those k d h).lines;
@@ -124,7 +124,7 @@ module _ (before lines : List LineState) (front ahead gone come behind rest : Li
         let first = speaker_behind olds None early in
         let old_at : start + stanza_lines_in gone ≡ was = sym it.was_is in
         let new_at : start + stanza_lines_in come ≡ moved_place was end was = let is = it.end_is in omega (arith, is) in
-        let stay = all-front (BlockStays was end before lines) past (blocks_from place rest) behind-stay in
+        let stay = All-front (BlockStays was end before lines) past (blocks_from place rest) behind-stay in
         let new_first : speaker_behind news None early ≡ first = ap (speaker_behind news None) (sym (still-blocks early)) ∙ behind-stays 0 0 before lines None early early-stay in
         let new_window : speaker_behind news (speaker_behind news None early) (blocks_from start come) ≡ first =
         behind-quiet news (speaker_behind news None early) (blocks_from start come) (any-blocks start come ∙ none_come) ∙ new_first in
@@ -152,7 +152,7 @@ module _ (before lines : List LineState) (front ahead gone come behind rest : Li
           ];
           rest_apart = opens-apart place rest opens;
           still = all.still;
-          moved = all-back (BlockStays was end before lines) (blocks_from was behind) (blocks_from place rest) behind-stay;
+          moved = All-back (BlockStays was end before lines) (blocks_from was behind) (blocks_from place rest) behind-stay;
           front_rise = all.front_rise;
           place = place;
           rest_rise = places-rise place place rest (omega arith);

@@ -6,7 +6,7 @@ use Rattle.std.proofs.lemmas.List.Elements.{All-nil, All-cons, All-head, All-tai
 use Rattle.spec_pages.specs.Rows.{ElementOf}
 use Rattle.spec_labels.specs.declared.RowKey.{RowKey}
 use Rattle.sp_splice.specs.Runs.{exchanged}
-use Rattle.sp_splice.specs.Moves.{shifted, CanShift}
+use Rattle.sp_splice.specs.Moves.{shifted}
 use Rattle.sp_splice.proofs.RunLaws.{in-three}
 use Rattle.sp_elements.specs.Bodies.{KeyedElements, row_count}
 use Rattle.sp_elements.specs.Exchanges.{moved_element, CanMove, run_of, with_run}
@@ -15,9 +15,6 @@ use Rattle.sp_relay.specs.Runs.{MovesBack, ElementMoves, CanExchange, with_break
 
 pub later-can : (less more : ℕ) (elements : List ElementOf) → All (ElementMoves less more) elements → All (CanMove less more) elements
 later-can less more elements all k d inside = (all k d inside).here
-
-pub places-can : (less more : ℕ) (places : List ℕ) → All (MovesBack less more) places → All (CanShift less more) places
-places-can less more places all k d inside = (all k d inside).here
 
 move-back : (less more place : ℕ) → MovesBack less more place → (shifted more less (shifted less more place) ≡ place) × MovesBack more less (shifted less more place)
 move-back less more place it =

@@ -2,6 +2,7 @@
 use Rattle.std.proofs.Common.{◌≡◌, ℕ, ◌+◌, ◌-◌, ◌<◌, ◌≤◌, Bool, List, [], ◌∷◌, ◌++◌, length, map, take, drop, slice_range, refl, sym, ap, ap₂, subst, ◌∙◌, arith, length-append, take_at, drop_at, All}
 use Rattle.std.proofs.lemmas.List.Elements.{All-nil, All-cons, All-head, All-tail}
 use Rattle.spec_text.specs.Lines.{LineState, TextState, IsText, line_texts}
+use Rattle.spec_text.proofs.ListLaws.{All-back}
 use Rattle.spec_script.specs.LongestRuns.{Group}
 use Rattle.spec_script.specs.Stanzas.{PlacedBlock, blocks_of}
 use Rattle.spec_pages.specs.Rows.{ElementOf}
@@ -10,7 +11,6 @@ use Rattle.spec_layout.specs.Layout.{is_title_element, in_body, breaks_from, lay
 use Rattle.spec_layout.proofs.ElementPlaces.{blocks_of-stand}
 use Rattle.spec_layout.proofs.RowCounts.{layout_of-few}
 use Rattle.spec_layout.proofs.RowLaws.{IsText-texts}
-use Rattle.spec_relayout.proofs.WindowSides.{all-back}
 use Rattle.spec_relay.specs.Moved.{moved_place, moved_group}
 use Rattle.spec_relay.proofs.MovedElements.{GroupStays}
 use Rattle.spec_relay.proofs.LayoutParts.{laid_of, laid-three, rows_in, rows-append, breaks-append}
@@ -93,8 +93,8 @@ relaid-can before lines speakers blocks places layout old_keeps new_keeps it =
     let moved = map (moved_group less more) it.rest in
     let old_low = subst (λ (gs : List (Group Spoken)). All (λ (g : Group Spoken). element_first g < 200000) gs) it.old (text-firsts on before old_keeps) in
     let new_low = subst (λ (gs : List (Group Spoken)). All (λ (g : Group Spoken). element_first g < 200000) gs) it.new (text-firsts on lines new_keeps) in
-    let rest_low = all-back (λ (g : Group Spoken). element_first g < 200000) it.gone it.rest (all-back (λ (g : Group Spoken). element_first g < 200000) it.front (it.gone ++ it.rest) old_low) in
-    let rest_high = moved-firsts less more it.rest (all-back (λ (g : Group Spoken). element_first g < 200000) come moved (all-back (λ (g : Group Spoken). element_first g < 200000) it.front (come ++ moved) new_low)) in
+    let rest_low = All-back (λ (g : Group Spoken). element_first g < 200000) it.gone it.rest (All-back (λ (g : Group Spoken). element_first g < 200000) it.front (it.gone ++ it.rest) old_low) in
+    let rest_high = moved-firsts less more it.rest (All-back (λ (g : Group Spoken). element_first g < 200000) come moved (All-back (λ (g : Group Spoken). element_first g < 200000) it.front (come ++ moved) new_low)) in
     let moves = groups-move less more olds news it.rest it.moved rest_low rest_high in
     let titles_are : layout.titles.elements ≡ laid_of is_title_element olds it.front ++ (laid_of is_title_element olds it.gone ++ laid_of is_title_element olds it.rest) =
     ap (λ (l : LayoutOf). l.titles.elements) it.was ∙ ap (laid_of is_title_element olds) it.old ∙ laid-three is_title_element olds it.front it.gone it.rest in

@@ -1,7 +1,6 @@
 //! Where the part of a layout that an edit changes begins and ends.
-ghost use Rattle.std.specs.Prelude.{◌≡◌, ◌<◌, ◌≤◌, ◌+◌, length, take, AllPairs, IfNone, IfSome};
+ghost use Rattle.std.specs.Prelude.{◌≡◌, ◌<◌, ◌≤◌, ◌+◌, length, take, IfNone, IfSome};
 ghost use Rattle.spec_reread.specs.Windows.{stanza_lines_in};
-ghost use Rattle.spec_relay.specs.Moved.{moved_place};
 ghost use Rattle.spec_relay.specs.RelaidStanzas.{block_settles, first_apart, stanza_settles};
 ghost use Rattle.sp_relay.specs.Edges.{BreaksAt, CanBegin, CanEnd, CanPart, IsEdge, IsNearestEnd, IsNearestStart, IsPartEnd, IsPartStart};
 ghost use Rattle.sp_relay.specs.Kept.{laid_of};

@@ -1,6 +1,5 @@
 //! A text laid out that is kept, and parts of it that are exchanged.
-ghost use Rattle.std.specs.Prelude.{◌≡◌, ◌≤◌, IfErr, IfOk, IsOk, OnErr, OnOk};
-ghost use Rattle.sp_layout.specs.LaidOut.{LayoutOf};
+ghost use Rattle.std.specs.Prelude.{◌≡◌, IfErr, IfOk, IsOk, OnErr, OnOk};
 ghost use Rattle.sp_relay.specs.Kept.{CanSwap, HasPartRoom, KeepsRoom, laid_of, places_back, with_part};
 
 use crate::runs::{exchange_breaks, exchange_run, make_break_room, make_run_room};

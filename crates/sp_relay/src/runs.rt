@@ -1,6 +1,5 @@
 //! Elements and page breaks exchanged, with room made first.
-ghost use Rattle.std.specs.Prelude.{◌≡◌, ◌+◌, ◌-◌, ◌<◌, ◌≤◌, ◌^◌, ◌++◌, map, length, take, drop, slice_range, vec_len, vec_capacity, All, IsOk, OnOk, OnErr};
-ghost use Rattle.sp_splice.specs.Moves.{CanShift, shifted};
+ghost use Rattle.std.specs.Prelude.{◌≡◌, ◌+◌, ◌-◌, ◌≤◌, length, take, vec_len, vec_capacity, IsOk, OnOk};
 ghost use Rattle.sp_elements.specs.Bodies.{keyed_elements, row_count};
 ghost use Rattle.sp_elements.specs.Exchanges.{run_of, with_run};
 ghost use Rattle.sp_relay.specs.Runs.{CanExchange, CanExchangeBreaks, HasRoom, breaks_in, with_breaks};

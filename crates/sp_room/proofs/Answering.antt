@@ -18,7 +18,7 @@ use Rattle.spec_room.specs.Standing.{StandsFor, KeepsSeen, texts_after}
 use Rattle.spec_room.specs.Holding.{Holds}
 use Rattle.spec_room.proofs.MachineSteps as machine
 use Rattle.spec_room.proofs.RoomLaws.{holds_after, last_of-put, but_last-put}
-use Rattle.spec_room.proofs.CommandLaws.{unrefused-step, taken_step, refused_step}
+use Rattle.spec_room.proofs.CommandLaws.{unrefused-step, taken_step}
 use Rattle.spec_room.proofs.StepLaws.{unrefused-taken, refused-same, taken-seen, taken-stands}
 use Rattle.sp_commands.specs.declared.reply.Reply.{Reply}
 use Rattle.sp_commands.specs.Values.{reply_of, refusal_of}
@@ -249,11 +249,6 @@ no-change-looks undoes none is = absurd none
 no-change-looks redoes none is = absurd none
 
 -- ---- the answer to a command that the desk refused, or for which there was no memory
-
-pub refused_answer : (old : RoomState) (it : RoomLineOf) (asked : Kind) (desk : Memory) (fault : DeskFault) → asked_of old it.seat it.seen (kind_of it.command) ≡ Ok asked
-    → IsAnswer old.desk (command_at it.command asked) desk (Err fault) → IsRoomAnswer old it old (Err fault)
-refused_answer old it asked desk (Refused reason) asks answer = refused_step old it asked desk (refusal_of reason) asks answer
-refused_answer old it asked desk NoMemory asks answer = refl
 
 -- A desk that refuses a command, or finds no memory for it, is as it was.
 pub same-desk : (old : Memory) (command : CommandOf) (new : Memory) (result : Result Reply DeskFault) → IsAnswer old command new result → OnErr result (new ≡ old)

@@ -93,9 +93,9 @@ impl Room {
 
     /// Does what a seat asks. An edit names the version `seen` of the text that its seat saw, and is taken at the place where the lines that
     /// it names stand now; other commands leave `seen` unread. A refusal is the first in order, the room's own or the desk's for the command
-    /// at its place, and never `Reply::Refused`; NoMemory may come in place of any answer. Both leave the room as it was. It reads stanzas and
-    /// fills pages as its desk does for the command at its place, and none where it refuses the command itself. The version has to be one
-    /// below the greatest 64-bit number or less.
+    /// at its place, and never `Reply::Refused`. `Save` and `Packet` are refused UnknownCommand, as by a desk. NoMemory may come in place of
+    /// any answer. Each fault leaves the room as it was. It reads stanzas and fills pages as its desk does for the command at its place, and
+    /// none where it refuses the command itself. The version has to be one below the greatest 64-bit number or less.
     pub fn apply<S: Steps>(
         &mut self,
         seat: &str,

@@ -1,8 +1,7 @@
 //! Command lines of several seats, answered by a room.
-ghost use Rattle.std.specs.Prelude.{◌≡◌, ℕ, ◌+◌, ◌-◌, ◌^◌, ◌<◌, ◌≤◌, IfOk, OnOk, OnErr};
+ghost use Rattle.std.specs.Prelude.{◌≡◌, ◌+◌, ◌-◌, ◌^◌, ◌<◌, ◌≤◌, IfOk, OnOk, OnErr};
 ghost use Rattle.std.specs.declared.result.Result.TheVariants.{Ok};
 ghost use Rattle.spec_wire.specs.Lines.{room_line_of_line};
-ghost use Rattle.spec_wire.specs.Commands.{RoomLineOf};
 ghost use Rattle.sp_commands.specs.Values.{room_line_of, reply_of};
 ghost use Rattle.sp_room.specs.Answers.{IsRoomAnswer};
 ghost use Rattle.spec_session.specs.Runs.{counts_of};

@@ -1,5 +1,4 @@
 //! A session of a room (docs/RULES.md, "The program" and "Sessions").
-ghost use Rattle.std.specs.Prelude.{◌≡◌};
 ghost use Rattle.sp_opening.specs.Records.{records_name};
 ghost use Rattle.sp_opening.specs.Saving.{Changes, KeepsAllBut};
 ghost use Rattle.sp_opening.specs.Unopened.{outside};

@@ -1,12 +1,10 @@
 -- The lines that reading the script of a sample comes to.
-use Rattle.std.proofs.Common.{◌≡◌, ℕ, ◌+◌, List, [], ◌∷◌, length, ap, sym, ◌∙◌, refl, Err}
+use Rattle.std.proofs.Common.{◌≡◌, ℕ, ◌+◌, List, [], ◌∷◌, length, ap, sym, ◌∙◌, refl}
 use Rattle.std.proofs.lemmas.List.{length-map}
-use Rattle.spec_text.specs.Lines.{LineState, lines, text_full, not_utf8, line_full, reading_of, lines_from, read_lines, line_texts}
+use Rattle.spec_text.specs.Lines.{LineState, lines, reading_of, lines_from, read_lines, line_texts}
 use Rattle.spec_sample.specs.Sample.{sample_lines}
 use Rattle.sp_text.specs.Gap.{LinesState}
-use Rattle.sp_text.specs.Reading.{IsRead, IsReading}
-use Rattle.sp_text.specs.declared.fault.TextFault.{TextFault}
-use Rattle.sp_text.specs.declared.fault.TextFault.TheVariants.{NotUtf8, LineFull, TextFull, NoMemory}
+use Rattle.sp_text.specs.Reading.{IsRead}
 
 texts-from : (id : ℕ) (texts : List (List ℕ)) → line_texts (lines_from id texts) ≡ texts
 texts-from id [] = refl
@@ -28,10 +26,3 @@ opening n script given text same reads read =
       read = read.lines_are ∙ ap read_lines (sym texts);
       next = read.next_is ∙ sym (ap length texts) ∙ length-map text.lines (λ (line : LineState). line.text);
     }
-
--- No fault but want of memory comes of it.
-pub no-fault : (n : ℕ) (script given : List ℕ) (fault : TextFault) → given ≡ script → reading_of script ≡ lines (sample_lines n) → IsReading (reading_of given) (Err fault) → fault ≡ NoMemory
-no-fault n script given NoMemory same reads read = refl
-no-fault n script given TextFull same reads read = let e : text_full ≡ lines (sample_lines n) = sym read ∙ ap reading_of same ∙ reads in cc
-no-fault n script given (NotUtf8 at) same reads read = let e : not_utf8 at ≡ lines (sample_lines n) = sym read ∙ ap reading_of same ∙ reads in cc
-no-fault n script given (LineFull at) same reads read = let e : line_full at ≡ lines (sample_lines n) = sym read ∙ ap reading_of same ∙ reads in cc

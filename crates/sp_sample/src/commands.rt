@@ -1,6 +1,6 @@
 //! The commands of a sample's session.
-ghost use Rattle.std.specs.Prelude.{◌≡◌, ◌+◌, ◌-◌, ◌*◌, ◌<◌, ◌≤◌, ◌++◌, map, codes, replicate, IfOk, OnOk, string_bytes};
-ghost use Rattle.spec_sample.specs.Sample.{added_lines, edits_down, lamp_line, sample_commands, told_more};
+ghost use Rattle.std.specs.Prelude.{◌≡◌, ◌+◌, ◌-◌, ◌*◌, ◌++◌, map, codes, replicate, IfOk, OnOk};
+ghost use Rattle.spec_sample.specs.Sample.{added_lines, lamp_line, sample_commands, told_more};
 ghost use Rattle.spec_text.specs.Edits.{replace, splice};
 ghost use Rattle.sp_text.specs.Changing.{edit_of};
 ghost use Rattle.sp_commands.specs.Values.{command_of};

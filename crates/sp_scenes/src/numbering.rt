@@ -1,4 +1,4 @@
-ghost use Rattle.std.specs.Prelude.{◌≡◌, ℕ, ◌+◌, ◌<◌, ◌≤◌, ◌++◌, ◌∷◌, [], length, All, IfOk, OnOk, option_copied, unwrap_or, ◌^◌};
+ghost use Rattle.std.specs.Prelude.{◌≡◌, ◌+◌, ◌<◌, ◌≤◌, ◌++◌, ◌∷◌, [], length, All, IfOk, OnOk, option_copied, unwrap_or, ◌^◌};
 ghost use Rattle.std.specs.Option.{ForSome};
 ghost use Rattle.spec_text.specs.Limits.{line_count_limit};
 ghost use Rattle.spec_labels.specs.Labels.{IsLabel, plain_label};

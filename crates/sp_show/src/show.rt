@@ -25,7 +25,8 @@ use sp_words::{Origin, Status, View};
 use std::alloc::Global;
 
 /// Writes a view of a script. Each stanza of it is read once and each page of its body filled once where it is opened, and
-/// nothing else is counted.
+/// nothing else is counted. An error is the status that the form ends with (docs/RULES.md, "The program"): with WriteFault or
+/// NoMemory a prefix of the view was written, with the others nothing. What the shelf holds stays.
 pub fn show_script<I: Source, O: Sink, F: Shelf, S: Steps>(
     alloc: Global,
     view: View,

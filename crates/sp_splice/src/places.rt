@@ -1,5 +1,5 @@
 //! Places that are moved, and exchanged.
-ghost use Rattle.std.specs.Prelude.{◌≡◌, ◌+◌, ◌-◌, ◌<◌, ◌≤◌, ◌++◌, map, length, take, drop, slice_range, vec_len, vec_capacity, All};
+ghost use Rattle.std.specs.Prelude.{◌≡◌, ◌+◌, ◌-◌, ◌≤◌, ◌++◌, map, take, drop, slice_range, vec_len, vec_capacity, All};
 ghost use Rattle.sp_splice.specs.Moves.{shifted, CanShift};
 
 use crate::runs::exchange;

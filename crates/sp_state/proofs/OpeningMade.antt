@@ -1,12 +1,13 @@
 -- What is made of a state stays through locks and rounds, but for the labels that a lock of scenes gives.
 use Rattle.std.proofs.Common.{◌≡◌, ℕ, ◌+◌, ◌<◌, ◌≤◌, Bool, true, false, Option, Some, None, Err, List, [], ◌++◌, map, length, refl, sym, ap, ap₂, subst, ◌∙◌, arith}
 use Rattle.std.specs.Prelude.{All, IfSome, is_some, option_map}
+use Rattle.std.proofs.lemmas.Bool.{or_left, or_right}
 use Rattle.spec_text.specs.Lines.{TextState, IsText}
 use Rattle.spec_text.proofs.EditedLaws.{text-HasIds}
 use Rattle.spec_pages.specs.Pages.{page_starts, rows_on}
 use Rattle.spec_labels.specs.declared.RowKey.{RowKey}
 use Rattle.spec_labels.specs.Labels.{LabelOf}
-use Rattle.spec_labels.specs.Scenes.{HeadingOf, SceneRecordOf, AreHeadings, AreSceneRecords, scene_record_limit, locked_labels, locked_records}
+use Rattle.spec_labels.specs.Scenes.{HeadingOf, SceneRecordOf, AreHeadings, scene_record_limit, locked_labels, locked_records}
 use Rattle.spec_labels.specs.PageRecords.{PageRecordOf, SheetOf, AreSheets, page_record_limit, extended_page_records}
 use Rattle.spec_layout.proofs.RowLaws.{IsText-texts}
 use Rattle.spec_layout.specs.Shown.{Shown, key_of}
@@ -19,21 +20,20 @@ use Rattle.spec_state.specs.SoundStates.{AreLocked, IsSound}
 use Rattle.spec_state.specs.StateSheets.{layout_in, rows_in, keys_in, sheets_in, body_sheets}
 use Rattle.spec_state.proofs.HeadingLaws.{headings-are}
 use Rattle.spec_state.proofs.StateKeys.{text-headings, state-keys, state-row_keys}
-use Rattle.spec_state.proofs.StateLaws.{state-AreSceneRecords, whole-sound, count-keys}
+use Rattle.spec_state.proofs.StateLaws.{whole-sound, count-keys}
 use Rattle.spec_rounds.proofs.OpeningLaw.{labels-stay, lock-rows, round-rows, rows-stay}
 use Rattle.spec_machine.specs.Machine.{CanLockScenes, CanLockPages, CanBegin, FewPages, FewScenes}
 use Rattle.spec_wire.specs.Replies.{RefusalOf, records_full}
 use Rattle.spec_machine.specs.Refusals.{are_more, scenes_refusal, pages_refusal, round_refusal}
-use Rattle.spec_machine.proofs.RefusalLaws.{below-is, or-left, or-right, pages-free, pages-full, round-free, round-full, scenes-free}
+use Rattle.spec_machine.proofs.RefusalLaws.{below-is, pages-free, pages-full, round-free, round-full, scenes-free}
 use Rattle.spec_machine.proofs.WholeStates.{lock_scenes-whole, lock_pages-whole, round-whole}
 use Rattle.spec_machine.proofs.LabelLaw.{state-sheets}
 use Rattle.sp_elements.specs.Bodies.{row_count, shapes_in}
 use Rattle.sp_made.specs.Made.{MadeOf, IsMadeOf, key_starts, marked_or_locked}
-use Rattle.sp_state.specs.declared.fault.OpeningFault.{OpeningFault}
 use Rattle.sp_labels.specs.declared.fault.LockFault.{LockFault}
 use Rattle.sp_labels.specs.declared.fault.LockFault.TheVariants as locks
 use Rattle.sp_locks.specs.Extension.{IsMade}
-use Rattle.sp_state.specs.Openings.{ArePagesOpened, CanLockHeadings, IsFull, IsReason, lock_fault_of, headings_refusal, pages_made}
+use Rattle.sp_state.specs.Openings.{ArePagesOpened, CanLockHeadings, IsFull, IsReason, lock_fault_of, pages_made}
 use Rattle.sp_made.proofs.MadeLaws.{count-rows, sheets-by}
 use Rattle.sp_made.proofs.SheetPlaces.{body-made, keys-made, made-places}
 
@@ -227,7 +227,7 @@ pub many-scenes : (state : State) → is_some state.scenes ≡ true → state.pa
     → are_more scene_record_limit (scenes_extended (headings_of state.lines) state.scenes) ≡ true → pages_refusal state ≡ Some records_full
 many-scenes state scened unlocked some many =
     let new = pages_locked state in
-    pages-full state scened unlocked some (or-left (are_more scene_record_limit new.scenes) (are_more page_record_limit new.pages) many)
+    pages-full state scened unlocked some (or_left (are_more scene_record_limit new.scenes) (are_more page_record_limit new.pages) many)
 
 pub many-pages : (state : State) (it : MadeOf) → IsMadeOf state it → is_some state.scenes ≡ true → state.pages ≡ None → 0 < length (rows_in state)
     → page_record_limit < length (records_with it) → pages_refusal state ≡ Some records_full
@@ -235,18 +235,13 @@ many-pages state it made scened unlocked some many =
     let new = pages_locked state in
     let over : are_more page_record_limit new.pages ≡ true =
     below-is page_record_limit (length (extended_page_records [] (body_sheets state) (keys_in state))) (subst (λ (those : List PageRecordOf). page_record_limit < length those) (first-pages state it made) many) in
-    pages-full state scened unlocked some (or-right (are_more scene_record_limit new.scenes) (are_more page_record_limit new.pages) over)
-
-pub more-scenes : (state : State) → state.round < 99 → are_more scene_record_limit (scenes_extended (headings_of state.lines) state.scenes) ≡ true → round_refusal state ≡ Some records_full
-more-scenes state rounds many =
-    let new = round_begun state in
-    round-full state rounds (or-left (are_more scene_record_limit new.scenes) (are_more page_record_limit new.pages) many)
+    pages-full state scened unlocked some (or_right (are_more scene_record_limit new.scenes) (are_more page_record_limit new.pages) over)
 
 pub more-pages : (state : State) (it : MadeOf) → IsMadeOf state it → state.round < 99 → are_more page_record_limit (pages_made it state.pages) ≡ true → round_refusal state ≡ Some records_full
 more-pages state it made rounds many =
     let new = round_begun state in
     let over : are_more page_record_limit new.pages ≡ true = sym (ap (are_more page_record_limit) (made-pages state it state.pages made)) ∙ many in
-    round-full state rounds (or-right (are_more scene_record_limit new.scenes) (are_more page_record_limit new.pages) over)
+    round-full state rounds (or_right (are_more scene_record_limit new.scenes) (are_more page_record_limit new.pages) over)
 
 -- ---- the same of records and of what was made, as a function that changes them sees them
 
@@ -290,25 +285,9 @@ headings-can text records locked headings same are can =
     subst (λ (b : Bool). CanLockHeadings b (headings_of text.lines)) same (subst (CanLockHeadings locked) are can) in
     record { unlocked = none-is records.scenes here.unlocked; form = here.form; order = here.order; few = here.few }
 
-pub headings-reason : (text : TextState) (records : RecordsOf) (locked : Bool) (headings : List HeadingOf) (fault : OpeningFault) → locked ≡ is_some records.scenes → headings ≡ headings_of text.lines
-    → IsReason (headings_refusal locked headings) fault → IsReason (scenes_refusal (state_of text records)) fault
-headings-reason text records locked headings fault same are is =
-    subst (λ (b : Bool). IsReason (headings_refusal b (headings_of text.lines)) fault) same (subst (λ (hs : List HeadingOf). IsReason (headings_refusal locked hs) fault) are is)
-
 pub some-map : {X Y : Type 0} (f : X → Y) (o : Option X) → is_some o ≡ is_some (option_map f o)
 some-map f None = refl
 some-map f (Some x) = refl
-
--- The records of a whole state are what is asked of records.
-pub records-scenes : {V : Type 0} (items : V → List SceneRecordOf) (text : TextState) (old : RecordsOf) (o : Option V) → option_map items o ≡ old.scenes → IsWhole (state_of text old)
-    → IfSome o (λ those. AreSceneRecords (items those))
-records-scenes items text old None same whole = tt
-records-scenes items text old (Some those) same whole = state-AreSceneRecords (state_of text old) (items those) whole (sym same)
-
-pub records-pages : {V : Type 0} (items : V → List PageRecordOf) (text : TextState) (old : RecordsOf) (o : Option V) → option_map items o ≡ old.pages → IsWhole (state_of text old)
-    → IfSome o (λ those. AreLocked (items those))
-records-pages items text old None same whole = tt
-records-pages items text old (Some those) same whole = subst (λ (pages : Option (List PageRecordOf)). IfSome pages AreLocked) (sym same) (whole-sound (state_of text old) whole).pages
 
 pub none-map : {X Y : Type 0} (f : X → Y) (o : Option X) → is_some o ≡ false → option_map f o ≡ None
 none-map f None is = refl

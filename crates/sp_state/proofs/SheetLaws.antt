@@ -1,4 +1,4 @@
--- The sheets that an edit finds.
+-- The sheets that an edit, an undo or a redo finds.
 use Rattle.std.proofs.Common.{◌≡◌, ℕ, List, Option, Some, None, refl, sym, ap, ap₂, subst, ◌∙◌}
 use Rattle.spec_text.specs.Edits.{Replacement}
 use Rattle.spec_labels.specs.declared.Moved.{Moved}

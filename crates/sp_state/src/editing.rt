@@ -299,9 +299,9 @@ pub(crate) fn edit_made<S: Steps>(
     }
 }
 
-/// Undoes an edit. Nothing is laid out and no page filled; sheets are made those of the new state, and so are labels where a heading
-/// comes or goes. The first rows of page records are looked for once. On an error there was no memory, nothing is changed, and an
-/// entry that can be undone is handed back.
+/// Undoes an edit. Nothing is laid out and no page filled; sheets are made those of the new state, and so are labels where a
+/// heading comes or goes. The first rows of page records are looked for once. On an error there was no memory, nothing is changed,
+/// and an entry that can be undone is handed back.
 pub(crate) fn undo_made(
     alloc: Global,
     lines: &mut Lines,
@@ -388,8 +388,8 @@ pub(crate) fn undo_made(
 }
 
 /// Does an edit again. Nothing is laid out and no page filled; sheets are made those of the new state, and so are labels where a
-/// heading comes or goes. The first rows of page records are looked for once. On an error there was no memory, nothing is changed, and an
-/// entry that can be done again is handed back.
+/// heading comes or goes. The first rows of page records are looked for once. On an error there was no memory, nothing is changed,
+/// and an entry that can be done again is handed back.
 pub(crate) fn redo_made(
     alloc: Global,
     lines: &mut Lines,

@@ -1,5 +1,5 @@
 //! A state and its sheets.
-ghost use Rattle.std.specs.Prelude.{◌≡◌, ◌≤◌, [], Some, length, map, slice_get, IfErr, IfSome, IfNone, IfOk, OnOk, OnErr};
+ghost use Rattle.std.specs.Prelude.{◌≡◌, ◌≤◌, Some, length, map, slice_get, IfErr, IfSome, IfNone, IfOk, OnOk, OnErr};
 ghost use Rattle.spec_text.specs.Lines.{line_texts, read_lines};
 ghost use Rattle.spec_text.specs.Edits.{refusal_of, replacement_of};
 ghost use Rattle.spec_text.specs.Ranges.{range_of};
@@ -387,8 +387,8 @@ impl Script {
         )
     }
 
-    /// Begins the next round: where scenes or pages are locked, each heading and each page that has no record gets one
-    /// (docs/RULES.md, "Scene numbers" and "Page records"). No stanza is read and no page filled, and the sheets stay as
+    /// Begins the next round: where scenes are locked each heading that has no record gets one, and where pages are locked each
+    /// page (docs/RULES.md, "Scene numbers" and "Page records"). No stanza is read and no page filled, and the sheets stay as
     /// they are. It is refused as docs/RULES.md says in "The desk"; NoMemory may come in place of any answer. On a fault
     /// nothing is changed.
     pub fn next_round(&mut self, alloc: Global) -> Result<(), OpeningFault>

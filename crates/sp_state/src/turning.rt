@@ -176,7 +176,7 @@ struct TurnedPages {
 }
 
 /// Whether the first rows of page records were known, and are these.
-fn are_known(known: &Option<Vec<usize>>, firsts: &[usize]) -> bool
+fn firsts_stay(known: &Option<Vec<usize>>, firsts: &[usize]) -> bool
     ensures { OnTrue result (option_map (λ those. those.items) known.now ≡ Some firsts.now) }
 {
     match known {
@@ -228,7 +228,7 @@ fn turned_pages(
         return Err(UnswappedPages { back });
     };
     let other = pages.put_back(back)?;
-    let keeps_firsts = are_known(known, &firsts);
+    let keeps_firsts = firsts_stay(known, &firsts);
     let keeps_pages = pages_stay(keeps_firsts, pages, &other);
     match renumber(
         alloc,
@@ -271,9 +271,9 @@ pub(crate) struct UnturnedPages {
 
 /// Makes layout, page starts, labels and sheets those of a state after an edit was undone or done again, by what the edit
 /// displaced of layout and page starts, and finds the first rows of page records, first as far apart as those that are known. It
-/// lays out nothing and fills no page, keeps the labels where no heading comes or goes, and keeps the sheets of locked pages but
-/// for their rounds where first rows and page starts stay. On an error there was no memory, all four are as they were, and what is
-/// handed back leads where what was to be put back led.
+/// lays out nothing and fills no page, and keeps the labels where no heading comes or goes. Where known first rows and page starts
+/// stay, the sheets of locked pages may be kept but for their rounds. On an error there was no memory, all four are as they were,
+/// and what is handed back leads where what was to be put back led.
 pub(crate) fn turn_made(
     alloc: Global,
     lines: &Lines,

@@ -1,5 +1,5 @@
-//! Files as a shelf. It tells no content, and counts a fault at each error but those of a missing file and of want of
-//! memory.
+//! Files as a shelf. It tells no content, and counts a fault at each error of a store, and at each of a fetch but those of a missing
+//! file and of want of memory.
 ghost use Rattle.std.specs.Prelude.{◌≡◌, ◌≤◌, Some, Ok, IfSome, IfOk, OnOk};
 ghost use Rattle.std.specs.Io.KnownBytes.{Appends};
 ghost use Rattle.sp_kit.specs.Causes.{Rose};

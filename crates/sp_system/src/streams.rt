@@ -1,5 +1,4 @@
 //! Streams as a source and as sinks. They tell what their streams tell, and count a fault at each error.
-ghost use Rattle.std.specs.Prelude.{◌≡◌};
 
 use sp_kit::{Failed, Sink, Source};
 use std::io::{Read, Write};

@@ -7,6 +7,7 @@ ghost use Rattle.spec_jsonback.specs.Lists.{number_data};
 use serde_json::{Map, Value, put};
 use std::alloc::{AllocError, Global};
 
+/// An object that has a number under a key.
 pub(crate) fn number_member(
     alloc: Global,
     key: &str,
@@ -19,6 +20,7 @@ pub(crate) fn number_member(
     Ok(members)
 }
 
+/// An object that has a text under a key.
 pub(crate) fn text_member(
     alloc: Global,
     key: &str,

@@ -1,5 +1,5 @@
-use Rattle.std.proofs.Common.{◌+◌, sym, ◌∙◌, arith}
-use Rattle.sp_packet.proofs.CueRows.{cues_from, cues-there, cues-more, cues-end}
+use Rattle.std.proofs.Common.{sym, ◌∙◌, arith}
+use Rattle.sp_packet.proofs.CueRows.{cues_from, cues-more, cues-end}
 use Rattle.sp_packet.proofs.cue.cue_rows.Goals as goal
 
 pub returns-then-not-is_cue : goal.returns-then-not-is_cue

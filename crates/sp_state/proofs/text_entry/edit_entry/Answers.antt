@@ -1,4 +1,4 @@
-use Rattle.std.proofs.Common.{◌≡◌, List, ap, sym, subst, ◌∙◌, refl, ap₂}
+use Rattle.std.proofs.Common.{List, ap, sym, subst, ◌∙◌, refl, ap₂}
 use Rattle.spec_text.specs.Edits.{changed, replacement_of}
 use Rattle.spec_text.specs.Lines.{TextState, line_texts}
 use Rattle.spec_text.specs.Ranges.{range_of}

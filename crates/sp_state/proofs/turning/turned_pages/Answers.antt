@@ -12,7 +12,7 @@ pub renumber-requires-clause-kept : goal.renumber-requires-clause-kept
 renumber-requires-clause-kept c keeps =
     let sheets = c.args.numbered.now.sheets in
     let stay = c.pages_stay-keeps_pages.ensures in
-    let known = OnTrue_at (OnTrue_at keeps stay.firsts) c.are_known-keeps_firsts.ensures ∙ ap Some (c.deref.ensures.value ∙ sym c.deref-2.ensures.value) in
+    let known = OnTrue_at (OnTrue_at keeps stay.firsts) c.firsts_stay-keeps_firsts.ensures ∙ ap Some (c.deref.ensures.value ∙ sym c.deref-2.ensures.value) in
     let same = sym (OnTrue_at keeps stay.pages) ∙ c.in_ok-other.ensures.back in
     known-before c.args.known.now c.deref-2.result.now (λ firsts. IfSome c.args.records.now.pages (λ those. AreSheetsBefore those firsts c.put_back.new.self.starts sheets))
     (subst (λ (starts : List ℕ). IfSome c.args.known.now (λ firsts. IfSome c.args.records.now.pages (λ those. AreSheetsBefore those firsts.items starts sheets))) (sym same) c.requires.kept) known

@@ -1,4 +1,4 @@
-use Rattle.std.proofs.Common.{◌≡◌, ◌+◌, ℕ, List, sym, ap, ap₂, subst, ◌∙◌}
+use Rattle.std.proofs.Common.{◌+◌, ℕ, sym, ap₂, subst}
 use Rattle.sp_elements.specs.Bodies.{KeyedElements, keyed_elements}
 use Rattle.sp_compare.specs.BareRows.{AreLaid, AreSameAround}
 use Rattle.sp_compare.proofs.OldRowLaws.{outside-around}

@@ -1,4 +1,4 @@
-use Rattle.std.proofs.Common.{◌≡◌, ◌<◌, get_or, ap, ap₂, sym, subst, ◌∙◌, eq-eqb}
+use Rattle.std.proofs.Common.{◌<◌, get_or, ap, ap₂, sym, subst, ◌∙◌, eq-eqb}
 use Rattle.spec_text.specs.Lines.{line_texts}
 use Rattle.spec_pages.specs.Rows.{Row, shifted_row}
 use Rattle.spec_layout.specs.Layout.{placed_in}

@@ -1,5 +1,4 @@
-use Rattle.std.proofs.Common.{◌≡◌, ◌+◌, ◌-◌, ◌<◌, ◌≤◌, List, drop, take, get_or, ap, sym, ◌∙◌, arith}
-use Rattle.spec_labels.specs.declared.RowKey.{RowKey}
+use Rattle.std.proofs.Common.{◌-◌, take, get_or, ap, sym, ◌∙◌, arith}
 use Rattle.spec_layout.specs.Layout.{placed_in}
 use Rattle.sp_elements.specs.Bodies.{KeyedElements, keyed_elements, row_count}
 use Rattle.sp_compare.proofs.OldRowLaws.{count-old, count-parts, key-front, key-gone, key-moved, row-front, row-gone, row-moved}

@@ -2,9 +2,9 @@ use Rattle.std.proofs.Common.{◌≡◌, ◌+◌, ◌-◌, ◌≤◌, ◌<◌, O
 use Rattle.std.specs.Prelude.{All}
 use Rattle.std.specs.Option.{option_copied}
 use Rattle.spec_text.specs.Lines.{line_texts}
+use Rattle.spec_text.proofs.ListLaws.{All-front, All-back}
 use Rattle.spec_pages.specs.Rows.{Row, ElementOf, placed_rows, shifted_row}
 use Rattle.spec_labels.specs.Labels.{LabelOf}
-use Rattle.spec_labels.proofs.SheetLaws.{All-front, All-back}
 use Rattle.spec_layout.specs.Cells.{RowShows}
 use Rattle.spec_layout.specs.Layout.{placed_in}
 use Rattle.spec_layout.specs.Shown.{Shown, element_cue, heading_label, shown_of, shown_rows}
