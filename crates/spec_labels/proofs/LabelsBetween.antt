@@ -1,5 +1,5 @@
 -- A label between two others lies strictly between them, rises with its place, and is a label.
-use Rattle.std.proofs.Common.{◌≡◌, ℕ, zero, suc, ◌+◌, ◌-◌, ◌<◌, ◌≢◌, ◌&&◌, Bool, true, false, List, [], ◌∷◌, ◌++◌, length, drop, cond, ne_eqb, ⊎_elim, refl, ap, ap₂, sym, ◌∙◌, subst, append_assoc, append-nil, length-append, eq-eqb, eqb-true, nat_cmp, Ordering, Less, Equal, Greater, arith}
+use Rattle.std.proofs.Common.{◌≡◌, ℕ, zero, suc, ◌+◌, ◌-◌, ◌<◌, ◌≢◌, ◌&&◌, true, false, List, [], ◌∷◌, ◌++◌, length, drop, cond, ne_eqb, ⊎_elim, refl, ap, ap₂, sym, ◌∙◌, subst, append_assoc, append-nil, length-append, eq-eqb, eqb-true, nat_cmp, Ordering, Less, Equal, Greater, arith}
 use Rattle.std.specs.Prelude.{Option, Some, None, IfSome, slice_get, replicate, nat_eq}
 use Rattle.std.specs.Cmp.{nat_cmp_is}
 use Rattle.std.specs.Cmp.Lexicographic.{slice_cmp}

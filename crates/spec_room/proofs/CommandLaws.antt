@@ -2,7 +2,7 @@
 use Rattle.std.proofs.Common.{◌≡◌, ℕ, Bool, false, cond, Ok, List, sym, ap, subst, ◌∙◌, refl}
 use Rattle.spec_text.specs.Edits.{EditOf, replace, splice}
 use Rattle.spec_wire.specs.Commands.{CommandOf, RoomLineOf, edit, undo, redo, lock_scenes, lock_pages, next_round, sheet, labels, blocks, outline, save, speakers, paper, packet}
-use Rattle.spec_wire.specs.Replies.{ReplyOf, refused, is_refused}
+use Rattle.spec_wire.specs.Replies.{ReplyOf, is_refused}
 use Rattle.spec_machine.specs.Machine.{Memory, memory_after, Accepts}
 use Rattle.spec_machine.specs.Answers as answers
 use Rattle.spec_machine.specs.Answers.{step_of}

@@ -1,4 +1,4 @@
-use Rattle.std.proofs.Common.{◌≡◌, ◌-◌, ◌+◌, Bool, true, false, subst, arith, eqb-true}
+use Rattle.std.proofs.Common.{◌≡◌, ◌-◌, ◌+◌, subst, arith, eqb-true}
 use Rattle.std.proofs.lemmas.Bool.{OnTrue_from}
 use Rattle.sp_compare.specs.BareRows.{Both, bare_rows}
 use Rattle.sp_compare.proofs.OldRowLaws.{aside-front, aside-behind}
