@@ -284,11 +284,10 @@ fn plain(alloc: Global, text: &str) -> Result<String, AllocError> {
     Ok(plain)
 }
 
-/// The case that a text says.
-pub fn case_of(alloc: Global, text: &str) -> Result<Case, AllocError> {
-    let mut case = no_case(alloc);
+/// Adds what the lines of a text say. A sheet ends where a line is no row of it.
+fn add_lines(alloc: Global, case: &mut Case, text: &str) -> Result<(), AllocError> {
     let mut in_sheet = false;
-    for line in plain(alloc, text)?.split('\n') {
+    for line in text.split('\n') {
         let (count, line) = repeated(line);
         let Some(kind) = line.as_bytes().first() else {
             continue;
@@ -302,12 +301,19 @@ pub fn case_of(alloc: Global, text: &str) -> Result<Case, AllocError> {
         }
         let rest = line.get(1..).unwrap_or("");
         for _ in 0..count {
-            add(alloc, &mut case, *kind, rest)?;
+            add(alloc, case, *kind, rest)?;
         }
     }
     if in_sheet {
         case.written.push(b'\x0c')?;
     }
+    Ok(())
+}
+
+/// The case that a text says.
+pub fn case_of(alloc: Global, text: &str) -> Result<Case, AllocError> {
+    let mut case = no_case(alloc);
+    add_lines(alloc, &mut case, plain(alloc, text)?.as_str())?;
     if case.words.is_empty() {
         add_words(alloc, &mut case.words, "print")?;
     }

@@ -1,7 +1,7 @@
 //! Cases of packets.
 use crate::case::{Case, case_of};
 use crate::faults::Faults;
-use crate::ran::{Program, ran, ran_over, store};
+use crate::ran::{Program, kept, ran_over, shelf_of, store};
 use sp_kit::MemoryShelf;
 use std::alloc::{AllocError, Global};
 
@@ -12,8 +12,57 @@ fn written<P: Program>(
     text: &str,
     shelf: &mut MemoryShelf,
 ) -> Result<Vec<u8>, AllocError> {
-    let (_, written, _) = ran_over(program, alloc, &case_of(alloc, text)?, shelf)?;
-    Ok(written)
+    let case = case_of(alloc, text)?;
+    ran_over(program, alloc, &case, shelf)?
+        .written
+        .to_vec(alloc)
+}
+
+/// Keeps under a name what a run writes over what the shelf has.
+fn keep<P: Program>(
+    program: &P,
+    alloc: Global,
+    text: &str,
+    name: &str,
+    shelf: &mut MemoryShelf,
+) -> Result<(), AllocError> {
+    let bytes = written(program, alloc, text, shelf)?;
+    store(shelf, name, &bytes)
+}
+
+/// Does the command of a case over what the shelf has, and saves. The replies have to end as the case says.
+fn compare_replies<P: Program>(
+    program: &P,
+    alloc: Global,
+    case: &Case,
+    shelf: &mut MemoryShelf,
+    faults: &mut Faults,
+) -> Result<(), AllocError> {
+    let command = &case.command;
+    let session = format!(in alloc;
+        "$desk f\n>{command}\n>{{\"do\":\"save\"}}\n>{{\"do\":\"packet\"}}"
+    )?;
+    let replies = written(program, alloc, session.as_str(), shelf)?;
+    if !replies.ends_with(&case.written) {
+        faults.tell("wrote", &replies, &case.written)?;
+    }
+    Ok(())
+}
+
+/// Collates the sheets from before with the packet. They have to become those that are printed now, which are others than before.
+fn compare_collated<P: Program>(
+    program: &P,
+    alloc: Global,
+    shelf: &mut MemoryShelf,
+    faults: &mut Faults,
+) -> Result<(), AllocError> {
+    let now = written(program, alloc, "$print f", shelf)?;
+    let collated = written(program, alloc, "$collate old new", shelf)?;
+    faults.compare("collated", &collated, &now)?;
+    if kept(alloc, shelf, "old")? == now {
+        faults.tell("printed", &now, b"other sheets than before")?;
+    }
+    Ok(())
 }
 
 /// Does the command of a case over what the case leaves, saves, and asks for the packet. The replies have to end as the case says,
@@ -24,24 +73,10 @@ pub fn compare_packet<P: Program>(
     case: &Case,
     faults: &mut Faults,
 ) -> Result<(), AllocError> {
-    let mut shelf = ran(program, alloc, case)?.shelf;
-    let old = written(program, alloc, "$print f", &mut shelf)?;
-    let command = &case.command;
-    let session = format!(in alloc;
-        "$desk f\n>{command}\n>{{\"do\":\"save\"}}\n>{{\"do\":\"packet\"}}"
-    )?;
-    let replies = written(program, alloc, session.as_str(), &mut shelf)?;
-    if !replies.ends_with(&case.written) {
-        faults.tell("wrote", &replies, &case.written)?;
-    }
-    let packet = written(program, alloc, "$packet f", &mut shelf)?;
-    let now = written(program, alloc, "$print f", &mut shelf)?;
-    store(&mut shelf, "old", &old)?;
-    store(&mut shelf, "new", &packet)?;
-    let collated = written(program, alloc, "$collate old new", &mut shelf)?;
-    faults.compare("collated", &collated, &now)?;
-    if old == now {
-        faults.tell("printed", &now, b"other sheets than before")?;
-    }
-    Ok(())
+    let mut shelf = shelf_of(alloc, case)?;
+    ran_over(program, alloc, case, &mut shelf)?;
+    keep(program, alloc, "$print f", "old", &mut shelf)?;
+    compare_replies(program, alloc, case, &mut shelf, faults)?;
+    keep(program, alloc, "$packet f", "new", &mut shelf)?;
+    compare_collated(program, alloc, &mut shelf, faults)
 }

@@ -27,56 +27,103 @@ pub fn store(shelf: &mut MemoryShelf, name: &str, bytes: &[u8]) -> Result<(), Al
     }
 }
 
-/// A shelf with the files of a case, whose calls fail as the case says.
-fn shelf_of(alloc: Global, case: &Case) -> Result<MemoryShelf, AllocError> {
-    let files = [
-        ("f", case.script.as_slice(), !case.is_missing),
-        ("f.desk", case.records.as_slice(), !case.records.is_empty()),
-        ("g", case.other.as_slice(), !case.other.is_empty()),
-    ];
+/// Stores bytes of a case where there are any.
+fn store_any(shelf: &mut MemoryShelf, name: &str, bytes: &[u8]) -> Result<(), AllocError> {
+    if bytes.is_empty() {
+        return Ok(());
+    }
+    store(shelf, name, bytes)
+}
+
+/// How many files a case begins with.
+fn files_of(case: &Case) -> u64 {
+    u64::from(!case.is_missing)
+        + u64::from(!case.records.is_empty())
+        + u64::from(!case.other.is_empty())
+}
+
+/// The calls of the shelf that fail, those counted that store the files of a case.
+fn shelf_fails_of(alloc: Global, case: &Case) -> Result<Vec<u64>, AllocError> {
+    let files = files_of(case);
     let mut fails = Vec::new(alloc);
     for call in &case.shelf_fails {
-        let stored = files.iter().filter(|file| file.2).count() as u64;
-        fails.push(call.saturating_add(stored))?;
+        fails.push(call.saturating_add(files))?;
     }
-    let mut shelf = MemoryShelf::new(alloc, fails);
-    for (name, bytes, is_there) in files {
-        if is_there {
-            store(&mut shelf, name, bytes)?;
-        }
+    Ok(fails)
+}
+
+/// A shelf with the files of a case, whose calls fail as the case says.
+pub fn shelf_of(alloc: Global, case: &Case) -> Result<MemoryShelf, AllocError> {
+    let mut shelf = MemoryShelf::new(alloc, shelf_fails_of(alloc, case)?);
+    if !case.is_missing {
+        store(&mut shelf, "f", &case.script)?;
     }
+    store_any(&mut shelf, "f.desk", &case.records)?;
+    store_any(&mut shelf, "g", &case.other)?;
     Ok(shelf)
 }
 
-/// What a run told, wrote and counted, and what it left on the shelf.
-#[derive(Drop)]
+/// What a run told, wrote and counted.
 pub struct Outcome {
     pub told: String,
     pub written: Vec<u8>,
     pub counts: String,
-    pub shelf: MemoryShelf,
 }
 
-/// Runs the program on a case, over a shelf that stands already, and answers what it told, what it wrote and what it
-/// counted.
+/// One call wherever it is dropped, so that no proof there follows each of its fields.
+impl Drop for Outcome {
+    fn drop(self) {
+        let Outcome {
+            told: _told,
+            written: _written,
+            counts: _counts,
+        } = self;
+    }
+}
+
+/// The source of a case: its commands, or its script where it has none.
+fn source_of(alloc: Global, case: &Case) -> Result<MemorySource, AllocError> {
+    let bytes = if case.commands.is_empty() {
+        &case.script
+    } else {
+        &case.commands
+    };
+    let bytes = bytes.to_vec(alloc)?;
+    let fails = case.input_fails.to_vec(alloc)?;
+    Ok(MemorySource::new(bytes, case.piece.max(1), fails))
+}
+
+/// The sink of a case.
+fn sink_of(alloc: Global, case: &Case) -> Result<MemorySink, AllocError> {
+    let fails = case.output_fails.to_vec(alloc)?;
+    MemorySink::new(alloc, 1 << 25, case.piece.max(1), fails)
+}
+
+/// What came of a run that told this.
+fn outcome_of(
+    alloc: Global,
+    told: String,
+    output: &MemorySink,
+    steps: &Counter,
+) -> Result<Outcome, AllocError> {
+    let counts = format!(in alloc; "{} {}", steps.reads(), steps.fills())?;
+    let written = output.taken().to_vec(alloc)?;
+    Ok(Outcome {
+        told,
+        written,
+        counts,
+    })
+}
+
+/// Runs the program on a case, over a shelf that stands already.
 pub fn ran_over<P: Program>(
     program: &P,
     alloc: Global,
     case: &Case,
     shelf: &mut MemoryShelf,
-) -> Result<(String, Vec<u8>, String), AllocError> {
-    let bytes = if case.commands.is_empty() {
-        case.script.to_vec(alloc)?
-    } else {
-        case.commands.to_vec(alloc)?
-    };
-    let mut input = MemorySource::new(bytes, case.piece.max(1), case.input_fails.to_vec(alloc)?);
-    let mut output = MemorySink::new(
-        alloc,
-        1 << 25,
-        case.piece.max(1),
-        case.output_fails.to_vec(alloc)?,
-    )?;
+) -> Result<Outcome, AllocError> {
+    let mut input = source_of(alloc, case)?;
+    let mut output = sink_of(alloc, case)?;
     let mut steps = Counter::new();
     let told = program.run(
         alloc,
@@ -86,20 +133,13 @@ pub fn ran_over<P: Program>(
         shelf,
         &mut steps,
     )?;
-    let counts = format!(in alloc; "{} {}", steps.reads(), steps.fills())?;
-    Ok((told, output.taken().to_vec(alloc)?, counts))
+    outcome_of(alloc, told, &output, &steps)
 }
 
 /// Runs the program on a case.
 pub fn ran<P: Program>(program: &P, alloc: Global, case: &Case) -> Result<Outcome, AllocError> {
     let mut shelf = shelf_of(alloc, case)?;
-    let (told, written, counts) = ran_over(program, alloc, case, &mut shelf)?;
-    Ok(Outcome {
-        told,
-        written,
-        counts,
-        shelf,
-    })
+    ran_over(program, alloc, case, &mut shelf)
 }
 
 /// What the shelf has under a name; nothing where it has none.
@@ -110,6 +150,31 @@ pub fn kept(alloc: Global, shelf: &mut MemoryShelf, name: &str) -> Result<Vec<u8
     }
 }
 
+/// Compares what the shelf has under a name with what it has to, where that is said.
+fn compare_kept(
+    alloc: Global,
+    shelf: &mut MemoryShelf,
+    name: &str,
+    bytes: &[u8],
+    faults: &mut Faults,
+) -> Result<(), AllocError> {
+    if !bytes.is_empty() {
+        faults.compare(name, &kept(alloc, shelf, name)?, bytes)?;
+    }
+    Ok(())
+}
+
+/// Compares what a run told, counted and wrote with what it has to.
+fn compare_outcome(case: &Case, it: &Outcome, faults: &mut Faults) -> Result<(), AllocError> {
+    if !it.told.starts_with(case.status.as_str()) {
+        faults.tell("told", it.told.as_bytes(), case.status.as_bytes())?;
+    }
+    if !case.counts.is_empty() {
+        faults.compare("counted", it.counts.as_bytes(), case.counts.as_bytes())?;
+    }
+    faults.compare("wrote", &it.written, &case.written)
+}
+
 /// Runs the program on a case, and compares what comes of it with what has to.
 pub fn compare_run<P: Program>(
     program: &P,
@@ -117,18 +182,9 @@ pub fn compare_run<P: Program>(
     case: &Case,
     faults: &mut Faults,
 ) -> Result<(), AllocError> {
-    let mut it = ran(program, alloc, case)?;
-    if !it.told.starts_with(case.status.as_str()) {
-        faults.tell("told", it.told.as_bytes(), case.status.as_bytes())?;
-    }
-    if !case.counts.is_empty() {
-        faults.compare("counted", it.counts.as_bytes(), case.counts.as_bytes())?;
-    }
-    faults.compare("wrote", &it.written, &case.written)?;
-    for (name, bytes) in [("f", &case.script_kept), ("f.desk", &case.records_kept)] {
-        if !bytes.is_empty() {
-            faults.compare(name, &kept(alloc, &mut it.shelf, name)?, bytes)?;
-        }
-    }
-    Ok(())
+    let mut shelf = shelf_of(alloc, case)?;
+    let it = ran_over(program, alloc, case, &mut shelf)?;
+    compare_outcome(case, &it, faults)?;
+    compare_kept(alloc, &mut shelf, "f", &case.script_kept, faults)?;
+    compare_kept(alloc, &mut shelf, "f.desk", &case.records_kept, faults)
 }

@@ -1,7 +1,8 @@
 //! Cases that are run again and again: with each call failing in turn, and over record files that are cut.
 use crate::case::{Case, case_of};
 use crate::faults::Faults;
-use crate::ran::{Program, kept, ran};
+use crate::ran::{Outcome, Program, kept, ran, ran_over, shelf_of};
+use sp_kit::MemoryShelf;
 use std::alloc::{AllocError, Global};
 
 /// The calls that fail of a case: of the source, of the sink or of the shelf.
@@ -11,6 +12,23 @@ fn fails_of<'a>(case: &'a mut Case, kind: &str) -> &'a mut Vec<u64> {
         "o" => &mut case.output_fails,
         _ => &mut case.shelf_fails,
     }
+}
+
+/// Compares what a run told and wrote in which a call failed: it has to end with the status, and to write what begins what the case
+/// says.
+fn compare_broken_off(
+    case: &Case,
+    it: &Outcome,
+    status: &str,
+    faults: &mut Faults,
+) -> Result<(), AllocError> {
+    if !it.told.starts_with(status) {
+        faults.tell("told", it.told.as_bytes(), status.as_bytes())?;
+    }
+    if !case.written.starts_with(&it.written) {
+        faults.tell("wrote", &it.written, &case.written)?;
+    }
+    Ok(())
 }
 
 /// Runs a case with each call of a kind failing in turn, until it comes out as if none had. Each run before has to end with the
@@ -32,15 +50,16 @@ fn fail_in_turn<P: Program>(
             faults.compare("wrote", &it.written, &case.written)?;
             break;
         }
-        if !it.told.starts_with(status) {
-            faults.tell("told", it.told.as_bytes(), status.as_bytes())?;
-        }
-        if !case.written.starts_with(&it.written) {
-            faults.tell("wrote", &it.written, &case.written)?;
-        }
+        compare_broken_off(&case, &it, status, faults)?;
         calls = call + 1;
     }
     Ok(calls)
+}
+
+/// Tells that fewer calls failed than there have to be.
+fn tell_few(alloc: Global, calls: u64, least: &str, faults: &mut Faults) -> Result<(), AllocError> {
+    let calls = format!(in alloc; "{calls}")?;
+    faults.tell("calls that fail", calls.as_bytes(), least.as_bytes())
 }
 
 /// Lets calls of a case fail in turn, where it says so.
@@ -56,8 +75,7 @@ pub fn compare_turns<P: Program>(
         let (status, least) = rest.split_once(' ').unwrap_or((rest, ""));
         let calls = fail_in_turn(program, alloc, text, kind, status, faults)?;
         if calls < least.parse().unwrap_or(u64::MAX) {
-            let calls = format!(in alloc; "{calls}")?;
-            faults.tell("calls that fail", calls.as_bytes(), least.as_bytes())?;
+            tell_few(alloc, calls, least, faults)?;
         }
     }
     Ok(())
@@ -90,13 +108,44 @@ fn compare_shorter<P: Program>(
     faults: &mut Faults,
 ) -> Result<(), AllocError> {
     print.records = records.to_vec(alloc)?;
-    let whole = ran(program, alloc, print)?.written;
+    let whole = ran(program, alloc, print)?;
     let end = records.len().saturating_sub(1);
     for place in 1..end {
         compare_print(program, alloc, print, &records[..place], told, b"", faults)?;
     }
-    compare_print(program, alloc, print, &records[..end], "0", &whole, faults)?;
-    compare_print(program, alloc, print, records, "0", &whole, faults)
+    compare_print(
+        program,
+        alloc,
+        print,
+        &records[..end],
+        "0",
+        &whole.written,
+        faults,
+    )?;
+    compare_print(program, alloc, print, records, "0", &whole.written, faults)
+}
+
+/// The case that prints the script of a shelf.
+fn print_of(alloc: Global, shelf: &mut MemoryShelf) -> Result<Case, AllocError> {
+    let mut print = case_of(alloc, "$print f")?;
+    print.script = kept(alloc, shelf, "f")?;
+    Ok(print)
+}
+
+/// Compares what is told over each shorter record file than that of a shelf.
+fn compare_cuts_of<P: Program>(
+    program: &P,
+    alloc: Global,
+    shelf: &mut MemoryShelf,
+    told: &str,
+    faults: &mut Faults,
+) -> Result<(), AllocError> {
+    let records = kept(alloc, shelf, "f.desk")?;
+    if records.is_empty() {
+        faults.tell("f.desk", b"", b"a record file")?;
+    }
+    let mut print = print_of(alloc, shelf)?;
+    compare_shorter(program, alloc, &mut print, &records, told, faults)
 }
 
 /// Compares what is told over each shorter record file than the one that a case leaves, where it says so.
@@ -109,19 +158,7 @@ pub fn compare_cuts<P: Program>(
     if case.cut.is_empty() {
         return Ok(());
     }
-    let mut shelf = ran(program, alloc, case)?.shelf;
-    let records = kept(alloc, &mut shelf, "f.desk")?;
-    if records.is_empty() {
-        faults.tell("f.desk", b"", b"a record file")?;
-    }
-    let mut print = case_of(alloc, "$print f")?;
-    print.script = kept(alloc, &mut shelf, "f")?;
-    compare_shorter(
-        program,
-        alloc,
-        &mut print,
-        &records,
-        case.cut.as_str(),
-        faults,
-    )
+    let mut shelf = shelf_of(alloc, case)?;
+    ran_over(program, alloc, case, &mut shelf)?;
+    compare_cuts_of(program, alloc, &mut shelf, case.cut.as_str(), faults)
 }
