@@ -62,83 +62,101 @@ fn a_sink_takes_pieces_and_tells_an_error_or_no_progress_as_a_fault(
     Ok(())
 }
 
+/// What a fetch told, in a word.
+fn word_of(told: &Result<Fetched, ShelfFault>) -> &'static str {
+    match told {
+        Ok(Fetched::Bytes(bytes)) if bytes.as_slice() == b"!Hello.".as_slice() => "whole",
+        Ok(Fetched::Bytes(_)) => "other bytes",
+        Ok(Fetched::Longer) => "longer",
+        Ok(Fetched::Absent) => "absent",
+        Err(ShelfFault::Failed) => "failed",
+        Err(ShelfFault::NoMemory) => "no memory",
+    }
+}
+
+/// What a fetch of a file of up to so many bytes tells.
+fn fetch_tells(
+    rt: &HostRuntime,
+    name: &str,
+    opening: Option<ErrorKind>,
+    plan: Plan,
+    most: usize,
+) -> &'static str {
+    let files = FailingFiles {
+        system: rt,
+        plan,
+        opening,
+        renaming: None,
+    };
+    word_of(&FileShelf::new(rt.alloc(), &files).fetch(name, most))
+}
+
 #[test]
 fn a_file_is_fetched_whole_or_its_fault_is_told(rt: HostRuntime) -> Result<(), Fail> {
-    let alloc = rt.alloc();
     let name = name_of(&rt, "fetch")?;
     fs::write(&rt, name.as_str(), "!Hello.")?;
-    let whole = Fetched::Bytes(b"!Hello.".to_vec(alloc)?);
     let broken = Failure::Errs(ErrorKind::Other);
     let full = Failure::Errs(ErrorKind::OutOfMemory);
     let pieces = Plan::pieces(3);
     for (opening, plan, most, told) in [
-        (None, pieces, 7, Ok(whole)),
-        (None, pieces, 6, Ok(Fetched::Longer)),
-        (None, Plan::fails(3, 1, broken), 7, Err(ShelfFault::Failed)),
-        (None, Plan::fails(3, 1, full), 7, Err(ShelfFault::NoMemory)),
-        (Some(ErrorKind::NotFound), pieces, 7, Ok(Fetched::Absent)),
-        (
-            Some(ErrorKind::PermissionDenied),
-            pieces,
-            7,
-            Err(ShelfFault::Failed),
-        ),
-        (
-            Some(ErrorKind::OutOfMemory),
-            pieces,
-            7,
-            Err(ShelfFault::NoMemory),
-        ),
+        (None, pieces, 7, "whole"),
+        (None, pieces, 6, "longer"),
+        (None, Plan::fails(3, 1, broken), 7, "failed"),
+        (None, Plan::fails(3, 1, full), 7, "no memory"),
+        (Some(ErrorKind::NotFound), pieces, 7, "absent"),
+        (Some(ErrorKind::PermissionDenied), pieces, 7, "failed"),
+        (Some(ErrorKind::OutOfMemory), pieces, 7, "no memory"),
     ] {
-        let files = FailingFiles {
-            system: &rt,
-            plan,
-            opening,
-            renaming: None,
-        };
-        let fetched = FileShelf::new(alloc, &files).fetch(name.as_str(), most);
-        holds(&rt, fetched == told, "what a fetch tells");
+        let is_told = fetch_tells(&rt, name.as_str(), opening, plan, most) == told;
+        holds(&rt, is_told, "what a fetch tells");
     }
     fs::remove_file(&rt, name.as_str())?;
     Ok(())
 }
 
+/// What a store tells.
+fn store_tells(
+    rt: &HostRuntime,
+    name: &str,
+    plan: Plan,
+    renaming: Option<ErrorKind>,
+    bytes: &[u8],
+) -> Result<(), ShelfFault> {
+    let files = FailingFiles {
+        system: rt,
+        plan,
+        opening: None,
+        renaming,
+    };
+    FileShelf::new(rt.alloc(), &files).store(name, bytes)
+}
+
+/// Whether a file has these bytes.
+fn has_bytes(rt: &HostRuntime, name: &str, bytes: &[u8]) -> Result<bool, Fail> {
+    Ok(fs::read(rt, name)?.as_slice() == bytes)
+}
+
 #[test]
 fn a_store_puts_the_whole_file_in_place_or_leaves_the_old_one(rt: HostRuntime) -> Result<(), Fail> {
-    let alloc = rt.alloc();
     let name = name_of(&rt, "store")?;
-    let beside = format!(in alloc; "{name}.saving0")?;
+    let beside = format!(in rt.alloc(); "{name}.saving0")?;
     let full = Failure::Errs(ErrorKind::StorageFull);
     let stands = Failure::MovesNothing;
+    let denied = Some(ErrorKind::PermissionDenied);
     let old = b"!Hello.".as_slice();
     let new = b"!Once again.".as_slice();
+    let failed = Err(ShelfFault::Failed);
     for (plan, renaming, told, kept) in [
         (Plan::pieces(5), None, Ok(()), new),
-        (Plan::fails(5, 1, full), None, Err(ShelfFault::Failed), old),
-        (
-            Plan::fails(5, 1, stands),
-            None,
-            Err(ShelfFault::Failed),
-            old,
-        ),
-        (
-            Plan::pieces(5),
-            Some(ErrorKind::PermissionDenied),
-            Err(ShelfFault::Failed),
-            old,
-        ),
+        (Plan::fails(5, 1, full), None, failed, old),
+        (Plan::fails(5, 1, stands), None, failed, old),
+        (Plan::pieces(5), denied, failed, old),
     ] {
         fs::write(&rt, name.as_str(), old)?;
-        let files = FailingFiles {
-            system: &rt,
-            plan,
-            opening: None,
-            renaming,
-        };
-        let stored = FileShelf::new(alloc, &files).store(name.as_str(), new);
-        holds(&rt, stored == told, "what a store tells");
-        let bytes = fs::read(&rt, name.as_str())?;
-        holds(&rt, bytes.as_slice() == kept, "what stands there");
+        let is_told = store_tells(&rt, name.as_str(), plan, renaming, new) == told;
+        holds(&rt, is_told, "what a store tells");
+        let is_kept = has_bytes(&rt, name.as_str(), kept)?;
+        holds(&rt, is_kept, "what stands there");
         let is_left = fs::remove_file(&rt, beside.as_str()).is_ok();
         holds(&rt, !is_left, "nothing is left beside");
     }
