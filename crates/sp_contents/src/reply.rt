@@ -1,16 +1,35 @@
 //! The outline of a script.
 ghost use Rattle.std.specs.Prelude.{◌≡◌, string_bytes, IfOk};
-ghost use Rattle.spec_machine.specs.Outlines.{outline_of};
+ghost use Rattle.spec_text.specs.Lines.{line_texts};
+ghost use Rattle.spec_script.specs.Stanzas.{blocks_of};
+ghost use Rattle.spec_outline.specs.Outline.{cast_of};
+ghost use Rattle.spec_machine.specs.Outlines.{names_of, outline_of};
 ghost use Rattle.spec_wire.specs.Replies as replies;
 ghost use Rattle.sp_commands.specs.Values.{reply_of};
 
 use crate::scenes::scenes_of;
+use sp_blocks::PlacedBlock;
 use sp_commands::Reply;
 use sp_entries::{entries_of, speaker_names};
-use sp_outline::cast;
+use sp_outline::{CastLine, cast};
 use sp_reread::placed_blocks;
 use sp_state::Script;
 use std::alloc::{AllocError, Global};
+
+/// The cast of a script with these blocks.
+fn cast_among(
+    alloc: Global,
+    script: &Script,
+    blocks: &[PlacedBlock<'_>],
+) -> Result<Vec<CastLine>, AllocError>
+    requires { blocks.now ≡ blocks_of (line_texts script.now.lines) }
+    ensures { IfOk result (λ cast. cast.items ≡ cast_of (names_of script.now)) }
+{
+    let lines = script.lines();
+    let _count = lines.len();
+    let names = speaker_names(alloc, lines, blocks)?;
+    cast(alloc, &names)
+}
 
 /// The outline of a script with its cast, as text (docs/RULES.md, "Outline"). Time grows with the script and its records,
 /// but for look-ups by halves. `AllocError` comes for want of memory alone.
@@ -23,8 +42,7 @@ pub fn outline_text(alloc: Global, script: &Script) -> Result<String, AllocError
     let blocks = placed_blocks(alloc, script.stanzas())?;
     let scenes = scenes_of(alloc, script, &blocks)?;
     let entries = entries_of(alloc, lines, &scenes, &blocks)?;
-    let names = speaker_names(alloc, lines, &blocks)?;
-    let cast = cast(alloc, &names)?;
+    let cast = cast_among(alloc, script, &blocks)?;
     sp_outline::outline_text(alloc, &entries, &cast)
 }
 

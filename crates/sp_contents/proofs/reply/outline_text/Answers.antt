@@ -25,9 +25,3 @@ entries_of-requires-clause-labels c =
 pub entries_of-requires-clause-rising : goal.entries_of-requires-clause-rising
 entries_of-requires-clause-rising c =
     subst (λ (it : Scenes). AllPairs Below it.gone) (sym c.in_ok-scenes.ensures) (gone-rises c.args.script.now c.body_sheets-sheets.ensures.whole)
-
-pub speaker_names-requires : goal.speaker_names-requires
-speaker_names-requires c =
-    let same = ap (λ (it : TextState). it.lines) c.lines-lines.ensures in
-    lie-in (text_of c.lines-lines.result.now) c.deref-3.result.now c.len-count.ensures.keeps
-    (c.deref-3.ensures.value ∙ c.in_ok-blocks.ensures ∙ ap (blocks_from 0) c.stanzas.ensures ∙ ap (λ (those : List LineState). blocks_of (line_texts those)) (sym same))
