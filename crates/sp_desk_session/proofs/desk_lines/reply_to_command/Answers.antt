@@ -1,4 +1,4 @@
-use Rattle.std.proofs.Common.{Ok, ap, sym}
+use Rattle.std.proofs.Common.{Ok, ap, sym, rules}
 use Rattle.spec_machine.specs.Answers.{Step}
 use Rattle.spec_machine.proofs.MachineLaws.{all-stay}
 use Rattle.spec_session.specs.Runs.{counts_of}
@@ -40,3 +40,12 @@ returns-in-Err-Refused-clause-counts g c =
 pub returns-in-Err-NoMemory-clause-at_most : goal.returns-in-Err-NoMemory-clause-at_most
 returns-in-Err-NoMemory-clause-at_most g c =
     lacking-counts Reply DeskFault c.args.desk.now (command_of c.args.command) c.in-Err-NoMemory.field-0 (counts_of (g.S.Steps.reads c.args.steps.now) (g.S.Steps.fills c.args.steps.now)) (counts_of (g.S.Steps.reads c.apply.new.steps) (g.S.Steps.fills c.apply.new.steps)) c.in-Err-NoMemory.ensures.reads c.in-Err-NoMemory.ensures.fills
+
+pub returns-in-Ok-clause-reply : goal.returns-in-Ok-clause-reply
+returns-in-Ok-clause-reply g c = search rules
+
+pub returns-in-Err-Refused-clause-reply : goal.returns-in-Err-Refused-clause-reply
+returns-in-Err-Refused-clause-reply g c = search rules
+
+pub returns-in-Err-NoMemory-clause-stops : goal.returns-in-Err-NoMemory-clause-stops
+returns-in-Err-NoMemory-clause-stops g c = search rules

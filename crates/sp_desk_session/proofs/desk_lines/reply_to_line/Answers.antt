@@ -1,4 +1,4 @@
-use Rattle.std.proofs.Common.{Result, sym, subst}
+use Rattle.std.proofs.Common.{Result, sym, subst, rules}
 use Rattle.std.specs.Prelude.{OnErr, OnOk}
 use Rattle.spec_wire.specs.Commands.{CommandOf, FaultOf}
 use Rattle.spec_wire.specs.Lines.{command_of_line}
@@ -45,3 +45,6 @@ returns-in-Err-BadField-clause-counts g c =
 
 pub returns-in-Err-NoMemory-clause-at_most : goal.returns-in-Err-NoMemory-clause-at_most
 returns-in-Err-NoMemory-clause-at_most g c = line-undone c.args.desk.now (command_of_line c.args.line.now) (counts_of (g.S.Steps.reads c.args.steps.now) (g.S.Steps.fills c.args.steps.now))
+
+pub returns-in-Err-UnknownCommand-clause-reply : goal.returns-in-Err-UnknownCommand-clause-reply
+returns-in-Err-UnknownCommand-clause-reply g c = search rules

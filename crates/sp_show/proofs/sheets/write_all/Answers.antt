@@ -1,3 +1,4 @@
+use Rattle.std.proofs.Common.{rules}
 use Rattle.std.specs.List.{flat_map}
 use Rattle.spec_state.specs.StateSheets.{sheets_of_state}
 use Rattle.sp_show.specs.SheetForms.{sheet_in}
@@ -19,3 +20,6 @@ loop-i-preserved g c = record {
   wrote = wrote_next (sheet_in c.args.form) (g.O.Sink.state c.args.output.now) (g.O.Sink.state c.loop-i.output) (g.O.Sink.state c.write_sheet.new.output) (sheets_of_state c.args.script.now) c.loop-i.i c.in-Some.page
       c.loop-i.invariant.wrote c.in-Some.ensures.some c.in_ok-write_sheet.ensures.written;
 }
+
+pub loop-i-init : goal.loop-i-init
+loop-i-init g c = search rules
