@@ -30,7 +30,7 @@ fn keep<P: Program>(
     store(shelf, name, &bytes)
 }
 
-/// Does the command of a case over what the shelf has, and saves. The replies have to end as the case says.
+/// Does the command of a case over what the shelf has, saves, and asks for the packet. The replies have to end as the case says.
 fn compare_replies<P: Program>(
     program: &P,
     alloc: Global,

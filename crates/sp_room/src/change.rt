@@ -51,6 +51,17 @@ pub fn edit_change(edit: &Edit) -> Change
     }
 }
 
+/// The change at another place.
+pub fn change_at(change: Change, place: u64) -> Change
+    ensures { result ≡ record { first = place; taken = change.taken; put = change.put } }
+{
+    Change {
+        first: place,
+        taken: change.taken,
+        put: change.put,
+    }
+}
+
 /// The edit at another place.
 pub fn moved_to(edit: Edit, place: u64) -> Edit
     ensures { edit_of result ≡ edit_moved (edit_of edit) place }

@@ -12,7 +12,7 @@ ghost use Rattle.sp_room.specs.Answers.{line_of, IsRoomAnswer};
 ghost use Rattle.sp_room.specs.Counts.{RoomReads, RoomFills};
 
 use crate::ask::ask;
-use crate::change::{Change, edit_change, is_forgetting, moved_to, turned};
+use crate::change::{Change, change_at, edit_change, is_forgetting, moved_to, turned};
 use crate::owner::{Owner, last_owner, make_room, move_last};
 use crate::place::{present_place, remember};
 use sp_commands::{Command, Refusal, Reply};
@@ -144,11 +144,7 @@ impl Room {
             Ok(place) => place,
             Err(refusal) => return Err(DeskFault::Refused(refusal)),
         };
-        let change = Change {
-            first: place,
-            taken: range.taken,
-            put: range.put,
-        };
+        let change = change_at(range, place);
         let seat = String::from_str(self.alloc, seat)?;
         make_room(&mut self.changes, &mut self.done)?;
         let reply = ask(

@@ -34,9 +34,11 @@ stepped g c =
     let found : asked_edit (ranges it.changes.items) it.version (length it.desk.state.lines) c.args.seen (range_of range) ≡ Ok (edits (range_of change)) =
     ap (λ (n : ℕ). asked_edit (ranges it.changes.items) it.version n c.args.seen (range_of range)) (sym lines) ∙ c.in-Ok.ensures in
     let remembered : c.remember.new.changes.items ≡ last_of kept_changes (it.changes.items ++ change ∷ []) =
-    c.remember.ensures ∙ ap (λ (changes : List Change). last_of kept_changes (changes ++ change ∷ [])) c.in_ok-make_room.ensures.changes in
+    c.remember.ensures ∙ ap (λ (changes : List Change). last_of kept_changes (changes ++ c.change_at-change.result ∷ [])) c.in_ok-make_room.ensures.changes
+    ∙ ap (λ (made : Change). last_of kept_changes (it.changes.items ++ made ∷ [])) c.change_at-change.ensures in
     let did : c.push_reserved.new.self.items ≡ it.done.items ++ owner ∷ [] =
-    c.push_reserved.ensures.items ∙ ap (λ (owners : List OwnerOf). owners ++ owner ∷ []) c.in_ok-make_room.ensures.owners in
+    c.push_reserved.ensures.items ∙ ap (λ (owners : List OwnerOf). owners ++ record { seat = string_bytes c.in_ok-seat.seat; range = range_of c.change_at-change.result } ∷ []) c.in_ok-make_room.ensures.owners
+    ∙ ap (λ (made : Change). it.done.items ++ record { seat = string_bytes c.in_ok-seat.seat; range = range_of made } ∷ []) c.change_at-change.ensures in
     let undid : c.clear.new.self.items ≡ [] = c.clear.ensures.items in
     let seat : string_bytes c.in_ok-seat.seat ≡ c.args.seat.now = c.in_ok-seat.ensures.ok in
     subst (λ (seat : List ℕ). Answered (room_of it.desk it.version it.changes.items it.done.items it.undone.items) (line_of seat c.args.seen (edit (edit_of c.args.edit))) c.ask.new.desk (it.version + 1)
