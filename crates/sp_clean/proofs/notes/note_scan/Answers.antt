@@ -1,4 +1,4 @@
-use Rattle.std.proofs.Common.{◌≡◌, sym, ap, subst, ◌∙◌, ◌==◌, not, map, length, arith}
+use Rattle.std.proofs.Common.{rules, ◌≡◌, sym, ap, subst, ◌∙◌, ◌==◌, not, map, length, arith}
 use Rattle.std.specs.List.{list_any}
 use Rattle.spec_text.specs.Parts.{Parts}
 use Rattle.spec_text.proofs.PartsLaws.{Parts-Lies}
@@ -40,3 +40,6 @@ returns-clause-parts c =
     subst (Parts c.args.text.now 0)
     (sym (c.in_ok-gone.ensures ∙ ap (λ l. cut_spans c.args.kept.now (map not l)) (flags-is (goal.at.returns-clause-parts c).After-deref)))
     (gone-Parts c.args.text.now c.args.kept.now c.args.inside c.utf8.text c.requires.kept)
+
+pub returns-clause-value : goal.returns-clause-value
+returns-clause-value c = search rules
