@@ -1,4 +1,4 @@
-use Rattle.std.proofs.Common.{sym, subst}
+use Rattle.std.proofs.Common.{rules, sym, subst}
 use Rattle.spec_labels.specs.Scenes.{AreHeadings}
 use Rattle.spec_state.proofs.StateKeys.{text-headings}
 use Rattle.sp_made.proofs.SheetPlaces.{body-lie}
@@ -13,3 +13,6 @@ pub sheet_texts-requires : goal.sheet_texts-requires
 sheet_texts-requires c =
     let whole = c.body_sheets-sheets.ensures.whole in
     subst AreInTurn (sym c.body_sheets-sheets.ensures.sheets) (body-turn c.args.script.now whole (body-lie c.args.script.now whole))
+
+pub returns : goal.returns
+returns c = search rules
