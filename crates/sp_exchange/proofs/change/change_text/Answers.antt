@@ -1,4 +1,4 @@
-use Rattle.std.proofs.Common.{List, length, ap, sym, subst}
+use Rattle.std.proofs.Common.{rules, List, length, ap, sym, subst}
 use Rattle.spec_text.specs.Lines.{TextState, line_texts}
 use Rattle.spec_text.specs.Edits.{replacement_of}
 use Rattle.spec_text.specs.Ranges.{range_of}
@@ -80,3 +80,6 @@ returns-in-Err-clause-at_most g c =
     ensures.text
     (reads-within (text_of c.args.lines.now) (text_of c.change.new.self) (edit_of c.args.edit) (displaced_of c.in_ok-displaced.displaced) c.args.stanzas.now.stanzas
     (g.S.Steps.reads c.args.steps.now) (g.S.Steps.reads c.reread.new.steps) ensures.refuses ensures.displaced ensures.place ensures.back c.requires c.in-Err.ensures.at_most)
+
+pub returns-in-Ok-clause-text : goal.returns-in-Ok-clause-text
+returns-in-Ok-clause-text g c = search rules

@@ -1,4 +1,4 @@
-use Rattle.std.proofs.Common.{◌≡◌, ◌∙◌, ap, arith}
+use Rattle.std.proofs.Common.{rules, ◌≡◌, ◌∙◌, ap, arith}
 use Rattle.spec_text.specs.Lines.{reading_of}
 use Rattle.spec_sample.specs.Sample.{sample_script}
 use Rattle.spec_sample.proofs.SampleReading.{reading_of-sample_script}
@@ -12,3 +12,9 @@ pub returns-clause-reads : goal.returns-clause-reads
 returns-clause-reads c = λ few.
     let all : c.loop-before.before ≡ c.args.rooms = omega arith in
     ap reading_of c.loop-before.invariant ∙ ap (λ n. reading_of (sample_script n)) all ∙ reading_of-sample_script c.args.rooms few
+
+pub loop-before-init : goal.loop-before-init
+loop-before-init c = search rules
+
+pub returns-clause-text : goal.returns-clause-text
+returns-clause-text c = search rules
