@@ -7,7 +7,7 @@ use crate::divisions::division;
 use crate::left::LeftLine;
 use crate::speeches::{is_speech, speech};
 use crate::titles::title_page;
-use sp_title::title_opens;
+use sp_title::is_title_page;
 use std::alloc::{AllocError, Global};
 
 /// The blocks of a stanza, of which these lines are left without the held ones at its beginning: a title page, which it
@@ -24,7 +24,7 @@ pub fn left_blocks(
         return Ok(Vec::new(alloc));
     }
     let opening = &lines[0];
-    if first && title_opens(opening.line, &opening.spans) {
+    if is_title_page(first, opening.line, &opening.spans) {
         return one_block(alloc, title_page(alloc, lines)?);
     }
     if is_speech(lines) {

@@ -1,5 +1,5 @@
-//! The forms of a line that stand by themselves, tests of letters and spaces, and parts of a line (docs/RULES.md,
-//! "Letter tests" and "Places and parts").
+//! The forms of a line, whether it opens a speech, tests of letters and spaces, and parts of a line (docs/RULES.md,
+//! "Letter tests", "Blocks" and "Places and parts").
 //!
 //! All places are places of bytes in the line, from 0. A line has at most 4,096 bytes. Parts that a call takes lie in
 //! the line, begin and end between characters, and stand in order. The kept text of a line is what its kept parts have,
@@ -10,6 +10,13 @@ mod forms;
 pub mod letters;
 pub mod parts;
 pub mod spaces;
+mod speeches;
+mod trimmed_forms;
 
 pub use forms::{is_cue, is_forced_heading, is_heading, is_transition};
 pub use spec_text::Span;
+pub use speeches::opens_speech;
+pub use trimmed_forms::{
+    goes_on, is_centred, is_forced_cue, is_page_break, is_parenthetical, is_section, is_synopsis,
+    listed_kind, section_depth,
+};

@@ -6,7 +6,7 @@
 
 mod keys;
 
-ghost use Rattle.std.specs.Prelude.{◌≡◌, ◌≤◌, ◌+◌, drop, not, length};
+ghost use Rattle.std.specs.Prelude.{◌≡◌, ◌≤◌, ◌+◌, ◌&&◌, drop, not, length};
 ghost use Rattle.std.specs.List.{position_or_len};
 ghost use Rattle.spec_text.specs.Parts.{Parts};
 ghost use Rattle.spec_script.specs.Spans.{text_in};
@@ -30,6 +30,16 @@ pub fn title_opens(text: &str, kept: &[Span]) -> bool
     let mut buffer = [0; LINE_LIMIT];
     let joined = joined_text(text, kept, &mut buffer).as_bytes();
     begins_with_centred_key(joined) || begins_with_other_key(joined)
+}
+
+/// Whether a stanza that begins with the line is a title page: it is the first of its text, and the line opens one.
+/// (docs/RULES.md, "Blocks")
+pub fn is_title_page(first: bool, text: &str, kept: &[Span]) -> bool
+    requires short { length text.now ≤ 4096 }
+    requires parts { Parts text.now 0 kept.now }
+    ensures { result ≡ (first && title_opens (text_in text.now kept.now)) }
+{
+    first && title_opens(text, kept)
 }
 
 /// What the line is on a title page: `Opens` with a new key, whose values are `centred` or not, `Value` with a further
