@@ -4,3 +4,4 @@ pub mod RowLists
 pub mod RowPlaces
 pub mod OldRowLaws
 pub mod StayLaws
+pub mod RaisedSteps

@@ -1,1 +1,2 @@
 pub mod BareRows
+pub mod Raised

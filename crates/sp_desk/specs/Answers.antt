@@ -6,8 +6,8 @@ use Rattle.spec_wire.specs.Commands.{CommandOf}
 use Rattle.spec_wire.specs.Replies.{ReplyOf, refused}
 use Rattle.spec_machine.specs.Machine.{Memory}
 use Rattle.spec_machine.specs.Answers.{Step, step_of}
-use Rattle.sp_state.specs.declared.fault.OpeningFault.{OpeningFault}
-use Rattle.sp_state.specs.declared.fault.OpeningFault.TheVariants as openings
+use Rattle.sp_records.specs.declared.opening_fault.OpeningFault.{OpeningFault}
+use Rattle.sp_records.specs.declared.opening_fault.OpeningFault.TheVariants as openings
 use Rattle.sp_text.specs.declared.fault.EditFault.{EditFault}
 use Rattle.sp_text.specs.declared.fault.EditFault.TheVariants as faults
 use Rattle.sp_commands.specs.declared.reply.Refusal.TheVariants as refusals

@@ -1,5 +1,5 @@
 use sp_commands::Refusal;
-use sp_state::OpeningFault;
+use sp_records::OpeningFault;
 use sp_text::EditFault;
 use std::alloc::AllocError;
 

@@ -1,6 +1,6 @@
 //! What is made of a state and its stanzas: its elements in rows, the labels of its headings, and its sheets.
-ghost use Rattle.std.specs.Prelude.{◌≡◌, [], length, option_map, All, None, IfNone, IfOk, IfSome, IsTrue, OnErr, OnOk};
-ghost use Rattle.std.specs.Bool.{OnFalse};
+ghost use Rattle.std.specs.Prelude.{◌≡◌, [], length, option_map, All, None, Some, IfNone, IfOk, IfSome, IsTrue, OnErr, OnOk};
+ghost use Rattle.std.specs.Bool.{OnFalse, OnTrue};
 ghost use Rattle.spec_text.specs.Lines.{line_texts};
 ghost use Rattle.spec_script.specs.Stanzas.{stanzas_of};
 ghost use Rattle.spec_pages.specs.Pages.{page_starts, rows_on};
@@ -168,6 +168,16 @@ pub fn laid_firsts(
     ensures { IfOk result (λ firsts. firsts.items ≡ first_rows (state_of (text_of lines.now) records.now)) }
 {
     record_starts(alloc, lines, layout.body.keys(), &records.pages, near)
+}
+
+/// Whether the first rows of page records (docs/RULES.md, "Page records") were known, and are these.
+pub fn firsts_stay(known: &Option<Vec<usize>>, firsts: &[usize]) -> bool
+    ensures { OnTrue result (option_map (λ those. those.items) known.now ≡ Some firsts.now) }
+{
+    match known {
+        Some(those) => those.as_slice() == firsts,
+        None => false,
+    }
 }
 
 /// The first rows of the page records of a state that this was made of; none where pages aren't locked.

@@ -16,7 +16,7 @@ use Rattle.spec_refill.proofs.LockedStarts.{lock-starts, round-starts}
 use Rattle.sp_elements.specs.Bodies.{shapes_in}
 use Rattle.sp_made.specs.Made.{key_starts}
 use Rattle.sp_made.proofs.MadeLaws.{pages-are}
-use Rattle.sp_state.specs.declared.fault.OpeningFault.{OpeningFault}
+use Rattle.sp_records.specs.declared.opening_fault.OpeningFault.{OpeningFault}
 use Rattle.sp_state.specs.Openings.{IsOpening}
 use Rattle.sp_state.proofs.OpeningMade.{scenes-keys, with_scenes}
 

@@ -11,22 +11,9 @@ use Rattle.spec_machine.specs.Machine.{FewPages}
 use Rattle.spec_machine.specs.Refusals.{are_more, first_of, reason_if}
 use Rattle.sp_labels.specs.declared.fault.LockFault.{LockFault}
 use Rattle.sp_labels.specs.declared.fault.LockFault.TheVariants as locks
-use Rattle.sp_scenes.specs.declared.fault.SceneFault.{SceneFault}
-use Rattle.sp_scenes.specs.declared.fault.SceneFault.TheVariants as scenes
-use Rattle.sp_state.specs.declared.fault.OpeningFault.{OpeningFault}
-use Rattle.sp_state.specs.declared.fault.OpeningFault.TheVariants.{ScenesLocked, SceneForm, SceneOrder, ScenesNotLocked, PagesLocked, NoPages, RoundsFull, RecordsFull, NoMemory}
+use Rattle.sp_records.specs.declared.opening_fault.OpeningFault.{OpeningFault}
+use Rattle.sp_records.specs.declared.opening_fault.OpeningFault.TheVariants.{ScenesLocked, SceneForm, SceneOrder, ScenesNotLocked, PagesLocked, NoPages, RoundsFull, RecordsFull, NoMemory}
 use Rattle.sp_made.specs.Made.{MadeOf}
-
--- The fault of a lock of scenes, and of records that are extended, as a script tells it.
-abbrev pub scene_fault_of : SceneFault → OpeningFault
-scene_fault_of (scenes.SceneForm place) = SceneForm place
-scene_fault_of (scenes.SceneOrder place) = SceneOrder place
-scene_fault_of scenes.RecordsFull = RecordsFull
-scene_fault_of scenes.NoMemory = NoMemory
-
-abbrev pub lock_fault_of : LockFault → OpeningFault
-lock_fault_of locks.RecordsFull = RecordsFull
-lock_fault_of locks.NoMemory = NoMemory
 
 -- The fault is the refusal, or there is no memory.
 abbrev pub IsReason : Option RefusalOf → OpeningFault → Type 0

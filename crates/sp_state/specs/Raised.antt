@@ -1,16 +1,16 @@
 -- Page records in an edit, by the text after it and what it displaced (docs/RULES.md, "Edits and records").
-use Rattle.std.specs.Prelude.{◌≡◌, ℕ, ◌+◌, ◌≤◌, ◌==◌, ◌||◌, IsTrue, false, if◌then◌else◌, List, [], ◌∷◌, length, All, AllPairs, Option, Some, None, option_map, IfSome}
+use Rattle.std.specs.Prelude.{◌+◌, ◌==◌, ◌||◌, IsTrue, List, [], All, Option, Some, None, option_map, IfSome}
 use Rattle.std.specs.List.{list_any}
 use Rattle.spec_text.specs.Lines.{LineState, TextState}
 use Rattle.spec_text.specs.Edits.{Displacement, restored}
 use Rattle.spec_labels.specs.declared.Moved.{Moved}
-use Rattle.spec_labels.specs.PageRecords.{PageRecordOf, carried_records, end_line, is_present, moved_of, put_back_records}
+use Rattle.spec_labels.specs.PageRecords.{PageRecordOf, carried_records, end_line, is_present, put_back_records}
 use Rattle.spec_layout.specs.Shown.{Shown}
 use Rattle.spec_records.specs.Kept.{RecordsOf}
 use Rattle.spec_state.specs.State.{State}
 use Rattle.spec_state.specs.Keeping.{state_of}
-use Rattle.spec_state.specs.SameRows.{same_rows}
-use Rattle.spec_state.specs.Changes.{pages_raised, raised, rows_by_record}
+use Rattle.spec_state.specs.Changes.{pages_raised, rows_by_record}
+use Rattle.sp_compare.specs.Raised.{raises}
 use Rattle.sp_state.specs.TextEntries.{FitRecords}
 
 -- Records with other page records, and with what was kept for these put back.
@@ -41,20 +41,6 @@ CanCarry lines displaced it = IsTrue ((it.line == end_line) || is_present lines 
 
 abbrev pub AreCarried : List LineState → List LineState → RecordsOf → Type 0
 AreCarried lines displaced records = IfSome records.pages (All (CanCarry lines displaced))
-
--- Starts of so many segments in so many rows.
-pub record AreSegments (rows count : ℕ) (starts : List ℕ) : Type 0 where
-  pub many : length starts ≡ count
-  pub order : AllPairs (λ (one other : ℕ). one ≤ other) starts
-  pub within : All (λ (start : ℕ). start ≤ rows) starts
-
--- The rounds that records get whose rows differ, where so many records stand before these.
-abbrev pub raises : ℕ → ℕ → List (List Shown) → List (List Shown) → List PageRecordOf → List Moved
-raises round index [] news records = []
-raises round index (old ∷ olds) [] records = []
-raises round index (old ∷ olds) (new ∷ news) [] = []
-raises round index (old ∷ olds) (new ∷ news) (it ∷ records) =
-    if same_rows old new then raises round (index + 1) olds news records else moved_of index (raised round false it) ∷ raises round (index + 1) olds news records
 
 -- Those that the page records of a state get, whose rows were these before.
 abbrev pub raises_in : List (List Shown) → State → Option (List PageRecordOf) → List Moved

@@ -5,14 +5,11 @@
 mod carrying;
 mod editing;
 mod entry;
-mod fault;
 mod locking;
-mod raising;
 mod relaying;
 mod script;
 mod text_entry;
 mod turning;
 
 pub use entry::{Entry, Unturned};
-pub use fault::OpeningFault;
 pub use script::Script;

@@ -16,12 +16,11 @@ ghost use Rattle.sp_text.specs.Gap.{text_of};
 ghost use Rattle.sp_made.specs.Made.{IsMadeOf};
 ghost use Rattle.sp_state.specs.Openings.{ArePagesOpened, CanLockHeadings, IsFull, IsOpening, IsReason, headings_refusal};
 
-use crate::fault::OpeningFault;
 use sp_labels::{Label, LockFault};
 use sp_locks::{PageRecord, extend};
 use sp_made::Made;
 use sp_numbers::headings_among;
-use sp_records::Records;
+use sp_records::{OpeningFault, Records};
 use sp_reread::{Stanzas, placed_blocks};
 use sp_scenes::{HeadingAt, SceneRecord, extend_scenes, lock_scenes, numbers};
 use sp_text::Lines;

@@ -27,7 +27,6 @@ ghost use Rattle.sp_state.specs.Entries.{CanRedo, CanUndo, IsSameEntry, LeadsBac
 
 use crate::editing::{edit_made, made_on, made_with_speakers, put_made, redo_made, undo_made};
 use crate::entry::{Entry, Unturned};
-use crate::fault::OpeningFault;
 use crate::locking::{lock_pages_made, lock_scenes_made, next_round_made};
 use sp_kit::Steps;
 use sp_locks::Sheet;
@@ -35,7 +34,7 @@ use sp_made::{
     Made, body_shapes, made_sheet, made_starts, made_title, make, sheet_count, title_count,
 };
 use sp_print::PageView;
-use sp_records::Records;
+use sp_records::{OpeningFault, Records};
 use sp_reflow::Pages;
 use sp_reread::Stanzas;
 use sp_splice::GapList;

@@ -1,5 +1,5 @@
 //! The layout and the first rows of pages after an edit, and after it is undone or done again.
-ghost use Rattle.std.specs.Prelude.{◌≡◌, ℕ, ◌+◌, ◌-◌, ◌≤◌, List, None, Some, length, map, option_map, IfErr, IfOk, IfSome, IsTrue, OnErr, OnOk};
+ghost use Rattle.std.specs.Prelude.{◌≡◌, ℕ, ◌+◌, ◌-◌, ◌≤◌, List, None, length, map, IfErr, IfOk, IfSome, IsTrue, OnErr, OnOk};
 ghost use Rattle.std.specs.Bool.{OnTrue};
 ghost use Rattle.spec_pages.specs.Pages.{rows_on};
 ghost use Rattle.spec_layout.specs.Shown.{shape_of};
@@ -20,7 +20,7 @@ ghost use Rattle.sp_numbers.specs.Numbered.{AreUnmarked};
 ghost use Rattle.sp_made.specs.Made.{AreStopsOf, IsLaidOf, IsNumberedOf, first_rows};
 
 use sp_kit::Steps;
-use sp_made::{Numbered, keeps_headings, laid_firsts, laid_stops, renumber, rows_on};
+use sp_made::{Numbered, firsts_stay, keeps_headings, laid_firsts, laid_stops, renumber, rows_on};
 use sp_records::Records;
 use sp_reflow::{Pages, SwappedPages, UnswappedPages};
 use sp_relay::{KeptLayout, LayoutPart, UnswappedLayout};
@@ -173,16 +173,6 @@ pub(crate) fn refilled<S: Steps>(
 struct TurnedPages {
     pages: SwappedPages,
     firsts: Vec<usize>,
-}
-
-/// Whether the first rows of page records were known, and are these.
-fn firsts_stay(known: &Option<Vec<usize>>, firsts: &[usize]) -> bool
-    ensures { OnTrue result (option_map (λ those. those.items) known.now ≡ Some firsts.now) }
-{
-    match known {
-        Some(those) => those.as_slice() == firsts,
-        None => false,
-    }
 }
 
 /// Makes page starts, labels and sheets those of a state after an edit was undone or done again, whose text is laid out, by the

@@ -15,7 +15,7 @@ use Rattle.sp_elements.specs.Bodies.{KeyedElements, row_count}
 use Rattle.sp_layout.specs.LaidOut.{LayoutOf}
 use Rattle.sp_relay.specs.Kept.{laid_of}
 use Rattle.sp_made.specs.Made.{key_starts}
-use Rattle.sp_state.specs.Raised.{AreSegments}
+use Rattle.sp_compare.specs.Raised.{AreSegments}
 use Rattle.sp_state.specs.Relaid.{body_before}
 use Rattle.sp_state.proofs.CarriedLaws.{own-segments, raises-made, some-pages, whole-laid}
 use Rattle.sp_state.proofs.carrying.raises_among.Goals as goal

@@ -4,10 +4,10 @@ use Rattle.spec_labels.specs.PageRecords.{PageRecordOf, moved_of}
 use Rattle.spec_layout.specs.Shown.{shown_rows}
 use Rattle.spec_layout.proofs.ShownLaws.{length-shown_rows}
 use Rattle.spec_state.specs.Changes.{raised, segment_rows}
-use Rattle.sp_state.specs.Raised.{raises}
-use Rattle.sp_state.proofs.RaisedLaws.{left_from, raises-other, raises-same, same-at}
-use Rattle.sp_state.proofs.raising.raises.Goals as goal
-use Rattle.sp_state.proofs.raising.raises.Goals.{then-not-same_segment+in_ok-push, else-not-same_segment}
+use Rattle.sp_compare.specs.Raised.{raises}
+use Rattle.sp_compare.proofs.RaisedSteps.{left_from, raises-other, raises-same, same-at}
+use Rattle.sp_compare.proofs.raising.raises.Goals as goal
+use Rattle.sp_compare.proofs.raising.raises.Goals.{then-not-same_segment+in_ok-push, else-not-same_segment}
 
 pub loop-index-preserved : goal.loop-index-preserved
 loop-index-preserved c = λ olds news.

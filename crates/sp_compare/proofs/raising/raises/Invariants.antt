@@ -2,8 +2,8 @@ use Rattle.std.proofs.Common.{◌≡◌, ◌++◌, List, Option, drop}
 use Rattle.spec_labels.specs.Labels.{LabelOf}
 use Rattle.spec_layout.specs.Shown.{shown_rows}
 use Rattle.spec_state.specs.Changes.{segment_rows}
-use Rattle.sp_state.specs.Raised.{raises}
-use Rattle.sp_state.proofs.raising.raises.Given as goal
+use Rattle.sp_compare.specs.Raised.{raises}
+use Rattle.sp_compare.proofs.raising.raises.Given as goal
 
 abbrev pub invariant-loop-index : goal.invariant-loop-index
 invariant-loop-index l = (olds news : Option (List LabelOf)) →

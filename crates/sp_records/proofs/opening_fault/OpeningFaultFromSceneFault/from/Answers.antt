@@ -1,5 +1,5 @@
 use Rattle.std.proofs.Common.{rules}
-use Rattle.sp_state.proofs.fault.OpeningFaultFromSceneFault.from.Goals as goal
+use Rattle.sp_records.proofs.opening_fault.OpeningFaultFromSceneFault.from.Goals as goal
 
 pub returns-in-SceneForm : goal.returns-in-SceneForm
 returns-in-SceneForm c = search rules

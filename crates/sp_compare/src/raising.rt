@@ -5,9 +5,9 @@ ghost use Rattle.spec_layout.specs.Shown.{shown_rows};
 ghost use Rattle.spec_state.specs.Changes.{segment_rows};
 ghost use Rattle.spec_state.specs.SameRows.{same_rows};
 ghost use Rattle.sp_elements.specs.Bodies.{row_count};
-ghost use Rattle.sp_state.specs.Raised.{AreSegments, raises};
+ghost use Rattle.sp_compare.specs.Raised.{AreSegments, raises};
 
-use sp_compare::BothTexts;
+use crate::both::BothTexts;
 use sp_locks::PageRecord;
 use spec_labels::Moved;
 use std::alloc::{AllocError, Global};
@@ -51,8 +51,10 @@ fn same_segment(
     texts.same_rows(before[place], to, after[place], end)
 }
 
-/// The rounds that the records get whose rows a change made others. Each row is looked at once.
-pub(crate) fn raises(
+/// The rounds that the records get whose rows a change made others, in the order of the records (docs/RULES.md, "Edits and
+/// records"). `before` and `after` are their first rows before the change and after it, and `round` is that of the state. Each row
+/// is looked at once. `AllocError` comes for want of memory alone.
+pub fn raises(
     alloc: Global,
     texts: &BothTexts<'_>,
     before: &[usize],

@@ -27,7 +27,7 @@ pub enum OpeningFault {
 
 impl From<AllocError> for OpeningFault {
     ghost use Rattle.std.specs.Prelude.{◌≡◌};
-    ghost use Rattle.sp_state.specs.declared.fault.OpeningFault.TheVariants.{NoMemory};
+    ghost use Rattle.sp_records.specs.declared.opening_fault.OpeningFault.TheVariants.{NoMemory};
 
     ghost from_gives = { λ _ fault. fault ≡ NoMemory };
 
@@ -38,7 +38,7 @@ impl From<AllocError> for OpeningFault {
 
 impl From<SceneFault> for OpeningFault {
     ghost use Rattle.std.specs.Prelude.{◌≡◌};
-    ghost use Rattle.sp_state.specs.Openings.{scene_fault_of};
+    ghost use Rattle.sp_records.specs.OpeningFaults.{scene_fault_of};
 
     ghost from_gives = { λ scenes fault. fault ≡ scene_fault_of scenes };
 
@@ -54,7 +54,7 @@ impl From<SceneFault> for OpeningFault {
 
 impl From<LockFault> for OpeningFault {
     ghost use Rattle.std.specs.Prelude.{◌≡◌};
-    ghost use Rattle.sp_state.specs.Openings.{lock_fault_of};
+    ghost use Rattle.sp_records.specs.OpeningFaults.{lock_fault_of};
 
     ghost from_gives = { λ records fault. fault ≡ lock_fault_of records };
 
