@@ -25,7 +25,7 @@ ghost use Rattle.sp_reflow.specs.Filling.{FilledAtMost};
 ghost use Rattle.sp_reflow.specs.Starts.{many_more};
 
 use crate::DeskFault;
-use crate::replies::{edited_reply, next_after, page_count, scene_count, sheet_labels};
+use crate::replies::{edited_reply, page_count, scene_count, sheet_labels};
 use sp_answers::{block_replies, round_name, sheet_reply};
 use sp_commands::{Command, Refusal, Reply};
 use sp_contents::outline_reply;
@@ -245,7 +245,7 @@ impl Desk {
         ensures step { IsAnswer self.old commands.next_round self.new result }
         ensures unrefused { IfOk result (λ reply. is_refused (reply_of reply) ≡ false) }
     {
-        let round = next_after(self.script.records());
+        let round = self.script.records().round_after();
         let name = round_name(alloc, round)?;
         self.script.next_round(alloc)?;
         self.journal.clear();

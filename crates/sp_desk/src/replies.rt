@@ -1,5 +1,5 @@
 //! What is told of a script.
-ghost use Rattle.std.specs.Prelude.{◌≡◌, ◌+◌, ◌≤◌, map, string_bytes, IfOk};
+ghost use Rattle.std.specs.Prelude.{◌≡◌, map, string_bytes, IfOk};
 ghost use Rattle.spec_text.specs.Lines.{IsText};
 ghost use Rattle.spec_state.specs.State.{text_of};
 ghost use Rattle.spec_state.specs.StateSheets.{sheets_of_state};
@@ -41,14 +41,6 @@ pub fn page_count(records: &Records) -> u64
         None => 0,
         Some(pages) => pages.len() as u64,
     }
-}
-
-/// The round after that of the records.
-pub fn next_after(records: &Records) -> u8
-    requires { records.now.round ≤ 99 }
-    ensures { result ≡ records.now.round + 1 }
-{
-    records.round + 1
 }
 
 /// The labels of its sheets.

@@ -97,7 +97,7 @@ pub(crate) fn made_with_speakers(
     ensures pages { OnOk result (pages.now.starts ≡ pages_of (state_of (text_of lines.now) records.new)) }
     ensures same { OnErr result (records.new ≡ records.old) }
 {
-    let before = mem::replace(&mut records.speakers, on);
+    let before = records.set_speakers(on);
     match remade(alloc, lines, stanzas, records, pages) {
         Ok(made) => Ok(made),
         Err(error) => {

@@ -25,9 +25,9 @@ invariant_of-self-2 c = (stepped c).desk
 pub returns-clause-step : goal.returns-clause-step
 returns-clause-step c =
     let memory = memory_by c.next_round.new.self c.clear.new.self.done c.clear.new.self.undone in
-    let next : c.next_after-round.result ≡ c.next_round.new.self.round =
-    c.next_after-round.ensures ∙ ap (λ (r : RecordsOf). r.round + 1) c.records.ensures ∙ sym (ap (λ (s : State). s.round) c.in_ok-next_round.ensures.1) in
-    ap (λ (text : List ℕ). step_to memory (replies.round text c.next_after-round.result)) c.in_ok-name.ensures
+    let next : c.round_after-round.result ≡ c.next_round.new.self.round =
+    c.round_after-round.ensures ∙ ap (λ (r : RecordsOf). r.round + 1) c.records.ensures ∙ sym (ap (λ (s : State). s.round) c.in_ok-next_round.ensures.1) in
+    ap (λ (text : List ℕ). step_to memory (replies.round text c.round_after-round.result)) c.in_ok-name.ensures
     ∙ ap (λ (n : ℕ). step_to memory (replies.round (round_name n) n)) next
     ∙ (stepped c).step ∙ ap (λ (m : Memory). step_of m commands.next_round) c.self.view_is
 

@@ -1,5 +1,5 @@
 use Rattle.std.proofs.Common.{rules}
-use Rattle.sp_desk.proofs.replies.next_after.Goals as goal
+use Rattle.sp_records.proofs.records.Records.round_after.Goals as goal
 
 pub returns : goal.returns
 returns c = search rules
