@@ -11,10 +11,11 @@ ghost use Rattle.sp_desk_session.specs.DeskLines.{RepliesTo, StopsAt, is_packet,
 use crate::saving::save_desk;
 use sp_commands::{Command, Refusal, Reply};
 use sp_desk::{Desk, DeskFault};
+use sp_fields::WireFault;
 use sp_kit::{Shelf, Steps};
 use sp_packet::{PacketFault, packet};
 use sp_session::Responder;
-use sp_wire::{WireFault, read_command, write_reply};
+use sp_wire::{read_command, write_reply};
 use std::alloc::{AllocError, Global};
 use std::marker::Model;
 

@@ -1,4 +1,3 @@
 pub mod OwnerLaws
-pub mod Walks
 pub mod Answering
 pub mod Counting

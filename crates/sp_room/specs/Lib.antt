@@ -1,6 +1,4 @@
-pub mod Changes
 pub mod Owners
-pub mod Asking
 pub mod Answers
 pub mod Counts
 pub mod Inside

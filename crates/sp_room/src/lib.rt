@@ -2,9 +2,7 @@
 #![tactic(auto)]
 
 mod ask;
-mod change;
 mod owner;
-mod place;
 mod room;
 
 pub use room::Room;

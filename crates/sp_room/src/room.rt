@@ -7,14 +7,15 @@ ghost use Rattle.spec_room.specs.Rooms.{opened_room};
 ghost use Rattle.spec_room.specs.Standing.{StandsFor, KeepsSeen, texts_after};
 ghost use Rattle.sp_text.specs.Changing.{edit_of};
 ghost use Rattle.sp_commands.specs.Values.{command_of, reply_of};
-ghost use Rattle.sp_room.specs.Asking.{MakesNoChange};
+ghost use Rattle.sp_changes.specs.Asking.{MakesNoChange};
 ghost use Rattle.sp_room.specs.Answers.{line_of, IsRoomAnswer};
 ghost use Rattle.sp_room.specs.Counts.{RoomReads, RoomFills};
 
 use crate::ask::ask;
-use crate::change::{Change, change_at, edit_change, is_forgetting, moved_to, turned};
 use crate::owner::{Owner, last_owner, make_room, move_last};
-use crate::place::{present_place, remember};
+use sp_changes::{
+    Change, change_at, edit_change, is_forgetting, moved_to, present_place, remember, turned,
+};
 use sp_commands::{Command, Refusal, Reply};
 use sp_desk::{Desk, DeskFault};
 use sp_kit::Steps;

@@ -13,10 +13,11 @@ ghost use Rattle.sp_run.specs.RoomLines.{SeatReplies, SeatStops, room_at};
 use sp_commands::{Refusal, Reply, RoomLine};
 use sp_desk::DeskFault;
 use sp_desk_session::{is_packet, is_save, packet_reply, save_desk};
+use sp_fields::WireFault;
 use sp_kit::{Shelf, Steps};
 use sp_room::Room;
 use sp_session::Responder;
-use sp_wire::{WireFault, read_room_command, write_room_reply};
+use sp_wire::{read_room_command, write_room_reply};
 use std::alloc::{AllocError, Global};
 use std::marker::Model;
 
