@@ -14,9 +14,9 @@ use Rattle.spec_state.proofs.OpenedLaws.{opening-whole}
 use Rattle.spec_state.proofs.SavedStates.{file-state, made-whole}
 use Rattle.sp_kit.specs.Files.{Files, ShelfState}
 use Rattle.sp_text.specs.Gap.{LinesState, text_of}
-use Rattle.sp_record_file.specs.Judging.{IsRelabelled, IsDecoding}
-use Rattle.sp_record_file.specs.declared.fault.RecordsFault.{RecordsFault}
-use Rattle.sp_record_file.specs.declared.fault.RecordsFault.TheVariants as records_faults
+use Rattle.sp_record_file.specs.Decoding.{IsRelabelled, IsDecoding}
+use Rattle.sp_kept.specs.declared.fault.RecordsFault.{RecordsFault}
+use Rattle.sp_kept.specs.declared.fault.RecordsFault.TheVariants as records_faults
 use Rattle.sp_words.specs.declared.status.Status.{Status}
 use Rattle.sp_words.specs.declared.status.Status.TheVariants as statuses
 use Rattle.sp_opening.specs.Records.{records_name, RefusesBeside}

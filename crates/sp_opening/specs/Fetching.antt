@@ -5,7 +5,7 @@ use Rattle.spec_text.specs.Limits.{raw_limit}
 use Rattle.spec_records.specs.RecordFile.{file_limit}
 use Rattle.sp_kit.specs.Causes.{Rose}
 use Rattle.sp_kit.specs.Files.{ShelfState}
-use Rattle.sp_record_file.specs.declared.fault.RecordsFault.TheVariants as records_faults
+use Rattle.sp_kept.specs.declared.fault.RecordsFault.TheVariants as records_faults
 use Rattle.sp_text.specs.declared.fault.TextFault.TheVariants as faults
 use Rattle.sp_words.specs.declared.status.Status.{Status}
 use Rattle.sp_words.specs.declared.status.Status.TheVariants as statuses

@@ -9,7 +9,7 @@ use Rattle.spec_state.specs.Printing.{too_long, printing_of}
 use Rattle.sp_kit.specs.Causes.{Rose}
 use Rattle.sp_kit.specs.Files.{ShelfState}
 use Rattle.sp_kit.specs.Outside.{SourceState}
-use Rattle.sp_record_file.specs.declared.fault.RecordsFault.{RecordsFault}
+use Rattle.sp_kept.specs.declared.fault.RecordsFault.{RecordsFault}
 use Rattle.sp_text.specs.Gap.{LinesState}
 use Rattle.sp_text.specs.declared.fault.TextFault.TheVariants as faults
 use Rattle.sp_words.specs.declared.status.Status.{Status}

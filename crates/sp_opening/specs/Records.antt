@@ -5,8 +5,8 @@ use Rattle.spec_records.specs.Kept.{KeptOf}
 use Rattle.spec_records.specs.RecordFile.{IsRecordFile, IsMismatch, IsRefused, digest_of}
 use Rattle.spec_state.specs.State.{State, opened_state}
 use Rattle.spec_state.specs.SavedStates.{state_of_file}
-use Rattle.sp_record_file.specs.declared.fault.RecordsFault.{RecordsFault}
-use Rattle.sp_record_file.specs.declared.fault.RecordsFault.TheVariants as records_faults
+use Rattle.sp_kept.specs.declared.fault.RecordsFault.{RecordsFault}
+use Rattle.sp_kept.specs.declared.fault.RecordsFault.TheVariants as records_faults
 
 -- The name of the record file of a script.
 abbrev pub records_name : List ℕ → List ℕ

@@ -6,7 +6,7 @@ use Rattle.spec_text.specs.Lines.{line_texts, lines, reading_of}
 use Rattle.spec_state.specs.Printing.{Printing, too_long, no_utf8, long_line, printing_of}
 use Rattle.sp_kit.specs.Files.{ShelfState}
 use Rattle.sp_kit.specs.Outside.{SourceState, SinkState}
-use Rattle.sp_record_file.specs.declared.fault.RecordsFault.{RecordsFault}
+use Rattle.sp_kept.specs.declared.fault.RecordsFault.{RecordsFault}
 use Rattle.sp_text.specs.Gap.{LinesState}
 use Rattle.sp_text.specs.declared.fault.TextFault.TheVariants as faults
 use Rattle.sp_words.specs.declared.status.Status.{Status}

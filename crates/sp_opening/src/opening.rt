@@ -12,8 +12,9 @@ ghost use Rattle.sp_opening.specs.Fetching.{FetchedRecords, NoRecords};
 ghost use Rattle.sp_opening.specs.Unopened.{ReadsUpTo, Unopened, outside};
 
 use crate::script::{open_script, read_lines};
+use sp_kept::RecordsFault;
 use sp_kit::{Fetched, Shelf, ShelfFault, Source};
-use sp_record_file::{RecordsFault, decode};
+use sp_record_file::decode;
 use sp_records::Records;
 use sp_text::Lines;
 use sp_words::{Origin, Status};

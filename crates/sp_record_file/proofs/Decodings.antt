@@ -9,9 +9,10 @@ use Rattle.spec_records.specs.RecordFile.{FileOf, formed, form_of, digest_of, Is
 use Rattle.spec_records.proofs.SameTexts.{IsRecordFile-texts, read-same}
 use Rattle.spec_records.proofs.WrittenLaws.{read-not_refused, read-not_mismatched}
 use Rattle.sp_text.specs.Gap.{LinesState, text_of}
-use Rattle.sp_record_file.specs.declared.fault.RecordsFault.{RecordsFault}
-use Rattle.sp_record_file.specs.declared.fault.RecordsFault.TheVariants.{BadForm, Mismatch, NoMemory}
-use Rattle.sp_record_file.specs.Judging.{Breaks, IsNoMemory, of_lines, of_scenes, of_pages, IsDecoding, IsJudgedFile, IsKept, IsRelabelled}
+use Rattle.sp_kept.specs.declared.fault.RecordsFault.{RecordsFault}
+use Rattle.sp_kept.specs.declared.fault.RecordsFault.TheVariants.{BadForm, Mismatch, NoMemory}
+use Rattle.sp_kept.specs.Judging.{Breaks, of_lines, of_scenes, of_pages, IsJudgedFile}
+use Rattle.sp_record_file.specs.Decoding.{IsDecoding, IsKept, IsNoMemory, IsRelabelled}
 
 broken-rule : (bytes : List ℕ) (text : List LineState) (file : FileOf) (rule : ℕ) → form_of bytes ≡ formed file → file.digest ≡ digest_of text → Breaks text file.kept rule → IsRefused bytes text rule
 broken-rule bytes text file rule form same (of_lines is no_more) = fourth is file.kept (record { form = form ∙ ap (λ d. formed (record { digest = d; kept = file.kept })) same }) no_more

@@ -3,11 +3,11 @@ ghost use Rattle.std.specs.Prelude.{◌≡◌, IfOk, IfErr};
 ghost use Rattle.spec_text.specs.Lines.{line_texts};
 ghost use Rattle.spec_records.specs.Kept.{kept_of, IsSame, KeepsRules};
 ghost use Rattle.sp_text.specs.Gap.{text_of};
-ghost use Rattle.sp_record_file.specs.Judging.{IsNoMemory};
+ghost use Rattle.sp_record_file.specs.Decoding.{IsNoMemory};
 
-use crate::RecordsFault;
 use crate::decoding::decode;
 use crate::encoding::encode;
+use sp_kept::RecordsFault;
 use sp_records::Records;
 use sp_text::Lines;
 use std::alloc::Global;

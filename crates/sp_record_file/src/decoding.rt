@@ -1,15 +1,12 @@
 //! A record file, read for a text.
-ghost use Rattle.std.specs.Prelude.{◌≡◌, ◌≤◌, All, IfOk, IfSome, OnOk, OnErr, option_map, string_bytes};
+ghost use Rattle.std.specs.Prelude.{◌≡◌, ◌≤◌, All, IfOk, IfSome, OnOk, OnErr, option_map};
 ghost use Rattle.spec_text.specs.Edits.{relabelled};
 ghost use Rattle.spec_records.specs.Kept.{KeepsRules};
-ghost use Rattle.spec_records.specs.RecordFile.{digest_of};
-ghost use Rattle.sp_record_file.specs.Judging.{AreNarrow, IsKept, IsJudgedFile, IsDecoding};
+ghost use Rattle.sp_record_file.specs.Decoding.{AreNarrow, IsKept, IsDecoding};
 
-use crate::RecordsFault;
 use crate::digests::digest;
 use crate::file::read_file;
-use crate::kept::{File, Kept, PageEntry};
-use crate::rules::keep_rules;
+use sp_kept::{Kept, PageEntry, RecordsFault, judge};
 use sp_locks::PageRecord;
 use sp_records::Records;
 use sp_text::Lines;
@@ -63,22 +60,6 @@ fn read_kept(alloc: Global, bytes: &[u8], lines: &Lines) -> Result<Kept, Records
     let file = read_file(alloc, bytes)?;
     let found = digest(alloc, lines)?;
     judge(alloc, file, found, lines)
-}
-
-/// What a file keeps for a text with this digest.
-fn judge(alloc: Global, file: File, found: String, lines: &Lines) -> Result<Kept, RecordsFault>
-    requires { string_bytes found ≡ digest_of lines.now.lines }
-    ensures { IsJudgedFile lines.now.lines file result }
-{
-    let File { digest, kept } = file;
-    if digest != found {
-        return Err(RecordsFault::Mismatch {
-            kept: digest,
-            found,
-        });
-    }
-    keep_rules(alloc, &kept, lines)?;
-    Ok(kept)
 }
 
 /// The marks, which fit.

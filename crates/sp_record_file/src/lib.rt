@@ -5,17 +5,11 @@ mod again;
 mod decoding;
 mod digests;
 mod encoding;
-mod fault;
 mod file;
-mod kept;
-mod labels;
-mod places;
 mod reading;
-mod rules;
 mod writing;
 
 pub use again::read_again;
 pub use decoding::decode;
 pub use digests::digest;
 pub use encoding::encode;
-pub use fault::RecordsFault;

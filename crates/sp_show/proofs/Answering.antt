@@ -16,7 +16,7 @@ use Rattle.sp_words.specs.declared.status.Status.TheVariants as statuses
 use Rattle.sp_words.specs.declared.form.View.{View}
 use Rattle.sp_words.specs.declared.form.View.TheVariants as views
 use Rattle.sp_words.specs.Forms.{from_source, from_file}
-use Rattle.sp_record_file.specs.declared.fault.RecordsFault.{RecordsFault}
+use Rattle.sp_kept.specs.declared.fault.RecordsFault.{RecordsFault}
 use Rattle.sp_opening.specs.Records.{records_name, OpensAs, RefusesRecords}
 use Rattle.sp_opening.specs.Opening.{HadState}
 use Rattle.sp_opening.specs.Unopened.{Outside, TooLong, Refused}

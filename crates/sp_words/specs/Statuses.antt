@@ -4,8 +4,8 @@ use Rattle.spec_session.specs.declared.SessionEnd.{SessionEnd}
 use Rattle.spec_session.specs.declared.SessionEnd.TheVariants as endings
 use Rattle.sp_collation.specs.declared.fault.CollateFault.{CollateFault}
 use Rattle.sp_collation.specs.declared.fault.CollateFault.TheVariants as sheets_faults
-use Rattle.sp_record_file.specs.declared.fault.RecordsFault.{RecordsFault}
-use Rattle.sp_record_file.specs.declared.fault.RecordsFault.TheVariants as records_faults
+use Rattle.sp_kept.specs.declared.fault.RecordsFault.{RecordsFault}
+use Rattle.sp_kept.specs.declared.fault.RecordsFault.TheVariants as records_faults
 use Rattle.sp_text.specs.declared.fault.TextFault.{TextFault}
 use Rattle.sp_text.specs.declared.fault.TextFault.TheVariants as faults
 use Rattle.sp_words.specs.declared.status.Status.{Status}

@@ -4,8 +4,8 @@ ghost use Rattle.sp_words.specs.Statuses.{line_of, mismatch_line, no_file_line, 
 
 use itoa::Buffer;
 use sp_collation::CollateFault;
+use sp_kept::RecordsFault;
 use sp_kit::{Failed, Sink, write_whole};
-use sp_record_file::RecordsFault;
 use sp_text::TextFault;
 use spec_session::SessionEnd;
 use std::alloc::AllocError;

@@ -1,6 +1,6 @@
 use Rattle.std.proofs.Common.{◌≡◌, ◌++◌}
 use Rattle.std.specs.Vec.Iter.{into_iter_items}
-use Rattle.sp_record_file.specs.Judging.{AreNarrow}
+use Rattle.sp_record_file.specs.Decoding.{AreNarrow}
 use Rattle.sp_record_file.proofs.decoding.narrow_pages.Given as goal
 
 abbrev pub invariant-loop-page : goal.invariant-loop-page

@@ -3,7 +3,7 @@ use Rattle.std.specs.Prelude.{Option}
 use Rattle.spec_text.specs.Edits.{relabelled}
 use Rattle.spec_labels.specs.PageRecords.{PageRecordOf}
 use Rattle.spec_records.specs.Kept.{KeptOf}
-use Rattle.sp_record_file.specs.contracts.kept.Kept.{the_view}
+use Rattle.sp_kept.specs.contracts.kept.Kept.{the_view}
 use Rattle.sp_record_file.proofs.decoding.take_over.Goals as goal
 
 pub returns-clause-lines : goal.returns-clause-lines

@@ -1,0 +1,5 @@
+mod AnswerLaws
+mod PageLaws
+mod PlaceLaws
+mod TestLaws
+mod RuleLaws

@@ -1,5 +1,0 @@
-use Rattle.std.proofs.Common.{rules}
-use Rattle.sp_record_file.proofs.writing.paper_name.Goals as goal
-
-pub returns-in-A4 : goal.returns-in-A4
-returns-in-A4 c = search rules
