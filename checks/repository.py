@@ -14,6 +14,8 @@ MOST_LINES = 800
 # How many edits that must fail a crate of the program has at least; not those that are tests alone, or types without a function.
 LEAST_EDITS = 3
 NO_EDITS = ("sp_case", "sp_cases", "sp_commands")
+# The largest crates have none: what theirs would try is a call of a smaller crate below (docs/DECISIONS.md).
+LARGE = ("sp_blocks", "sp_print", "sp_state", "sp_desk", "sp_room", "sp_wire", "sp_record_file")
 
 
 def sources(*endings, below=CRATES):
@@ -90,10 +92,11 @@ def dependencies():
 def edits():
     for line in (TOP / "crates.txt").read_text().splitlines():
         name = line.split(":")[0]
-        if name.startswith("sp_") and name not in NO_EDITS:
-            count = len(list((CRATES / name / "must-fail").glob("*.edit")))
-            if count < LEAST_EDITS:
-                yield f"{name} has {count} edits that must fail"
+        if not name.startswith("sp_") or name in NO_EDITS:
+            continue
+        count = len(list((CRATES / name / "must-fail").glob("*.edit")))
+        if name in LARGE and count or name not in LARGE and count < LEAST_EDITS:
+            yield f"{name} has {count} edits that must fail"
     for name in re.findall(r"`(\w+/\w+)`", (TOP / "docs/PROMISES.md").read_text()):
         crate, edit = name.split("/")
         if not (CRATES / crate / "must-fail" / f"{edit}.edit").exists():
