@@ -4,13 +4,14 @@ ghost use Rattle.std.specs.Str.{IsUtf8};
 ghost use Rattle.spec_labels.specs.Labels.{label_text};
 ghost use Rattle.spec_print.specs.Sheets.{sheet_bytes, sheet_label_text};
 ghost use Rattle.spec_machine.specs.Answers.{label_of_sheet, sheet_reply};
-ghost use Rattle.sp_print.specs.Views.{label_of};
+ghost use Rattle.sp_views.specs.Views.{label_of};
 ghost use Rattle.sp_commands.specs.Values.{reply_of};
 
 use sp_commands::Reply;
 use sp_kit::GrowingSink;
 use sp_labels::{Label, write};
-use sp_print::{PageView, SheetLabel, print_sheet, write_sheet_label};
+use sp_print::{PageView, print_sheet, write_sheet_label};
+use sp_views::SheetLabel;
 use std::alloc::{AllocError, Global};
 
 /// A scene number as it is written (docs/RULES.md, "Labels"). `AllocError` comes for want of memory alone.

@@ -20,8 +20,8 @@ use spec_pages::Shape;
 use std::alloc::{AllocError, Global};
 use std::marker::Model;
 
-/// Whether the element is a heading.
-fn is_heading_element(element: &Element) -> bool
+/// Whether the element is a heading: its first row is the first of one (docs/RULES.md, "Elements"). Takes no memory.
+pub fn is_heading_element(element: &Element) -> bool
     ensures { result ≡ is_heading_element element.now }
 {
     match element.rows.first() {

@@ -7,7 +7,7 @@ mod page;
 mod search;
 mod values;
 
-pub use body::Body;
+pub use body::{Body, is_heading_element};
 pub use page::Page;
 pub use search::{count_below, elements_before};
 pub use spec_pages::{RowKind, Shape};

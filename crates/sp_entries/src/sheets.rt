@@ -6,8 +6,8 @@ ghost use Rattle.sp_entries.specs.Sheets.{AreInTurn, EndBefore, if_begun};
 use sp_answers::sheet_label_text;
 use sp_elements::begins_heading;
 use sp_locks::Sheet;
-use sp_print::SheetLabel;
 use sp_splice::GapList;
+use sp_views::SheetLabel;
 use spec_pages::Shape;
 use std::alloc::{AllocError, Global};
 

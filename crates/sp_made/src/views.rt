@@ -9,7 +9,7 @@ ghost use Rattle.spec_layout.specs.Shown.{labels_past, shown_rows};
 ghost use Rattle.spec_print.specs.PageRows.{page_body};
 ghost use Rattle.spec_state.specs.StateSheets.{shown_sheet, title_sheet};
 ghost use Rattle.sp_elements.specs.Bodies.{row_count, shapes_in};
-ghost use Rattle.sp_print.specs.Views.{label_of};
+ghost use Rattle.sp_views.specs.Views.{label_of};
 ghost use Rattle.sp_made.specs.Places.{HasPlaces, sheet_shown, title_at};
 
 use crate::made::Made;
@@ -17,9 +17,10 @@ use sp_elements::Body;
 use sp_labels::Label;
 use sp_locks::Sheet;
 use sp_numbers::{greatest, page_behind};
-use sp_print::{PageView, SheetLabel};
+use sp_print::PageView;
 use sp_splice::GapList;
 use sp_text::Lines;
+use sp_views::SheetLabel;
 use spec_pages::Shape;
 
 /// The labels, where there are some.

@@ -4,8 +4,8 @@ use Rattle.std.specs.List.{flat_map}
 use Rattle.spec_pages.specs.Clusters.{columns_of}
 use Rattle.spec_layout.specs.Cells.{ShownPart, ShownCell, part_text, shown_bytes}
 use Rattle.spec_print.specs.RowBytes.{ShownRow, spaces, gap, columns_behind, is_blank, star_cells, untabbed}
+use Rattle.sp_views.specs.Views.{ViewOf, cells_views}
 use Rattle.sp_print.specs.declared.write_row.Progress.{Progress}
-use Rattle.sp_print.specs.Views.{ViewOf, cells_views}
 
 -- The part has no text.
 abbrev pub is_empty_view : ViewOf → Bool

@@ -4,12 +4,12 @@ ghost use Rattle.std.specs.Option.{option_copied};
 ghost use Rattle.spec_text.specs.Lines.{line_texts};
 ghost use Rattle.spec_layout.specs.Cells.{RowShows};
 ghost use Rattle.spec_layout.specs.Layout.{placed_in};
-ghost use Rattle.spec_layout.specs.Shown.{heading_label, is_heading_element, labels_behind, shown_rows};
+ghost use Rattle.spec_layout.specs.Shown.{heading_label, labels_behind, shown_rows};
 
-use crate::text_row::{TextRow, opens_heading};
-use sp_elements::Element;
+use sp_elements::{Element, is_heading_element};
 use sp_labels::Label;
 use sp_text::Lines;
+use sp_views::TextRow;
 use std::marker::Model;
 
 /// The next rows of elements: `left` of them, behind the first `skip`. `numbers` are the labels of the headings.
@@ -35,16 +35,6 @@ impl<'a> Model for RowCursor<'a> {
     ghost view = { λ r. take r.left (drop r.skip (shown_rows r.lines.now.lines (option_copied r.numbers) r.elements.now)) };
 
     ghost invariant = { λ r. All (RowShows (line_texts r.lines.now.lines)) (placed_in r.elements.now) };
-}
-
-/// Whether the element is a heading.
-fn is_heading_element(element: &Element) -> bool
-    ensures { result ≡ is_heading_element element.now }
-{
-    match element.rows.first() {
-        Some(row) => opens_heading(row),
-        None => false,
-    }
 }
 
 /// The label of an element that is a heading: the first of the labels.

@@ -3,9 +3,8 @@ ghost use Rattle.std.specs.Prelude.{◌≡◌, ◌<◌, ◌≤◌, ◌∷◌, []
 ghost use Rattle.spec_print.specs.PageRows.{height_above, page_body, page_height};
 
 use crate::row_cursor::RowCursor;
-use crate::row_view::{RowView, empty_row, more_row};
-use crate::text_row::TextRow;
 use sp_fill::{continues_speech, goes_on};
+use sp_views::{RowView, TextRow, empty_row, more_row};
 use std::marker::Model;
 
 /// The rows of a page that come next: one that stands by itself, so many empty rows, and a row of an element with those

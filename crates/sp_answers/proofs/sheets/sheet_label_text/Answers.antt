@@ -1,5 +1,5 @@
 use Rattle.std.proofs.Common.{rules}
-use Rattle.sp_print.specs.Views.{label_of}
+use Rattle.sp_views.specs.Views.{label_of}
 use Rattle.spec_state.proofs.SheetTexts.{sheet_label-utf8}
 use Rattle.sp_answers.proofs.sheets.sheet_label_text.Goals as goal
 

@@ -6,7 +6,7 @@ use Rattle.spec_print.specs.RowBytes.{untabbed}
 use Rattle.spec_html.specs.HtmlSheets.{escaped}
 use Rattle.spec_html.proofs.PlainLabels.{escaped-plain, untabbed-plain}
 use Rattle.spec_html.proofs.PlainLabels as plain
-use Rattle.sp_print.specs.Views.{text_of}
+use Rattle.sp_views.specs.Views.{text_of}
 use Rattle.sp_print.proofs.PrintedLabels as printed
 use Rattle.sp_html.proofs.marked_text.write_text.Goals as goal
 

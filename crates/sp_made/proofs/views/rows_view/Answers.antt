@@ -7,7 +7,7 @@ use Rattle.spec_layout.specs.Shown.{Shown, shown_rows}
 use Rattle.spec_print.specs.PageRows.{page_body}
 use Rattle.spec_print.specs.Sheets.{Sheet}
 use Rattle.sp_elements.specs.Bodies.{PageOf, IsPageOf}
-use Rattle.sp_print.specs.Views.{label_of}
+use Rattle.sp_views.specs.Views.{label_of}
 use Rattle.sp_made.proofs.PageRows.{page-show, page-rows}
 use Rattle.sp_made.proofs.views.rows_view.Goals as goal
 
