@@ -56,8 +56,7 @@ pub can-edit : (text : TextState) (records : RecordsOf) (edit : EditOf) (new : S
 can-edit text records edit new taken whole led = record { inside = taken-inside text edit taken; text = subst (λ (s : State). IsText (state_text s)) led whole.text }
 
 -- Whether cues say that their speakers go on moves no page.
-pub speakers-pages : (text : TextState) (kept old : RecordsOf) (speakers : Bool) (starts : List ℕ) → kept ≡ old → IsWhole (state_of text old) → starts ≡ pages_of (state_of text old)
-    → starts ≡ pages_of (state_of text (record kept { speakers = speakers }))
-speakers-pages text kept old speakers starts is whole are =
-    let here : IsWhole (state_of text kept) = subst (λ (r : RecordsOf). IsWhole (state_of text r)) (sym is) whole in
-    are ∙ ap (λ (r : RecordsOf). pages_of (state_of text r)) (sym is) ∙ sym (speakers-starts (state_of text kept) speakers here (speakers-whole (state_of text kept) speakers here))
+pub speakers-pages : (text : TextState) (old new : RecordsOf) (speakers : Bool) (starts : List ℕ) → new ≡ record old { speakers = speakers } → IsWhole (state_of text old) → starts ≡ pages_of (state_of text old)
+    → starts ≡ pages_of (state_of text new)
+speakers-pages text old new speakers starts is whole are =
+    are ∙ sym (speakers-starts (state_of text old) speakers whole (speakers-whole (state_of text old) speakers whole)) ∙ ap (λ (r : RecordsOf). pages_of (state_of text r)) (sym is)
