@@ -1,4 +1,4 @@
-//! The fields of a command.
+//! The fields of a command, of a line's object (docs/RULES.md, "Commands" and "The room").
 ghost use Rattle.std.specs.Prelude.{◌≡◌, map, string_bytes, Some, IfOk, IfSome, IfNone, None};
 ghost use Rattle.serde_json.specs.View.{view, items_view};
 ghost use Rattle.spec_wire.specs.Forms.{a_number, a_text, texts, a_truth, a_paper, a_seat, texts_of, paper_named};
@@ -10,7 +10,7 @@ use serde_json::Value;
 use spec_pages::Paper;
 use std::alloc::{AllocError, Global};
 
-/// The number that a command has in a field. BadField comes where there is none; NoMemory may come in its place.
+/// The number, from 0 to 2^64 - 1, that a command has in a field (docs/RULES.md, "Commands"). BadField comes where there is none; NoMemory may come in its place.
 pub fn number_at(alloc: Global, value: &Value, name: &str) -> Result<u64, WireFault>
     ensures { Answers (λ n. n) (asked a_number name.now (view value.now)) result }
 {
@@ -20,7 +20,7 @@ pub fn number_at(alloc: Global, value: &Value, name: &str) -> Result<u64, WireFa
     }
 }
 
-/// The truth value that a command has in a field. BadField comes where there is none; NoMemory may come in its place.
+/// The truth value that a command has in a field (docs/RULES.md, "Commands"). BadField comes where there is none; NoMemory may come in its place.
 pub fn truth_at(alloc: Global, value: &Value, name: &str) -> Result<bool, WireFault>
     ensures { Answers (λ b. b) (asked a_truth name.now (view value.now)) result }
 {
@@ -30,7 +30,7 @@ pub fn truth_at(alloc: Global, value: &Value, name: &str) -> Result<bool, WireFa
     }
 }
 
-/// The text that a command has in a field. BadField comes where there is none, NoMemory for want of memory.
+/// The text that a command has in a field (docs/RULES.md, "Commands"). BadField comes where there is none, NoMemory for want of memory.
 pub fn text_at(alloc: Global, value: &Value, name: &str) -> Result<String, WireFault>
     ensures { Answers string_bytes (asked a_text name.now (view value.now)) result }
 {
@@ -40,7 +40,7 @@ pub fn text_at(alloc: Global, value: &Value, name: &str) -> Result<String, WireF
     }
 }
 
-/// The texts that a command has in a field. BadField comes where there are none, NoMemory for want of memory.
+/// The texts that a command has in a field (docs/RULES.md, "Commands"). BadField comes where there are none, NoMemory for want of memory.
 pub fn texts_at(alloc: Global, value: &Value, name: &str) -> Result<Vec<String>, WireFault>
     ensures { Answers (λ v. map string_bytes v.items) (asked texts name.now (view value.now)) result }
 {
@@ -52,7 +52,7 @@ pub fn texts_at(alloc: Global, value: &Value, name: &str) -> Result<Vec<String>,
     Err(bad_field(alloc, name)?)
 }
 
-/// The paper that a command names in a field. BadField comes where there is none; NoMemory may come in its place.
+/// The paper that a command names in a field (docs/RULES.md, "Commands"). BadField comes where there is none; NoMemory may come in its place.
 pub fn paper_at(alloc: Global, value: &Value, name: &str) -> Result<Paper, WireFault>
     ensures { Answers (λ p. p) (asked a_paper name.now (view value.now)) result }
 {
@@ -66,7 +66,8 @@ pub fn paper_at(alloc: Global, value: &Value, name: &str) -> Result<Paper, WireF
     }
 }
 
-/// The name of a seat, of 1 to 64 bytes, that a line has in a field. BadField comes where there is none, NoMemory for want of memory.
+/// The name of a seat, of 1 to 64 bytes, that a line has in a field (docs/RULES.md, "The room"). BadField comes where there is none, NoMemory
+/// for want of memory.
 pub fn seat_at(alloc: Global, value: &Value, name: &str) -> Result<String, WireFault>
     ensures { Answers string_bytes (asked a_seat name.now (view value.now)) result }
 {

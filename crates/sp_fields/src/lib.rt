@@ -1,4 +1,4 @@
-//! The fields of a command, read one by one, and the objects of one member that replies begin with.
+//! The fields of a command, read one by one; the objects of one member that replies begin with, and the reply to an edit.
 #![tactic(auto)]
 
 mod edits;

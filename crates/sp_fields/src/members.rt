@@ -8,7 +8,7 @@ ghost use Rattle.spec_wire.specs.Replies.{reply_data, edited};
 use serde_json::{Map, Value, put};
 use std::alloc::{AllocError, Global};
 
-/// An object that has a number under a key. `AllocError` comes for want of memory alone.
+/// An object that has a number under a key (docs/RULES.md, "Commands"). `AllocError` comes for want of memory alone.
 pub fn number_member(
     alloc: Global,
     key: &str,
@@ -21,7 +21,7 @@ pub fn number_member(
     Ok(members)
 }
 
-/// An object that has a text under a key. `AllocError` comes for want of memory alone.
+/// An object that has a text under a key (docs/RULES.md, "Commands"). `AllocError` comes for want of memory alone.
 pub fn text_member(
     alloc: Global,
     key: &str,

@@ -24,34 +24,6 @@ impl Model for PageEntry {
     ghost view = { λ r. record { label = r.label; line = r.line; row = r.row; changed = r.changed } };
 }
 
-/// The round, the settings and the records of a file (docs/RULES.md, "Record file").
-#[derive(Drop)]
-pub struct KeptRecords {
-    pub round: u64,
-    /// Whether a cue says that its speaker goes on.
-    pub speakers: bool,
-    pub paper: Paper,
-    /// None where scenes aren't locked.
-    pub scenes: Option<Vec<SceneRecord>>,
-    /// None where pages aren't locked.
-    pub pages: Option<Vec<PageEntry>>,
-}
-
-impl Model for KeptRecords {
-    ghost use Rattle.std.specs.Prelude.{option_map};
-    ghost use Rattle.spec_records.specs.Kept.{RecordsOf};
-
-    ghost Value = { RecordsOf };
-
-    ghost view = { λ r. record {
-      round = r.round;
-      speakers = r.speakers;
-      paper = r.paper;
-      scenes = option_map (λ v. v.items) r.scenes;
-      pages = option_map (λ v. v.items) r.pages;
-    } };
-}
-
 /// What is kept of a state beside its text, whether or not it keeps rules 4 to 6 (docs/RULES.md, "Record file").
 #[derive(Drop)]
 pub struct Kept {

@@ -10,4 +10,4 @@ mod rules;
 
 pub use fault::RecordsFault;
 pub use judging::judge;
-pub use kept::{File, Kept, KeptRecords, PageEntry};
+pub use kept::{File, Kept, PageEntry};

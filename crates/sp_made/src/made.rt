@@ -170,7 +170,8 @@ pub fn laid_firsts(
     record_starts(alloc, lines, layout.body.keys(), &records.pages, near)
 }
 
-/// Whether the first rows of page records (docs/RULES.md, "Page records") were known, and are these.
+/// Whether the first rows of page records (docs/RULES.md, "Page records") were known, and are these. True is told only where that is
+/// so. It takes no memory.
 pub fn firsts_stay(known: &Option<Vec<usize>>, firsts: &[usize]) -> bool
     ensures { OnTrue result (option_map (λ those. those.items) known.now ≡ Some firsts.now) }
 {

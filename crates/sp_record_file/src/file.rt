@@ -7,9 +7,10 @@ ghost use Rattle.spec_records.specs.Fields.{field};
 ghost use Rattle.spec_records.specs.RecordFile.{object_in, is_format, version_in, paper_in, speakers_in, records_in, kept_in, file_in, form_of};
 ghost use Rattle.sp_record_file.specs.Forming.{IsForm};
 
+use crate::kept_records::KeptRecords;
 use crate::reading::{digest_at, number_at, numbers_at, pages_at, paper_of, scenes_at};
 use serde_json::Value;
-use sp_kept::{File, Kept, KeptRecords, PageEntry, RecordsFault};
+use sp_kept::{File, Kept, PageEntry, RecordsFault};
 use spec_pages::Paper;
 use std::alloc::{AllocError, Global};
 

@@ -6,6 +6,7 @@ mod decoding;
 mod digests;
 mod encoding;
 mod file;
+mod kept_records;
 mod reading;
 mod writing;
 
