@@ -5,7 +5,7 @@ use Rattle.spec_text.specs.Edits.{EditOf, refusal_of, replacement_of}
 use Rattle.spec_state.specs.State.{State, text_of}
 use Rattle.spec_wire.specs.Commands.{CommandOf, edit}
 use Rattle.sp_exchange.specs.Reads.{IsRefused}
-use Rattle.sp_state.specs.Reads.{EditReads, EditReadsAtMost}
+use Rattle.sp_text_entry.specs.Reads.{EditReads, EditReadsAtMost}
 
 -- An accepted edit reads the stanzas of its window, each once; one that finds no memory no more; a refused one none, also where
 -- it finds no memory.

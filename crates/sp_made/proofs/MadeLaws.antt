@@ -10,23 +10,24 @@ use Rattle.spec_pages.specs.declared.Shape.{Shape}
 use Rattle.spec_pages.specs.Pages.{page_starts, rows_on, text_heights}
 use Rattle.spec_pages.specs.Rows.{Row, ElementOf}
 use Rattle.spec_pages.proofs.StartLists.{starts-are}
-use Rattle.spec_labels.specs.declared.RowKey.{RowKey}
 use Rattle.spec_labels.specs.Scenes.{HeadingOf, SceneRecordOf, locked_labels}
-use Rattle.spec_labels.specs.PageRecords.{PageRecordOf, AreAnchored, record_starts, sheets_of_records}
+use Rattle.spec_labels.specs.PageRecords.{PageRecordOf, record_starts, sheets_of_records}
 use Rattle.spec_layout.specs.Layout.{placed_in}
 use Rattle.spec_layout.specs.Shown.{shape_of}
 use Rattle.spec_layout.proofs.RowLaws.{IsText-texts}
-use Rattle.spec_layout.proofs.ShownLaws.{length-shown_rows, shown_rows-shapes, shown_rows-marks}
+use Rattle.spec_layout.proofs.ShownLaws.{shown_rows-shapes, shown_rows-marks}
 use Rattle.spec_state.specs.State.{State, opened_state, text_of}
 use Rattle.spec_state.specs.Headings.{headings_of, heading_labels}
 use Rattle.spec_state.specs.StateSheets.{layout_in, rows_in, keys_in, locked_starts, pages_in, numbered_sheets, sheets_in, body_sheets}
 use Rattle.spec_locked_pages.specs.Segments.{pages_of}
 use Rattle.spec_state.specs.Keeping.{IsWhole, records_of, state_of}
 use Rattle.spec_state.proofs.OpenedLaws.{opening-whole}
-use Rattle.spec_state.proofs.StateLaws.{state-AreKeptPages, state-ArePageRecords, state-AreAnchored, state-AreStarts, state-ArePages, state-few, rising-few}
+use Rattle.spec_state.proofs.StateLaws.{state-AreKeptPages, state-ArePageRecords, state-AreStarts, state-ArePages, state-few, rising-few}
 use Rattle.sp_elements.specs.Bodies.{row_count, shapes_in, marks_in}
+use Rattle.sp_firsts.proofs.FirstsLaws.{count-rows}
 use Rattle.sp_numbers.specs.Locked.{LockedSheets}
-use Rattle.sp_made.specs.Made.{AreFewPages, AskedOfPages, key_starts, marked_or_locked}
+use Rattle.sp_firsts.specs.Firsts.{key_starts}
+use Rattle.sp_made.specs.Made.{AreFewPages, AskedOfPages, marked_or_locked}
 use Rattle.sp_numbers.proofs.MarkedLaws.{marked_sheets-numbered}
 
 -- What a value shows is something, and so is what is equal to that.
@@ -49,18 +50,9 @@ pub labels-are : {V : Type 0} (items : V → List SceneRecordOf) (scenes : Optio
 labels-are items None lines headings is = refl
 labels-are items (Some records) lines headings is = ap (λ those. Some (locked_labels (items records) those)) is
 
--- How many rows a state has.
-pub count-rows : (state : State) → length (rows_in state) ≡ row_count (layout_in state).body
-count-rows state = length-shown_rows state.lines (heading_labels state.lines state.scenes) (layout_in state).body
-
+-- The shapes of its rows.
 pub same-shapes : (state : State) → map shape_of (rows_in state) ≡ shapes_in (layout_in state).body
 same-shapes state = shown_rows-shapes state.lines (heading_labels state.lines state.scenes) (layout_in state).body
-
--- What the starts of page records ask for.
-pub anchored : {V : Type 0} (items : V → List PageRecordOf) (state : State) (keys : List RowKey) (pages : Option V) → IsWhole state → keys ≡ keys_in state → state.pages ≡ option_map items pages
-    → IfSome pages (λ those. AreAnchored state.lines keys (items those))
-anchored items state keys None whole same is = tt
-anchored items state keys (Some those) whole same is = subst (λ ks. AreAnchored state.lines ks (items those)) (sym same) (state-AreAnchored state (items those) whole is)
 
 -- No page record starts behind the last row.
 starts-by : (state : State) (o : Option (List PageRecordOf)) → IsWhole state → state.pages ≡ o → All (λ (stop : ℕ). stop ≤ length (rows_in state)) (key_starts state.lines (keys_in state) o)

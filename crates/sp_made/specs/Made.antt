@@ -1,17 +1,16 @@
 -- What is made of a state.
-use Rattle.std.specs.Prelude.{◌≡◌, ℕ, ◌<◌, ◌≤◌, All, AllPairs, IsPermutation, IfSome, List, [], length, Option, Some, None}
-use Rattle.spec_text.specs.Lines.{LineState}
+use Rattle.std.specs.Prelude.{◌≡◌, ℕ, ◌<◌, ◌≤◌, All, AllPairs, IsPermutation, IfSome, List, length, Option, Some, None}
 use Rattle.spec_pages.specs.Rows.{ElementOf}
-use Rattle.spec_labels.specs.declared.RowKey.{RowKey}
 use Rattle.spec_labels.specs.Labels.{LabelOf}
-use Rattle.spec_labels.specs.PageRecords.{PageRecordOf, SheetOf, record_starts, sheets_of_records}
+use Rattle.spec_labels.specs.PageRecords.{PageRecordOf, SheetOf, sheets_of_records}
 use Rattle.spec_state.specs.State.{State}
 use Rattle.sp_elements.specs.Bodies.{row_count, marks_in}
-use Rattle.sp_layout.specs.LaidOut.{LayoutOf, keyed}
+use Rattle.sp_firsts.specs.Firsts.{IsLaidOf}
+use Rattle.sp_layout.specs.LaidOut.{LayoutOf}
 use Rattle.sp_numbers.specs.Locked.{LockedSheets}
 use Rattle.sp_numbers.specs.Numbered.{marked_sheets}
 use Rattle.spec_state.specs.Headings.{heading_labels}
-use Rattle.spec_state.specs.StateSheets.{layout_in, rows_in, keys_in, title_starts, body_sheets}
+use Rattle.spec_state.specs.StateSheets.{rows_in, title_starts, body_sheets}
 use Rattle.spec_reflow.specs.Windows.{AreStops}
 use Rattle.spec_refill.specs.Exchanges.{stops_in}
 
@@ -26,13 +25,6 @@ pub record MadeOf : Type 0 where
   pub layout : LayoutOf
   pub numbered : NumberedOf
 
--- The layout of the state's text, with the keys of its rows. It asks nothing of its records.
-abbrev pub laid_in : State → LayoutOf
-laid_in state = keyed state.lines (layout_in state)
-
-abbrev pub IsLaidOf : State → LayoutOf → Type 0
-IsLaidOf state it = it ≡ laid_in state
-
 -- They are those of the state.
 pub record IsNumberedOf (state : State) (it : NumberedOf) : Type 0 where
   pub labels : it.labels ≡ heading_labels state.lines state.scenes
@@ -42,15 +34,6 @@ pub record IsNumberedOf (state : State) (it : NumberedOf) : Type 0 where
 pub record IsMadeOf (state : State) (it : MadeOf) : Type 0 where
   pub layout : IsLaidOf state it.layout
   pub numbered : IsNumberedOf state it.numbered
-
--- The first rows of page records by the keys of all rows; none where pages aren't locked.
-abbrev pub key_starts : List LineState → List RowKey → Option (List PageRecordOf) → List ℕ
-key_starts lines keys None = []
-key_starts lines keys (Some records) = record_starts lines keys records
-
--- The first rows of the page records of a state; none where pages aren't locked.
-abbrev pub first_rows : State → List ℕ
-first_rows state = key_starts state.lines (keys_in state) state.pages
 
 -- Page starts rise, are rows, and are few.
 pub record AreFewPages (rows : ℕ) (pages : List ℕ) : Type 0 where

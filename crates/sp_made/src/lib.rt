@@ -7,7 +7,7 @@ mod views;
 
 pub use heading_rows::keeps_headings;
 pub use made::{
-    Made, Numbered, firsts_stay, laid_firsts, laid_stops, lay, made_starts, make, make_pages,
-    number, renumber, rows_on,
+    Made, Numbered, firsts_stay, laid_stops, lay, made_starts, make, make_pages, number, renumber,
+    rows_on,
 };
 pub use views::{body_shapes, made_sheet, made_title, sheet_count, title_count};

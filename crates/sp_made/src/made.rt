@@ -4,7 +4,6 @@ ghost use Rattle.std.specs.Bool.{OnFalse, OnTrue};
 ghost use Rattle.spec_text.specs.Lines.{line_texts};
 ghost use Rattle.spec_script.specs.Stanzas.{stanzas_of};
 ghost use Rattle.spec_pages.specs.Pages.{page_starts, rows_on};
-ghost use Rattle.spec_labels.specs.PageRecords.{AreAnchored};
 ghost use Rattle.spec_state.specs.Headings.{heading_labels};
 ghost use Rattle.spec_state.specs.StateSheets.{body_sheets, locked_starts, rows_in};
 ghost use Rattle.spec_state.specs.Keeping.{IsWhole, state_of};
@@ -17,22 +16,23 @@ ghost use Rattle.sp_reflow.specs.Starts.{many_more};
 ghost use Rattle.sp_reflow.specs.Filling.{FilledAtMost};
 ghost use Rattle.sp_reflow.specs.Updates.{with_taken, CanPutBack};
 ghost use Rattle.sp_relay.specs.Kept.{laid_of};
-ghost use Rattle.sp_made.specs.Made.{AreStopsOf, AskedOfPages, IsLaidOf, IsMadeOf, IsNumberedOf, first_rows, key_starts, marked_or_locked};
+ghost use Rattle.sp_firsts.specs.Firsts.{IsLaidOf, first_rows};
+ghost use Rattle.sp_made.specs.Made.{AreStopsOf, AskedOfPages, IsMadeOf, IsNumberedOf, marked_or_locked};
 ghost use Rattle.sp_numbers.specs.Locked.{AreSheetsBefore};
 ghost use Rattle.sp_numbers.specs.Numbered.{marked_sheets, AreMovedOutside, AreUnmarked};
 
 use sp_elements::Body;
+use sp_firsts::laid_firsts;
 use sp_kit::{Counter, Steps};
 use sp_labels::Label;
 use sp_layout::lay_out_text;
-use sp_locks::{PageRecord, RowKey, Sheet, starts};
+use sp_locks::{PageRecord, Sheet};
 use sp_numbers::{Stale, heading_lines, merged_stops, renew_locked, renew_sheets, stale_places};
 use sp_records::Records;
 use sp_reflow::{Pages, SwappedPages};
 use sp_relay::KeptLayout;
 use sp_reread::{Stanzas, placed_blocks};
 use sp_scenes::numbers_of_lines;
-use sp_splice::GapList;
 use sp_text::Lines;
 use spec_pages::Paper;
 use std::alloc::{AllocError, Global};
@@ -133,41 +133,6 @@ fn title_pages(alloc: Global, titles: &Body, paper: Paper) -> Result<Pages, Allo
     let mut fills = Counter::new();
     let none: &[usize] = &[];
     Pages::new(alloc, titles.shapes(), none, rows_on(paper), &mut fills)
-}
-
-/// The first rows of page records; none where pages aren't locked. Each is looked for first as far behind the one before it as in
-/// `near`.
-fn record_starts(
-    alloc: Global,
-    lines: &Lines,
-    keys: &GapList<RowKey>,
-    records: &Option<Vec<PageRecord>>,
-    near: &[usize],
-) -> Result<Vec<usize>, AllocError>
-    requires { IfSome records.now (λ those. AreAnchored lines.now.lines keys.now.items those.items) }
-    ensures { IfOk result (λ firsts. firsts.items ≡ key_starts lines.now.lines keys.now.items (option_map (λ those. those.items) records.now)) }
-{
-    match records {
-        None => Ok(Vec::new(alloc)),
-        Some(records) => starts(alloc, records, lines, keys, near),
-    }
-}
-
-/// The first rows of the page records of a state whose text is laid out; none where pages aren't locked. Each is looked for first
-/// as far behind the one before it as in `near`, those of a state before it or any other rows. `AllocError` comes for want of
-/// memory alone.
-pub fn laid_firsts(
-    alloc: Global,
-    lines: &Lines,
-    records: &Records,
-    layout: &KeptLayout,
-    near: &[usize],
-) -> Result<Vec<usize>, AllocError>
-    requires whole { IsWhole (state_of (text_of lines.now) records.now) }
-    requires laid { IsLaidOf (state_of (text_of lines.now) records.now) (laid_of layout.now) }
-    ensures { IfOk result (λ firsts. firsts.items ≡ first_rows (state_of (text_of lines.now) records.now)) }
-{
-    record_starts(alloc, lines, layout.body.keys(), &records.pages, near)
 }
 
 /// Whether the first rows of page records (docs/RULES.md, "Page records") were known, and are these. True is told only where that is

@@ -11,7 +11,8 @@ use Rattle.spec_locked_pages.specs.Segments.{pages_of}
 use Rattle.spec_refill.specs.Exchanges.{edit_exchange, filled_pages}
 use Rattle.sp_reflow.specs.Filling.{FilledAtMost}
 use Rattle.sp_reflow.specs.Starts.{many_more}
-use Rattle.sp_state.specs.Fills.{EditFills, EditFillsAtMost, FillsAtMost, IsExchangeOf}
+use Rattle.sp_text_entry.specs.Relaid.{IsExchangeOf}
+use Rattle.sp_state.specs.Fills.{EditFills, EditFillsAtMost, FillsAtMost}
 
 -- The pages that are filled are those of the page window of the edit.
 window-edited : (old new : State) (it : Replacement) (edit : Exchange) (starts : List ℕ) (a b : ℕ) → new ≡ edited_state old it → starts ≡ pages_of old → IsExchangeOf old it edit → IsWindowOf (range_of it) old (edited_state old it) a b

@@ -29,13 +29,15 @@ use Rattle.spec_machine.proofs.RefusalLaws.{below-is, pages-free, pages-full, ro
 use Rattle.spec_machine.proofs.WholeStates.{lock_scenes-whole, lock_pages-whole, round-whole}
 use Rattle.spec_machine.proofs.LabelLaw.{state-sheets}
 use Rattle.sp_elements.specs.Bodies.{row_count, shapes_in}
-use Rattle.sp_made.specs.Made.{MadeOf, IsMadeOf, key_starts, marked_or_locked}
+use Rattle.sp_firsts.specs.Firsts.{key_starts}
+use Rattle.sp_made.specs.Made.{MadeOf, IsMadeOf, marked_or_locked}
 use Rattle.sp_labels.specs.declared.fault.LockFault.{LockFault}
 use Rattle.sp_labels.specs.declared.fault.LockFault.TheVariants as locks
 use Rattle.sp_locks.specs.Extension.{IsMade}
 use Rattle.sp_records.specs.OpeningFaults.{lock_fault_of}
 use Rattle.sp_state.specs.Openings.{ArePagesOpened, CanLockHeadings, IsFull, IsReason, pages_made}
-use Rattle.sp_made.proofs.MadeLaws.{count-rows, sheets-by}
+use Rattle.sp_firsts.proofs.FirstsLaws.{count-rows}
+use Rattle.sp_made.proofs.MadeLaws.{sheets-by}
 use Rattle.sp_made.proofs.SheetPlaces.{body-made, keys-made, made-places}
 
 -- The headings of a text keep what is asked of headings.

@@ -14,7 +14,7 @@ use Rattle.spec_machine.proofs.RefusalLaws.{free-pages}
 use Rattle.spec_locked_pages.specs.Segments.{pages_of}
 use Rattle.spec_refill.proofs.LockedStarts.{lock-starts, round-starts}
 use Rattle.sp_elements.specs.Bodies.{shapes_in}
-use Rattle.sp_made.specs.Made.{key_starts}
+use Rattle.sp_firsts.specs.Firsts.{key_starts}
 use Rattle.sp_made.proofs.MadeLaws.{pages-are}
 use Rattle.sp_records.specs.declared.opening_fault.OpeningFault.{OpeningFault}
 use Rattle.sp_state.specs.Openings.{IsOpening}

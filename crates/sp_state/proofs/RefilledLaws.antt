@@ -20,7 +20,7 @@ use Rattle.spec_refill.proofs.EditExchange.{edit-exchanged, speakers-starts}
 use Rattle.sp_reflow.specs.Updates.{AreStale}
 use Rattle.sp_made.specs.Made.{AreStopsOf}
 use Rattle.sp_made.proofs.StopsMade.{starts-of, stops-in_order}
-use Rattle.sp_state.specs.Fills.{IsExchangeOf}
+use Rattle.sp_text_entry.specs.Relaid.{IsExchangeOf}
 
 pub stale-same : (edit : Exchange) (olds : List ℕ) (limit body : ℕ) (those shapes : List Shape) (items stops : List ℕ) → body ≡ limit → shapes ≡ those → stops ≡ items
     → AreStale limit edit olds those items → AreStale body edit olds shapes stops

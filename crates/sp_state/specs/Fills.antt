@@ -5,14 +5,9 @@ use Rattle.spec_text.specs.Ranges.{RangeOf, range_of}
 use Rattle.spec_state.specs.State.{State}
 use Rattle.spec_state.specs.Changes.{edited_state}
 use Rattle.spec_locked_pages.specs.LockedPages.{IsWindowOf}
-use Rattle.spec_reflow.specs.Windows.{Exchange}
-use Rattle.spec_refill.specs.Exchanges.{edit_exchange, filled_pages}
+use Rattle.spec_refill.specs.Exchanges.{filled_pages}
 use Rattle.sp_reflow.specs.Filling.{FilledAtMost}
 use Rattle.sp_reflow.specs.Starts.{many_more}
-
--- An exchange of rows is that of an edit.
-pub record IsExchangeOf (state : State) (it : Replacement) (edit : Exchange) : Type 0 where
-  pub is : (a b : ℕ) → IsWindowOf (range_of it) state (edited_state state it) a b → edit ≡ edit_exchange (range_of it) state (edited_state state it) a b
 
 -- Each page of the page window was filled once, and no other.
 pub record FillsWindow (old new : State) (range : RangeOf) (fills fills' : ℕ) : Type 0 where

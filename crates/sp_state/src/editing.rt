@@ -11,23 +11,27 @@ ghost use Rattle.sp_exchange.specs.Reads.{IsRefused};
 ghost use Rattle.sp_exchange.specs.Restoring.{text_stanzas};
 ghost use Rattle.sp_reflow.specs.Filling.{FilledAtMost};
 ghost use Rattle.sp_relay.specs.Kept.{CanSwap, HasPartRoom, laid_of, with_part};
-ghost use Rattle.sp_made.specs.Made.{IsLaidOf, IsMadeOf, IsNumberedOf, first_rows};
-ghost use Rattle.sp_state.specs.TextEntries.{CanRedoText, CanUndoText, HasTextRoom, IsTextRedone, IsTextUndone, redone_text, undone_text};
+ghost use Rattle.sp_firsts.specs.Firsts.{IsLaidOf, first_rows};
+ghost use Rattle.sp_made.specs.Made.{IsMadeOf, IsNumberedOf};
+ghost use Rattle.sp_text_entry.specs.TextEntries.{CanRedoText, CanUndoText, HasTextRoom, IsTextRedone, IsTextUndone, redone_text, undone_text};
 ghost use Rattle.sp_state.specs.Entries.{CanRedo, CanUndo, IsSameEntry, LeadsBack, LeadsForth, done_range, redone_state, undone_range, undone_state};
 ghost use Rattle.sp_reflow.specs.Starts.{many_more};
-ghost use Rattle.sp_state.specs.Reads.{EditReads, EditReadsAtMost};
+ghost use Rattle.sp_text_entry.specs.Reads.{EditReads, EditReadsAtMost};
 ghost use Rattle.sp_state.specs.Fills.{EditFills, EditFillsAtMost};
 
 use crate::entry::{Entry, Unturned};
-use crate::text_entry::{EditedText, TextEntry, UnturnedText, edit_entry, redo_entry, undo_entry};
-use crate::turning::{Turned, UnturnedPages, refilled, swap_in_room, turn_made};
+use crate::turning::{Turned, UnturnedPages, refilled, turn_made};
+use sp_firsts::laid_firsts;
 use sp_kit::Steps;
-use sp_made::{Made, Numbered, keeps_headings, laid_firsts, lay, make, number};
+use sp_made::{Made, Numbered, keeps_headings, lay, make, number};
 use sp_records::Records;
 use sp_reflow::Pages;
 use sp_relay::{KeptLayout, LayoutPart};
 use sp_reread::Stanzas;
 use sp_text::{Edit, EditFault, Lines};
+use sp_text_entry::{
+    EditedText, TextEntry, UnturnedText, edit_entry, redo_entry, swap_in_room, undo_entry,
+};
 use spec_pages::Paper;
 use std::alloc::{AllocError, Global};
 use std::mem;

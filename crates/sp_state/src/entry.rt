@@ -1,7 +1,7 @@
 //! The entry of an edit.
-use crate::text_entry::TextEntry;
 use sp_reflow::SwappedPages;
 use sp_relay::LayoutPart;
+use sp_text_entry::TextEntry;
 use std::marker::Model;
 
 /// What an edit displaced: of the text and of the page records, of the layout, and first rows of pages.

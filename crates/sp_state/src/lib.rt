@@ -2,13 +2,10 @@
 //! are undone and redone.
 #![tactic(auto)]
 
-mod carrying;
 mod editing;
 mod entry;
 mod locking;
-mod relaying;
 mod script;
-mod text_entry;
 mod turning;
 
 pub use entry::{Entry, Unturned};

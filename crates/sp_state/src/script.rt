@@ -21,7 +21,7 @@ ghost use Rattle.sp_exchange.specs.Reads.{IsRefused};
 ghost use Rattle.sp_exchange.specs.Restoring.{text_stanzas};
 ghost use Rattle.sp_made.specs.Made.{IsMadeOf};
 ghost use Rattle.sp_state.specs.Openings.{IsOpening};
-ghost use Rattle.sp_state.specs.Reads.{EditReads, EditReadsAtMost};
+ghost use Rattle.sp_text_entry.specs.Reads.{EditReads, EditReadsAtMost};
 ghost use Rattle.sp_state.specs.Fills.{EditFills, EditFillsAtMost};
 ghost use Rattle.sp_state.specs.Entries.{CanRedo, CanUndo, IsSameEntry, LeadsBack, LeadsForth, done_range, redone_state, undone_range, undone_state};
 
@@ -76,7 +76,8 @@ impl Model for Script {
     ghost use Rattle.spec_state.specs.Keeping.{IsWhole, state_of};
     ghost use Rattle.sp_exchange.specs.Restoring.{text_stanzas};
     ghost use Rattle.spec_locked_pages.specs.Segments.{pages_of};
-    ghost use Rattle.sp_made.specs.Made.{IsMadeOf, first_rows};
+    ghost use Rattle.sp_firsts.specs.Firsts.{first_rows};
+    ghost use Rattle.sp_made.specs.Made.{IsMadeOf};
 
     ghost Value = { State };
 

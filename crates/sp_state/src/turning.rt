@@ -13,34 +13,23 @@ ghost use Rattle.sp_exchange.specs.Restoring.{text_stanzas};
 ghost use Rattle.sp_reflow.specs.Starts.{many_more};
 ghost use Rattle.sp_reflow.specs.Filling.{FilledAtMost};
 ghost use Rattle.sp_reflow.specs.Updates.{AreStale, CanPutBack, taken_back, taken_of, with_taken};
-ghost use Rattle.sp_relay.specs.Kept.{CanSwap, HasPartRoom, laid_of, with_part};
+ghost use Rattle.sp_relay.specs.Kept.{CanSwap, laid_of, with_part};
 ghost use Rattle.sp_numbers.specs.HeadingIds.{laid_labels};
 ghost use Rattle.sp_numbers.specs.Locked.{AreSheetsBefore};
 ghost use Rattle.sp_numbers.specs.Numbered.{AreUnmarked};
-ghost use Rattle.sp_made.specs.Made.{AreStopsOf, IsLaidOf, IsNumberedOf, first_rows};
+ghost use Rattle.sp_firsts.specs.Firsts.{IsLaidOf, first_rows};
+ghost use Rattle.sp_made.specs.Made.{AreStopsOf, IsNumberedOf};
 
+use sp_firsts::laid_firsts;
 use sp_kit::Steps;
-use sp_made::{Numbered, firsts_stay, keeps_headings, laid_firsts, laid_stops, renumber, rows_on};
+use sp_made::{Numbered, firsts_stay, keeps_headings, laid_stops, renumber, rows_on};
 use sp_records::Records;
 use sp_reflow::{Pages, SwappedPages, UnswappedPages};
 use sp_relay::{KeptLayout, LayoutPart, UnswappedLayout};
 use sp_reread::Stanzas;
 use sp_text::Lines;
+use sp_text_entry::swap_in_room;
 use std::alloc::{AllocError, Global};
-
-/// Puts a part of a layout back where there is room.
-pub(crate) fn swap_in_room(layout: &mut KeptLayout, part: LayoutPart) -> LayoutPart
-    requires can { CanSwap (laid_of layout.old) part.places (laid_of part.kept) }
-    requires room { HasPartRoom layout.old part.places part.kept }
-    ensures layout { laid_of layout.new ≡ with_part (laid_of layout.old) part.places (laid_of part.kept) }
-    ensures back { with_part (laid_of layout.new) result.places (laid_of result.kept) ≡ laid_of layout.old }
-    ensures can { CanSwap (laid_of layout.new) result.places (laid_of result.kept) }
-{
-    match layout.swap(part) {
-        Ok(other) => other,
-        Err(_) => unreachable!(),
-    }
-}
 
 /// Puts page starts back where there is room.
 fn put_back_in_room(pages: &mut Pages, back: SwappedPages) -> SwappedPages

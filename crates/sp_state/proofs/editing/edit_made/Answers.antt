@@ -12,15 +12,17 @@ use Rattle.spec_reflow.specs.Windows.{Exchange}
 use Rattle.sp_text.specs.Changing.{edit_of}
 use Rattle.sp_text.specs.Gap.{text_of}
 use Rattle.sp_relay.specs.Kept.{laid_of, with_part}
-use Rattle.sp_made.specs.Made.{IsNumberedOf, first_rows, laid_in}
+use Rattle.sp_firsts.specs.Firsts.{first_rows, laid_in}
+use Rattle.sp_made.specs.Made.{IsNumberedOf}
 use Rattle.sp_numbers.specs.Locked.{AreSheetsBefore}
-use Rattle.sp_state.specs.Fills.{EditFills, EditFillsAtMost, IsExchangeOf}
+use Rattle.sp_text_entry.specs.Relaid.{IsExchangeOf}
+use Rattle.sp_state.specs.Fills.{EditFills, EditFillsAtMost}
 use Rattle.sp_state.proofs.FillLaws.{fills-edited, fills-within, none-filled}
 use Rattle.sp_state.proofs.LabelLaws.{labels-after}
 use Rattle.sp_state.proofs.RefilledLaws.{can-edit, stale-edited}
 use Rattle.sp_state.proofs.SheetLaws.{edited-unlocked, locked-before, sheets-before}
 use Rattle.std.proofs.lemmas.Result.{err_from_is_err_and}
-use Rattle.sp_state.specs.Reads.{EditReads, EditReadsAtMost}
+use Rattle.sp_text_entry.specs.Reads.{EditReads, EditReadsAtMost}
 use Rattle.sp_state.proofs.EntryLaws.{leads-back}
 use Rattle.sp_exchange.specs.Reads.{IsRefused}
 use Rattle.sp_state.proofs.editing.edit_made.Goals as goal

@@ -4,14 +4,15 @@ use Rattle.spec_state.specs.State.{State}
 use Rattle.spec_state.specs.Keeping.{state_of}
 use Rattle.sp_text.specs.Gap.{text_of}
 use Rattle.sp_relay.specs.Kept.{laid_of}
-use Rattle.sp_made.specs.Made.{IsNumberedOf, laid_in}
+use Rattle.sp_firsts.specs.Firsts.{laid_in}
+use Rattle.sp_made.specs.Made.{IsNumberedOf}
 use Rattle.sp_numbers.specs.Locked.{AreSheetsBefore}
-use Rattle.sp_state.specs.TextEntries.{IsSameTextEntry, IsTextUndone}
+use Rattle.sp_text_entry.specs.TextEntries.{IsSameTextEntry, IsTextUndone}
 use Rattle.sp_state.specs.Entries.{EntryState, CanRedo, undone_range, redone_state}
 use Rattle.sp_state.proofs.EntryLaws.{redo-again, leads-back}
 use Rattle.sp_state.proofs.LabelLaws.{labels-were}
 use Rattle.sp_state.proofs.SheetLaws.{none-mapped, sheets-before, turned-before}
-use Rattle.sp_state.proofs.TextEntryLaws.{redone-undone}
+use Rattle.sp_text_entry.proofs.TextEntryLaws.{redone-undone}
 use Rattle.spec_locked_pages.specs.Segments.{pages_of}
 use Rattle.sp_state.proofs.editing.redo_made.Goals as goal
 

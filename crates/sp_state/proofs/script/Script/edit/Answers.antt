@@ -10,7 +10,7 @@ use Rattle.sp_text.specs.Gap.{text_of}
 use Rattle.sp_exchange.specs.Reads.{IsRefused}
 use Rattle.sp_state.specs.Entries.{EntryState, LeadsBack}
 use Rattle.sp_state.specs.Fills.{EditFills, EditFillsAtMost}
-use Rattle.sp_state.specs.Reads.{EditReads, EditReadsAtMost}
+use Rattle.sp_text_entry.specs.Reads.{EditReads, EditReadsAtMost}
 use Rattle.sp_state.proofs.EditedScripts.{before-is}
 use Rattle.sp_state.proofs.script.Script.edit.Goals as goal
 

@@ -14,8 +14,8 @@ use Rattle.sp_relay.specs.Kept.{CanSwap, KeptOf, PartOf, laid_of}
 use Rattle.sp_relay.specs.Outside.{StaysOutside}
 use Rattle.sp_relay.proofs.RunsBack.{later-can}
 use Rattle.sp_compare.proofs.StayLaws.{stay-outside}
-use Rattle.sp_state.specs.Relaid.{body_before}
-use Rattle.sp_state.proofs.carrying.both_texts.Goals as goal
+use Rattle.sp_text_entry.specs.Relaid.{body_before}
+use Rattle.sp_text_entry.proofs.carrying.both_texts.Goals as goal
 
 -- What is asked of a body and of the elements that were taken out of it.
 record AskedOfPart (before lines : List LineState) (body gone : KeyedElements) (at : PartPlaces) : Type 0 where

@@ -42,11 +42,11 @@ use Rattle.sp_elements.specs.Bodies.{KeyedElements, row_count}
 use Rattle.sp_compare.specs.BareRows.{AreLaid, Both}
 use Rattle.sp_compare.specs.Raised.{AreSegments, raises}
 use Rattle.sp_exchange.specs.Restoring.{CanRestoreText}
-use Rattle.sp_state.specs.TextEntries.{TextEntryState, FitRecords, LeadsTextBack, displaced, undone_records, with_text}
-use Rattle.sp_made.specs.Made.{first_rows, key_starts}
-use Rattle.sp_state.specs.Raised.{AreCarried, CanCarry, FitPages, put_back_in, raises_in, records_carried, records_raised, state_before, with_pages}
-use Rattle.sp_made.proofs.MadeLaws.{count-rows}
-use Rattle.sp_state.proofs.RaisedLaws.{raises-distinct, raises-raised, raises-within}
+use Rattle.sp_text_entry.specs.TextEntries.{TextEntryState, FitRecords, LeadsTextBack, displaced, undone_records, with_text}
+use Rattle.sp_firsts.specs.Firsts.{first_rows, key_starts}
+use Rattle.sp_text_entry.specs.Raised.{AreCarried, CanCarry, FitPages, put_back_in, raises_in, records_carried, records_raised, state_before, with_pages}
+use Rattle.sp_firsts.proofs.FirstsLaws.{count-rows}
+use Rattle.sp_text_entry.proofs.RaisedLaws.{raises-distinct, raises-raised, raises-within}
 
 -- ---- a carried state is whole
 

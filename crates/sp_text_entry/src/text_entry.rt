@@ -8,11 +8,11 @@ ghost use Rattle.sp_text.specs.Changing.{Refuses, edit_of};
 ghost use Rattle.sp_text.specs.Gap.{text_of};
 ghost use Rattle.sp_exchange.specs.Reads.{IsRefused};
 ghost use Rattle.sp_exchange.specs.Restoring.{CanRestoreText, HasRoomFor, text_before, text_stanzas};
-ghost use Rattle.sp_state.specs.TextEntries.{CanUndoText, CanRedoText, HasTextRoom, IsTextRedone, IsSameTextEntry, IsTextUndone, LeadsTextBack, LeadsTextForth, undone_text, redone_text, undone_lines, done_lines};
+ghost use Rattle.sp_text_entry.specs.TextEntries.{CanUndoText, CanRedoText, HasTextRoom, IsTextRedone, IsSameTextEntry, IsTextUndone, LeadsTextBack, LeadsTextForth, undone_text, redone_text, undone_lines, done_lines};
 ghost use Rattle.sp_relay.specs.Kept.{CanSwap, HasPartRoom, laid_of, with_part};
-ghost use Rattle.sp_made.specs.Made.{IsLaidOf, first_rows};
-ghost use Rattle.sp_state.specs.Fills.{IsExchangeOf};
-ghost use Rattle.sp_state.specs.Reads.{EditReads, EditReadsAtMost};
+ghost use Rattle.sp_firsts.specs.Firsts.{IsLaidOf, first_rows};
+ghost use Rattle.sp_text_entry.specs.Relaid.{IsExchangeOf};
+ghost use Rattle.sp_text_entry.specs.Reads.{EditReads, EditReadsAtMost};
 
 use crate::carrying::put_back_pages;
 use crate::relaying::{Relaid, relay_and_raise};
@@ -38,7 +38,7 @@ pub struct TextEntry {
 }
 
 impl Model for TextEntry {
-    ghost use Rattle.sp_state.specs.TextEntries.{TextEntryState};
+    ghost use Rattle.sp_text_entry.specs.TextEntries.{TextEntryState};
 
     ghost Value = { TextEntryState };
 
@@ -68,7 +68,7 @@ fn restore_in_room(lines: &mut Lines, stanzas: &mut Stanzas, back: Displaced, sw
 /// An edit that was made: what undoes it but for the page starts, the rows that it exchanged, and the first rows of the page
 /// records.
 #[derive(Drop)]
-pub(crate) struct EditedText {
+pub struct EditedText {
     pub text: TextEntry,
     pub layout: LayoutPart,
     pub rows: ExchangedRows,
@@ -76,8 +76,9 @@ pub(crate) struct EditedText {
 }
 
 /// Makes an edit in a text and in its layout, and answers what undoes it. `before` are the first rows of the page records. Each
-/// stanza of its window is read once. A refused edit changes nothing.
-pub(crate) fn edit_entry<S: Steps>(
+/// stanza of its window is read once. An `EditFault` says why the edit is refused, or that there was no memory; then nothing is
+/// changed.
+pub fn edit_entry<S: Steps>(
     alloc: Global,
     lines: &mut Lines,
     stanzas: &mut Stanzas,

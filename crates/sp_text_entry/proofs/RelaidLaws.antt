@@ -19,8 +19,8 @@ use Rattle.sp_layout.specs.LaidOut.{LayoutOf, keyed}
 use Rattle.sp_relay.specs.Edited.{WasLaidOf}
 use Rattle.sp_relay.proofs.WindowLaws.{was-laid-put}
 use Rattle.sp_refill.specs.Edits.{IsOfEdit}
-use Rattle.sp_made.specs.Made.{IsLaidOf}
-use Rattle.sp_state.specs.Raised.{state_before}
+use Rattle.sp_firsts.specs.Firsts.{IsLaidOf}
+use Rattle.sp_text_entry.specs.Raised.{state_before}
 
 -- The layout of the text before an edit, by what the edit displaced of the stanzas.
 pub was-laid : (old new : TextState) (it : Replacement) (round : ℕ) (swapped : SwappedState) (on : Bool) (layout : LayoutOf) → IsText old → new ≡ changed old it round → it.first + it.old ≤ length old.lines

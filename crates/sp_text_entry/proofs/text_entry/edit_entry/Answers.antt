@@ -15,14 +15,14 @@ use Rattle.sp_exchange.specs.Restoring.{text_stanzas}
 use Rattle.sp_relay.specs.Edited.{WasLaidOf}
 use Rattle.sp_relay.specs.Kept.{laid_of}
 use Rattle.sp_refill.specs.Edits.{IsOfEdit}
-use Rattle.sp_made.specs.Made.{first_rows}
-use Rattle.sp_state.specs.Fills.{IsExchangeOf}
-use Rattle.sp_state.specs.TextEntries.{TextEntryState}
-use Rattle.sp_state.proofs.CarriedLaws.{carried-here, edited-here, edited-whole, leads-back, whole-before, whole-carry}
-use Rattle.sp_state.proofs.EditedScripts.{edited-range}
-use Rattle.sp_state.proofs.RelaidLaws.{edit-of, was-laid}
+use Rattle.sp_firsts.specs.Firsts.{first_rows}
+use Rattle.sp_text_entry.specs.Relaid.{IsExchangeOf}
+use Rattle.sp_text_entry.specs.TextEntries.{TextEntryState}
+use Rattle.sp_text_entry.proofs.CarriedLaws.{carried-here, edited-here, edited-whole, leads-back, whole-before, whole-carry}
+use Rattle.sp_text_entry.proofs.TextEntryLaws.{edited-range}
+use Rattle.sp_text_entry.proofs.RelaidLaws.{edit-of, was-laid}
 use Rattle.std.proofs.lemmas.Result.{err_from_is_err_and}
-use Rattle.sp_state.proofs.text_entry.edit_entry.Goals as goal
+use Rattle.sp_text_entry.proofs.text_entry.edit_entry.Goals as goal
 
 pub relay_and_raise-requires-clause-was : goal.relay_and_raise-requires-clause-was
 relay_and_raise-requires-clause-was g c =

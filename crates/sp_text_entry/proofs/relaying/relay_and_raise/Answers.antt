@@ -12,10 +12,10 @@ use Rattle.sp_layout.specs.LaidOut.{LayoutOf, keyed}
 use Rattle.sp_relay.specs.Edited.{WasLaidOf}
 use Rattle.sp_relay.specs.Kept.{laid_of}
 use Rattle.sp_refill.specs.Edits.{AreAhead}
-use Rattle.sp_made.specs.Made.{IsLaidOf}
-use Rattle.sp_state.specs.Raised.{state_before}
-use Rattle.sp_state.proofs.RelaidLaws.{body-now}
-use Rattle.sp_state.proofs.relaying.relay_and_raise.Goals as goal
+use Rattle.sp_firsts.specs.Firsts.{IsLaidOf}
+use Rattle.sp_text_entry.specs.Raised.{state_before}
+use Rattle.sp_text_entry.proofs.RelaidLaws.{body-now}
+use Rattle.sp_text_entry.proofs.relaying.relay_and_raise.Goals as goal
 
 pub rows_ahead-ahead-requires : goal.rows_ahead-ahead-requires
 rows_ahead-ahead-requires c =

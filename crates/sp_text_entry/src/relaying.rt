@@ -8,13 +8,11 @@ ghost use Rattle.sp_exchange.specs.Restoring.{text_stanzas};
 ghost use Rattle.sp_relay.specs.Edited.{WasLaidOf};
 ghost use Rattle.sp_relay.specs.Kept.{CanSwap, HasPartRoom, laid_of, with_part};
 ghost use Rattle.sp_refill.specs.Edits.{IsOfEdit};
-ghost use Rattle.sp_made.specs.Made.{IsLaidOf, first_rows};
-ghost use Rattle.sp_state.specs.Fills.{IsExchangeOf};
-ghost use Rattle.sp_state.specs.Raised.{AreCarried, FitPages, put_back_in, records_carried, records_raised, state_before};
-ghost use Rattle.sp_state.specs.Relaid.{IsSomeEditOf};
+ghost use Rattle.sp_firsts.specs.Firsts.{IsLaidOf, first_rows};
+ghost use Rattle.sp_text_entry.specs.Raised.{AreCarried, FitPages, put_back_in, records_carried, records_raised, state_before};
+ghost use Rattle.sp_text_entry.specs.Relaid.{IsExchangeOf, IsSomeEditOf};
 
 use crate::carrying::{Carried, carry_and_raise};
-use crate::turning::swap_in_room;
 use sp_records::Records;
 use sp_refill::{ExchangedRows, exchanged_rows, rows_ahead};
 use sp_relay::{KeptLayout, LayoutPart, relay_edit};
@@ -22,6 +20,20 @@ use sp_reread::{Stanzas, Swapped};
 use sp_text::{Displaced, Lines};
 use spec_labels::Moved;
 use std::alloc::{AllocError, Global};
+
+/// Puts a part of a layout back where there is room for it, and answers the part that stood in its place. It takes no memory.
+pub fn swap_in_room(layout: &mut KeptLayout, part: LayoutPart) -> LayoutPart
+    requires can { CanSwap (laid_of layout.old) part.places (laid_of part.kept) }
+    requires room { HasPartRoom layout.old part.places part.kept }
+    ensures layout { laid_of layout.new ≡ with_part (laid_of layout.old) part.places (laid_of part.kept) }
+    ensures back { with_part (laid_of layout.new) result.places (laid_of result.kept) ≡ laid_of layout.old }
+    ensures can { CanSwap (laid_of layout.new) result.places (laid_of result.kept) }
+{
+    match layout.swap(part) {
+        Ok(other) => other,
+        Err(_) => unreachable!(),
+    }
+}
 
 /// What an edit displaced of a layout and of page records, the rows that it exchanged, and the first rows of the page records.
 #[derive(Drop)]

@@ -14,11 +14,11 @@ use Rattle.sp_compare.specs.BareRows.{Both}
 use Rattle.sp_elements.specs.Bodies.{KeyedElements, row_count}
 use Rattle.sp_layout.specs.LaidOut.{LayoutOf}
 use Rattle.sp_relay.specs.Kept.{laid_of}
-use Rattle.sp_made.specs.Made.{key_starts}
+use Rattle.sp_firsts.specs.Firsts.{key_starts}
 use Rattle.sp_compare.specs.Raised.{AreSegments}
-use Rattle.sp_state.specs.Relaid.{body_before}
-use Rattle.sp_state.proofs.CarriedLaws.{own-segments, raises-made, some-pages, whole-laid}
-use Rattle.sp_state.proofs.carrying.raises_among.Goals as goal
+use Rattle.sp_text_entry.specs.Relaid.{body_before}
+use Rattle.sp_text_entry.proofs.CarriedLaws.{own-segments, raises-made, some-pages, whole-laid}
+use Rattle.sp_text_entry.proofs.carrying.raises_among.Goals as goal
 
 pub both_texts-texts-requires-clause-news : goal.both_texts-texts-requires-clause-news
 both_texts-texts-requires-clause-news c =

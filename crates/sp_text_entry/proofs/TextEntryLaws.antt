@@ -1,14 +1,18 @@
--- Undoing and redoing are each other's opposites, and the same entry leads to the same state.
+-- Undoing and redoing are each other's opposites, the same entry leads to the same state, and an entry has the range of its edit.
 use Rattle.std.proofs.Common.{◌≡◌, ◌≢◌, ℕ, zero, suc, ◌+◌, ◌<◌, Bool, cond, Option, Some, None, List, [], ◌∷◌, length, map, get_or, ne_eqb, eq-eqb, refl, ap, ap₂, sym, ◌∙◌, subst, arith}
 use Rattle.std.specs.Prelude.{All, AllPairs, IfSome, slice_get, unwrap_or, option_map}
 use Rattle.std.proofs.lemmas.List.Elements.{All-head, All-tail}
-use Rattle.spec_text.specs.Edits.{Displacement, restored}
+use Rattle.spec_text.specs.Lines.{TextState}
+use Rattle.spec_text.specs.Edits.{EditOf, Displacement, displaced_by, refusal_of, replacement_of, restored}
+use Rattle.spec_text.specs.Ranges.{RangeOf, range_of}
+use Rattle.spec_text.proofs.ExchangeLaws.{length-stretch}
+use Rattle.spec_text.proofs.TakenEdits.{taken-inside}
 use Rattle.spec_labels.specs.declared.Moved.{Moved}
 use Rattle.spec_labels.specs.PageRecords.{PageRecordOf, moved_of, moved_at, with_anchor, put_back_from, put_back_records, taken_back}
 use Rattle.spec_labels.proofs.PutBackLaws.{put_back-twice}
 use Rattle.spec_state.specs.State.{State, text_of}
 use Rattle.sp_exchange.proofs.RestoreLaws.{turned-twice, same-can as same-restores}
-use Rattle.sp_state.specs.TextEntries.{TextEntryState, undone_text, redone_text, done_lines, undone_lines, with_text, FitRecords, CanRestore, CanUndoText, CanRedoText, had_by, IsTextUndone, IsTextRedone, IsSameTextEntry}
+use Rattle.sp_text_entry.specs.TextEntries.{TextEntryState, displaced, undone_text, redone_text, done_lines, undone_lines, with_text, FitRecords, CanRestore, CanUndoText, CanRedoText, had_by, IsTextUndone, IsTextRedone, IsSameTextEntry}
 
 -- ---- turning twice
 
@@ -130,3 +134,13 @@ pub same-CanRedoText : (state : State) (one other : TextEntryState) → IsSameTe
 same-CanRedoText state one other same can =
     subst (λ (ms : List Moved). CanRestore state one ms one.raised) (sym same.moved)
     (subst (λ (rs : List Moved). CanRestore state one other.moved rs) (sym same.raised) (same-can state one other other.moved other.raised same can))
+
+-- ---- the entry of an edit
+
+-- The range of an entry is that of its edit.
+pub edited-range : (text : TextState) (edit : EditOf) (entry : TextEntryState) → refusal_of text edit ≡ None → displaced entry ≡ displaced_by text (replacement_of text.lines edit)
+    → done_lines entry ≡ range_of (replacement_of text.lines edit)
+edited-range text edit entry taken is =
+    let it = replacement_of text.lines edit in
+    ap (λ (d : Displacement). let range : RangeOf = record { first = d.first; old = length d.lines; new = d.stands } in range) is
+    ∙ ap (λ (old : ℕ). let range : RangeOf = record { first = it.first; old = old; new = length it.texts } in range) (length-stretch text.lines it.first it.old (taken-inside text edit taken))

@@ -11,11 +11,11 @@ use Rattle.sp_text.specs.Gap.{text_of}
 use Rattle.sp_elements.specs.Bodies.{KeyedElements}
 use Rattle.sp_layout.specs.LaidOut.{LayoutOf}
 use Rattle.sp_relay.specs.Kept.{laid_of}
-use Rattle.sp_made.specs.Made.{IsLaidOf, first_rows}
-use Rattle.sp_state.specs.Raised.{state_before}
-use Rattle.sp_state.specs.Relaid.{body_before}
-use Rattle.sp_state.proofs.CarriedLaws.{before-segments, raised-firsts, raised-fit, raised-here, whole-few, whole-laid}
-use Rattle.sp_state.proofs.carrying.carry_and_raise.Goals as goal
+use Rattle.sp_firsts.specs.Firsts.{IsLaidOf, first_rows}
+use Rattle.sp_text_entry.specs.Raised.{state_before}
+use Rattle.sp_text_entry.specs.Relaid.{body_before}
+use Rattle.sp_text_entry.proofs.CarriedLaws.{before-segments, raised-firsts, raised-fit, raised-here, whole-few, whole-laid}
+use Rattle.sp_text_entry.proofs.carrying.carry_and_raise.Goals as goal
 
 pub raises_among-requires-clause-laid : goal.raises_among-requires-clause-laid
 raises_among-requires-clause-laid c =

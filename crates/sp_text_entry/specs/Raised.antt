@@ -11,7 +11,7 @@ use Rattle.spec_state.specs.State.{State}
 use Rattle.spec_state.specs.Keeping.{state_of}
 use Rattle.spec_state.specs.Changes.{pages_raised, rows_by_record}
 use Rattle.sp_compare.specs.Raised.{raises}
-use Rattle.sp_state.specs.TextEntries.{FitRecords}
+use Rattle.sp_text_entry.specs.TextEntries.{FitRecords}
 
 -- Records with other page records, and with what was kept for these put back.
 abbrev pub with_pages : RecordsOf → Option (List PageRecordOf) → RecordsOf

@@ -1,5 +1,5 @@
-use Rattle.std.proofs.Common.{◌≡◌, List, ap, sym, ◌∙◌}
-use Rattle.std.specs.Prelude.{option_map}
+use Rattle.std.proofs.Common.{◌≡◌, ℕ, List, ap, sym, subst, ◌∙◌}
+use Rattle.std.specs.Prelude.{IfOk, option_map}
 use Rattle.spec_labels.specs.declared.RowKey.{RowKey}
 use Rattle.spec_records.specs.Kept.{RecordsOf}
 use Rattle.spec_state.specs.State.{State}
@@ -9,9 +9,9 @@ use Rattle.spec_state.proofs.StateKeys.{state-row_keys}
 use Rattle.sp_text.specs.Gap.{text_of}
 use Rattle.sp_layout.specs.LaidOut.{LayoutOf}
 use Rattle.sp_relay.specs.Kept.{laid_of}
-use Rattle.sp_made.specs.Made.{first_rows, key_starts}
-use Rattle.sp_made.proofs.MadeLaws.{anchored, shows-same}
-use Rattle.sp_made.proofs.made.laid_firsts.Goals as goal
+use Rattle.sp_firsts.specs.Firsts.{key_starts}
+use Rattle.sp_firsts.proofs.FirstsLaws.{anchored}
+use Rattle.sp_firsts.proofs.firsts.laid_firsts.Goals as goal
 
 pub record_starts-requires : goal.record_starts-requires
 record_starts-requires c =
@@ -26,6 +26,6 @@ returns c =
     let laid = ap laid_of c.layout.view_is ∙ c.requires.laid in
     let keys : c.keys.result.now.items ≡ keys_in state = c.keys.ensures.keys ∙ ap (λ (l : LayoutOf). l.body.keys) laid ∙ sym (state-row_keys state) in
     let records = option_map (λ those. those.items) c.records.inside.pages in
-    shows-same (λ starts. starts.items) c.record_starts.result (key_starts state.lines c.keys.result.now.items records) (first_rows state)
+    subst (λ (ns : List ℕ). IfOk c.record_starts.result (λ firsts. firsts.items ≡ ns))
     (ap (λ (ks : List RowKey). key_starts state.lines ks records) keys ∙ ap (key_starts state.lines (keys_in state)) (ap (λ (r : RecordsOf). r.pages) c.records.view_is))
     c.record_starts.ensures

@@ -1,0 +1,4 @@
+mod RaisedLaws
+mod CarriedLaws
+pub mod TextEntryLaws
+mod RelaidLaws

@@ -1,0 +1,4 @@
+pub mod TextEntries
+pub mod Raised
+pub mod Relaid
+pub mod Reads
