@@ -37,7 +37,7 @@ use Rattle.sp_desk.specs.declared.fault.DeskFault.TheVariants.{Refused, NoMemory
 use Rattle.sp_desk.specs.Memories.{entries_by, CanTurnAll, memory_by, IsDesk}
 use Rattle.sp_records.specs.declared.opening_fault.OpeningFault.{OpeningFault}
 use Rattle.sp_records.specs.declared.opening_fault.OpeningFault.TheVariants as faults
-use Rattle.sp_state.specs.Openings.{IsReason}
+use Rattle.sp_locking.specs.Openings.{IsReason}
 use Rattle.sp_desk.specs.Answers.{IsAnswer, opening_fault_of, step_to}
 use Rattle.sp_desk.proofs.EntryLaws.{last-more, front-more, entries-more, can-more, can-last, can-front, entries-same, can-same}
 

@@ -4,7 +4,6 @@
 
 mod editing;
 mod entry;
-mod locking;
 mod script;
 mod turning;
 

@@ -20,15 +20,15 @@ ghost use Rattle.sp_reread.specs.Cache.{RisesWithin, counted_on};
 ghost use Rattle.sp_exchange.specs.Reads.{IsRefused};
 ghost use Rattle.sp_exchange.specs.Restoring.{text_stanzas};
 ghost use Rattle.sp_made.specs.Made.{IsMadeOf};
-ghost use Rattle.sp_state.specs.Openings.{IsOpening};
+ghost use Rattle.sp_locking.specs.Openings.{IsOpening};
 ghost use Rattle.sp_text_entry.specs.Reads.{EditReads, EditReadsAtMost};
 ghost use Rattle.sp_state.specs.Fills.{EditFills, EditFillsAtMost};
 ghost use Rattle.sp_state.specs.Entries.{CanRedo, CanUndo, IsSameEntry, LeadsBack, LeadsForth, done_range, redone_state, undone_range, undone_state};
 
 use crate::editing::{edit_made, made_on, made_with_speakers, put_made, redo_made, undo_made};
 use crate::entry::{Entry, Unturned};
-use crate::locking::{lock_pages_made, lock_scenes_made, next_round_made};
 use sp_kit::Steps;
+use sp_locking::{lock_pages_made, lock_scenes_made, next_round_made};
 use sp_locks::Sheet;
 use sp_made::{
     Made, body_shapes, made_sheet, made_starts, made_title, make, sheet_count, title_count,

@@ -6,7 +6,7 @@ use Rattle.spec_script.specs.Elements.{PlacedLies}
 use Rattle.spec_state.specs.Headings.{headings_of, heading_of, is_heading_block}
 use Rattle.sp_text.specs.Gap.{text_of}
 use Rattle.sp_made.proofs.MadeLaws.{blocks-lie, shows-same}
-use Rattle.sp_state.proofs.locking.headings_by.Goals as goal
+use Rattle.sp_locking.proofs.locking.headings_by.Goals as goal
 
 pub headings_among-requires : goal.headings_among-requires
 headings_among-requires c =

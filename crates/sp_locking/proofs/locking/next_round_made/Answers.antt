@@ -4,8 +4,8 @@ use Rattle.std.proofs.lemmas.Result.{err_from_is_err_and}
 use Rattle.spec_records.specs.Kept.{RecordsOf}
 use Rattle.spec_state.specs.Keeping.{state_of}
 use Rattle.sp_text.specs.Gap.{text_of}
-use Rattle.sp_state.proofs.OpeningMade.{made-AreSheets, made-within, round-answer, round-refused}
-use Rattle.sp_state.proofs.locking.next_round_made.Goals as goal
+use Rattle.sp_locking.proofs.OpeningMade.{made-AreSheets, made-within, round-answer, round-refused}
+use Rattle.sp_locking.proofs.locking.next_round_made.Goals as goal
 
 pub extend_pages-requires-clause-sheets : goal.extend_pages-requires-clause-sheets
 extend_pages-requires-clause-sheets c = made-AreSheets (state_of (text_of c.args.lines.now) c.args.records.now) c.args.made.now c.requires.whole c.requires.made

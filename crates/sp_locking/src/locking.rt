@@ -14,7 +14,7 @@ ghost use Rattle.spec_machine.specs.Refusals.{are_more, pages_refusal, round_ref
 ghost use Rattle.sp_locks.specs.Extension.{IsMade};
 ghost use Rattle.sp_text.specs.Gap.{text_of};
 ghost use Rattle.sp_made.specs.Made.{IsMadeOf};
-ghost use Rattle.sp_state.specs.Openings.{ArePagesOpened, CanLockHeadings, IsFull, IsOpening, IsReason, headings_refusal};
+ghost use Rattle.sp_locking.specs.Openings.{ArePagesOpened, CanLockHeadings, IsFull, IsOpening, IsReason, headings_refusal};
 
 use sp_labels::{Label, LockFault};
 use sp_locks::{PageRecord, extend};
@@ -63,8 +63,12 @@ fn first_scenes(
     Ok((scenes, labels))
 }
 
-/// Locks the scenes of a state.
-pub(crate) fn lock_scenes_made(
+/// Locks the scenes of the state of these lines and records: each heading gets a record of the label that it has without
+/// records (docs/RULES.md, "Scene numbers"). Takes the stanzas of the lines and what is made of the state, and leaves what is
+/// made of the locked one, which has other labels of headings and is else the same. The first of ScenesLocked, SceneForm,
+/// SceneOrder and RecordsFull that holds refuses it (docs/RULES.md, "The desk"); NoMemory may come in place of any answer. On a
+/// fault nothing is changed.
+pub fn lock_scenes_made(
     alloc: Global,
     lines: &Lines,
     stanzas: &Stanzas,
@@ -172,8 +176,12 @@ fn extend_pages(
     }
 }
 
-/// Locks the pages of a state.
-pub(crate) fn lock_pages_made(
+/// Locks the pages of the state of these lines and records: each page gets a record, and each heading that has none
+/// (docs/RULES.md, "Page records" and "Scene numbers"). Takes the stanzas of the lines and what is made of the state; that is
+/// what is made of the locked one too, since labels and sheets stay. The first of ScenesNotLocked, PagesLocked, NoPages and
+/// RecordsFull that holds refuses it (docs/RULES.md, "The desk"); NoMemory may come in place of any answer. On a fault nothing
+/// is changed.
+pub fn lock_pages_made(
     alloc: Global,
     lines: &Lines,
     stanzas: &Stanzas,
@@ -204,8 +212,12 @@ pub(crate) fn lock_pages_made(
     Ok(())
 }
 
-/// Begins the next round of a state.
-pub(crate) fn next_round_made(
+/// Begins the next round of the state of these lines and records: where scenes are locked each heading that has no record gets
+/// one, and where pages are locked each page (docs/RULES.md, "Scene numbers" and "Page records"). Takes the stanzas of the lines
+/// and what is made of the state; that is what is made of the new state too, since labels and sheets stay. The first of
+/// RoundsFull and RecordsFull that holds refuses it (docs/RULES.md, "The desk"); NoMemory may come in place of any answer. On a
+/// fault nothing is changed.
+pub fn next_round_made(
     alloc: Global,
     lines: &Lines,
     stanzas: &Stanzas,

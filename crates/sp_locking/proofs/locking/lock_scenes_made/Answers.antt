@@ -6,8 +6,8 @@ use Rattle.spec_state.specs.Headings.{headings_of}
 use Rattle.sp_text.specs.Gap.{text_of}
 use Rattle.sp_relay.specs.Kept.{laid_of}
 use Rattle.sp_made.specs.Made.{MadeOf, NumberedOf}
-use Rattle.sp_state.proofs.OpeningMade.{headings-can, lines-headings, scenes-answer, some-map}
-use Rattle.sp_state.proofs.locking.lock_scenes_made.Goals as goal
+use Rattle.sp_locking.proofs.OpeningMade.{headings-can, lines-headings, scenes-answer, some-map}
+use Rattle.sp_locking.proofs.locking.lock_scenes_made.Goals as goal
 
 pub first_scenes-requires : goal.first_scenes-requires
 first_scenes-requires c =

@@ -17,8 +17,8 @@ use Rattle.sp_elements.specs.Bodies.{shapes_in}
 use Rattle.sp_firsts.specs.Firsts.{key_starts}
 use Rattle.sp_made.proofs.MadeLaws.{pages-are}
 use Rattle.sp_records.specs.declared.opening_fault.OpeningFault.{OpeningFault}
-use Rattle.sp_state.specs.Openings.{IsOpening}
-use Rattle.sp_state.proofs.OpeningMade.{scenes-keys, with_scenes}
+use Rattle.sp_locking.specs.Openings.{IsOpening}
+use Rattle.sp_locking.proofs.OpeningMade.{scenes-keys, with_scenes}
 
 opened : (refusal : Option RefusalOf) (after old new : State) (result : Result (Unit {0}) OpeningFault) → IsOpening refusal after old new result → (refusal ≡ None → pages_of after ≡ pages_of old)
     → pages_of new ≡ pages_of old

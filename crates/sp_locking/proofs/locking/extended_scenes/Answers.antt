@@ -1,8 +1,8 @@
 use Rattle.std.proofs.Common.{sym, subst, ◌∙◌}
 use Rattle.spec_labels.specs.Scenes.{AreHeadings}
 use Rattle.sp_text.specs.Gap.{text_of}
-use Rattle.sp_state.proofs.OpeningMade.{lines-headings}
-use Rattle.sp_state.proofs.locking.extended_scenes.Goals as goal
+use Rattle.sp_locking.proofs.OpeningMade.{lines-headings}
+use Rattle.sp_locking.proofs.locking.extended_scenes.Goals as goal
 
 pub extended-requires-clause-headings : goal.extended-requires-clause-headings
 extended-requires-clause-headings c =

@@ -35,7 +35,7 @@ use Rattle.sp_labels.specs.declared.fault.LockFault.{LockFault}
 use Rattle.sp_labels.specs.declared.fault.LockFault.TheVariants as locks
 use Rattle.sp_locks.specs.Extension.{IsMade}
 use Rattle.sp_records.specs.OpeningFaults.{lock_fault_of}
-use Rattle.sp_state.specs.Openings.{ArePagesOpened, CanLockHeadings, IsFull, IsReason, pages_made}
+use Rattle.sp_locking.specs.Openings.{ArePagesOpened, CanLockHeadings, IsFull, IsReason, pages_made}
 use Rattle.sp_firsts.proofs.FirstsLaws.{count-rows}
 use Rattle.sp_made.proofs.MadeLaws.{sheets-by}
 use Rattle.sp_made.proofs.SheetPlaces.{body-made, keys-made, made-places}

@@ -1,0 +1,2 @@
+mod OpeningMade
+pub mod OpeningPages
