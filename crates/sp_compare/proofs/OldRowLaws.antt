@@ -8,8 +8,8 @@ use Rattle.spec_pages.specs.Rows.{Row, ElementOf, shifted_row}
 use Rattle.spec_labels.specs.declared.RowKey.{RowKey}
 use Rattle.spec_layout.specs.Layout.{placed_in}
 use Rattle.spec_state.specs.SameRows.{BareRow}
+use Rattle.sp_runs.specs.Runs.{exchanged}
 use Rattle.sp_splice.specs.Moves.{shifted}
-use Rattle.sp_splice.specs.Runs.{exchanged}
 use Rattle.sp_elements.specs.Bodies.{KeyedElements, StandsIn, row_count}
 use Rattle.sp_elements.specs.Exchanges.{CanMove, moved_element, with_run}
 use Rattle.sp_elements.proofs.BodyExchanges.{count-append, count-moved}

@@ -8,10 +8,10 @@ use Rattle.spec_pages.specs.Rows.{Row, ElementOf, shifted_row, placed_rows}
 use Rattle.spec_labels.specs.declared.RowKey.{RowKey}
 use Rattle.spec_layout.specs.Layout.{placed_in}
 use Rattle.spec_layout.specs.Shown.{is_heading_element, heading_count}
-use Rattle.sp_splice.specs.Runs.{exchanged}
+use Rattle.sp_runs.specs.Runs.{exchanged}
+use Rattle.sp_runs.proofs.RunLaws.{in-three}
 use Rattle.sp_splice.specs.Moves.{shifted}
 use Rattle.sp_splice.specs.Gaps.{CanExchangePlaces}
-use Rattle.sp_splice.proofs.RunLaws.{in-three}
 use Rattle.sp_elements.specs.Bodies.{BodyParts, IsBody, row_count, starts_by, rows_of, headings_of}
 use Rattle.sp_elements.specs.Exchanges.{moved_element}
 use Rattle.sp_elements.proofs.BodyLaws.{headings-few, placed_in-append, sum-rows, sum-headings, starts_by-get, length-starts_by}

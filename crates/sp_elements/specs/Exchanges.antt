@@ -1,7 +1,7 @@
 -- Elements of a body exchanged for others (docs/RULES.md, "Windows").
 use Rattle.std.specs.Prelude.{ℕ, ◌++◌, map, take, drop, slice_range}
 use Rattle.spec_pages.specs.Rows.{ElementOf}
-use Rattle.sp_splice.specs.Runs.{exchanged}
+use Rattle.sp_runs.specs.Runs.{exchanged}
 use Rattle.sp_splice.specs.Moves.{shifted, CanShift}
 use Rattle.sp_elements.specs.Bodies.{KeyedElements, row_count}
 

@@ -7,13 +7,14 @@ ghost use Rattle.spec_labels.specs.Labels.{LabelOf};
 ghost use Rattle.spec_layout.specs.Shown.{heading_count, is_heading_element, labels_past, row_key, shown_rows};
 ghost use Rattle.sp_elements.specs.Bodies.{IsPageOf, StandsIn, headings_of, keyed_elements, marks_in, no_elements, row_count, shapes_in, with_element};
 ghost use Rattle.sp_elements.specs.Exchanges.{CanMove, run_of, with_run};
-ghost use Rattle.sp_splice.specs.Runs.{exchanged};
+ghost use Rattle.sp_runs.specs.Runs.{exchanged};
 
 use crate::moves::move_elements;
 use crate::page::Page;
 use crate::search::{last_start, starts_below};
 use crate::values::{Element, Row, begins_heading};
-use sp_splice::{GapList, GapPlaces, exchange, make_room};
+use sp_runs::{exchange, make_room};
+use sp_splice::{GapList, GapPlaces};
 use sp_text::Lines;
 use spec_labels::RowKey;
 use spec_pages::Shape;

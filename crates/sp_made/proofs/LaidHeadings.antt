@@ -15,7 +15,7 @@ use Rattle.spec_layout.specs.Layout.{placed_in}
 use Rattle.spec_state.specs.State.{State, text_of}
 use Rattle.spec_state.specs.Headings.{heading_labels}
 use Rattle.spec_state.specs.StateSheets.{layout_in}
-use Rattle.sp_splice.proofs.RunLaws.{in-three}
+use Rattle.sp_runs.proofs.RunLaws.{in-three}
 use Rattle.sp_elements.specs.Bodies.{KeyedElements, row_count, shapes_in}
 use Rattle.sp_elements.specs.Exchanges.{moved_element, run_of, with_run}
 use Rattle.sp_layout.specs.LaidOut.{LayoutOf}

@@ -10,7 +10,8 @@ ghost use Rattle.sp_numbers.specs.Numbered.{marked_sheets, moved_sheet, numbered
 use sp_labels::Label;
 use sp_locks::Sheet;
 use sp_reflow::SwappedPages;
-use sp_splice::{GapList, make_room};
+use sp_runs::make_room;
+use sp_splice::GapList;
 use std::alloc::{AllocError, Global};
 
 /// What becomes of sheets where pages changed: those before one place, counted from 0, stay, those from there to before another are set

@@ -5,9 +5,9 @@ use Rattle.std.proofs.lemmas.List.{length-map, length-take-le, take-append-drop}
 use Rattle.std.proofs.lemmas.List.Elements.{All-nil, All-cons, All-head, All-tail}
 use Rattle.spec_pages.specs.Rows.{ElementOf}
 use Rattle.spec_labels.specs.declared.RowKey.{RowKey}
-use Rattle.sp_splice.specs.Runs.{exchanged}
+use Rattle.sp_runs.specs.Runs.{exchanged}
+use Rattle.sp_runs.proofs.RunLaws.{in-three}
 use Rattle.sp_splice.specs.Moves.{shifted}
-use Rattle.sp_splice.proofs.RunLaws.{in-three}
 use Rattle.sp_elements.specs.Bodies.{KeyedElements, row_count}
 use Rattle.sp_elements.specs.Exchanges.{moved_element, CanMove, run_of, with_run}
 use Rattle.sp_elements.proofs.BodyExchanges.{count-append, count-moved, till-is}

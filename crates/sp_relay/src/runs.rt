@@ -5,7 +5,8 @@ ghost use Rattle.sp_elements.specs.Exchanges.{run_of, with_run};
 ghost use Rattle.sp_relay.specs.Runs.{CanExchange, CanExchangeBreaks, HasRoom, breaks_in, with_breaks};
 
 use sp_elements::Body;
-use sp_splice::{exchange_places, make_room};
+use sp_runs::make_room;
+use sp_splice::exchange_places;
 use std::alloc::AllocError;
 
 /// Makes room behind the gaps in what is kept of rows, where more come than go, or fewer.

@@ -4,8 +4,8 @@ use Rattle.std.proofs.Math.Seq.{take-append_seam, drop-append_seam}
 use Rattle.std.proofs.lemmas.List.{reverse-append, reverse-reverse, map-append, drop-map, take-map, take-append-le, drop-append-le}
 use Rattle.std.proofs.lemmas.List.Elements.{All-nil, All-cons, All-head, All-tail, All-append, All-push, All-map, All-weaker, All-take, All-drop, All-same, All-get_or, All-from_get_or}
 use Rattle.std.proofs.lemmas.Simd.{map-map}
+use Rattle.sp_runs.specs.Runs.{exchanged}
 use Rattle.sp_splice.specs.Moves.{shifted, CanShift}
-use Rattle.sp_splice.specs.Runs.{exchanged}
 use Rattle.sp_splice.specs.Gaps.{CanExchangePlaces, mirrored, round_gap, with_places}
 use Rattle.sp_splice.proofs.GapLaws.{behind-exchanged}
 

@@ -1,4 +1,3 @@
-pub mod RunLaws
 pub mod MoveLaws
 pub mod GapLaws
 pub mod GapPlaceLaws

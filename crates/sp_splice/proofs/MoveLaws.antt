@@ -1,8 +1,8 @@
 -- Places that are moved, and exchanged.
 use Rattle.std.proofs.Common.{◌≡◌, ℕ, zero, suc, ◌+◌, ◌-◌, ◌<◌, ◌≤◌, List, [], ◌∷◌, ◌++◌, length, get_or, take, drop, map, set, slice_range, refl, sym, ap, ap₂, ◌∙◌, arith, add-one, append_assoc, length-append, take_at, drop_at, take_all, append-nil, length-drop}
 use Rattle.std.proofs.lemmas.List.{length-take-le, length-map, drop_all}
+use Rattle.sp_runs.proofs.RunLaws.{in-three}
 use Rattle.sp_splice.specs.Moves.{shifted}
-use Rattle.sp_splice.proofs.RunLaws.{in-three}
 
 -- One more item is moved.
 step : {X : Type 0} (f : X → X) (d : X) (xs : List X) (i : ℕ) → i < length xs

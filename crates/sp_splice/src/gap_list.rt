@@ -1,8 +1,8 @@
 //! A list round a gap.
 ghost use Rattle.std.specs.Prelude.{◌≡◌, ◌+◌, ◌-◌, ◌<◌, ◌≤◌, ◌++◌, ◌∷◌, [], Some, length, reverse, slice_get, slice_range, vec_len, vec_capacity, IsOk, OnOk};
-ghost use Rattle.sp_splice.specs.Runs.{exchanged};
+ghost use Rattle.sp_runs.specs.Runs.{exchanged};
 
-use crate::runs::{exchange, make_room, pour, trade};
+use sp_runs::{exchange, make_room, pour, trade};
 use std::alloc::{AllocError, Global};
 use std::marker::Model;
 

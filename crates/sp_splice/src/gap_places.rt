@@ -1,13 +1,13 @@
 //! A list of places round a gap.
 ghost use Rattle.std.specs.Prelude.{◌≡◌, ◌+◌, ◌-◌, ◌<◌, ◌≤◌, ◌++◌, ◌∷◌, [], Some, length, map, reverse, slice_get, slice_range, vec_len, vec_capacity, All, IsOk, OnOk};
 ghost use Rattle.std.specs.Bool.{OnTrue};
+ghost use Rattle.sp_runs.specs.Runs.{exchanged};
 ghost use Rattle.sp_splice.specs.Gaps.{CanExchangePlaces, mirrored, round_gap, with_places};
 ghost use Rattle.sp_splice.specs.Moves.{shifted};
-ghost use Rattle.sp_splice.specs.Runs.{exchanged};
 
 use crate::gap_list::{FEW, trade_turned};
 use crate::places::exchange_places;
-use crate::runs::make_room;
+use sp_runs::make_room;
 use std::alloc::{AllocError, Global};
 use std::marker::Model;
 

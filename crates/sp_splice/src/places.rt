@@ -2,7 +2,7 @@
 ghost use Rattle.std.specs.Prelude.{◌≡◌, ◌+◌, ◌-◌, ◌≤◌, ◌++◌, map, take, drop, slice_range, vec_len, vec_capacity, All};
 ghost use Rattle.sp_splice.specs.Moves.{shifted, CanShift};
 
-use crate::runs::exchange;
+use sp_runs::exchange;
 
 /// Makes each place less and more by so much.
 fn shift(places: &mut [usize], less: usize, more: usize)

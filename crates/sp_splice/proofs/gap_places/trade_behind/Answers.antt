@@ -1,7 +1,7 @@
 use Rattle.std.proofs.Common.{◌≡◌, ℕ, ◌+◌, ◌-◌, ◌≤◌, ◌++◌, drop, map, reverse, slice_range, take, vec_len, sym, ap, ap₂, ◌∙◌, arith}
 use Rattle.std.proofs.lemmas.List.Elements.{All-append, All-drop, All-same, All-take}
+use Rattle.sp_runs.specs.Runs.{exchanged}
 use Rattle.sp_splice.specs.Gaps.{mirrored}
-use Rattle.sp_splice.specs.Runs.{exchanged}
 use Rattle.sp_splice.proofs.GapPlaceLaws.{All-reverse, All-turned, map-slice, mirrored-base, mirrored-low, traded-back, traded-items}
 use Rattle.sp_splice.proofs.gap_places.trade_behind.Goals as goal
 

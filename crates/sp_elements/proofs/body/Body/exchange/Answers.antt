@@ -3,7 +3,7 @@ use Rattle.std.proofs.lemmas.Grind.{common_steps}
 use Rattle.spec_pages.specs.Rows.{ElementOf}
 use Rattle.spec_labels.specs.declared.RowKey.{RowKey}
 use Rattle.spec_layout.specs.Shown.{heading_count}
-use Rattle.sp_splice.specs.Runs.{exchanged}
+use Rattle.sp_runs.specs.Runs.{exchanged}
 use Rattle.sp_splice.specs.Moves.{shifted}
 use Rattle.sp_splice.specs.Gaps.{CanExchangePlaces}
 use Rattle.sp_elements.specs.Bodies.{BodyParts, BodyOf, keyed_elements, row_count}

@@ -2,7 +2,7 @@
 use Rattle.std.proofs.Common.{◌≡◌, ℕ, zero, suc, ◌+◌, ◌-◌, ◌≤◌, List, [], ◌∷◌, ◌++◌, length, take, drop, reverse, slice_range, sym, ap, ap₂, ◌∙◌, arith, append_assoc, length-append, take_all, take_at, drop_at, drop-drop, length-drop}
 use Rattle.std.proofs.lemmas.List.{reverse-append, reverse-reverse, length-take-le, take-append-drop}
 use Rattle.std.proofs.lemmas.List.Folds.{drop_split}
-use Rattle.sp_splice.specs.Runs.{Poured, exchanged}
+use Rattle.sp_runs.specs.Runs.{Poured, exchanged}
 
 pub Poured-one : {X : Type 0} (from to from_now to_now from_next to_next : List X) (count : ℕ) (x : X) → Poured from to from_now to_now count → from_now ≡ from_next ++ x ∷ [] → to_next ≡ to_now ++ x ∷ [] → Poured from to from_next to_next (count + 1)
 Poured-one from to from_now to_now from_next to_next count x poured taken put = record {

@@ -1,6 +1,6 @@
 //! Exchanging a run of a list.
 ghost use Rattle.std.specs.Prelude.{◌≡◌, ◌+◌, ◌-◌, ◌<◌, ◌≤◌, ◌++◌, length, take, drop, reverse, slice_range, vec_len, vec_capacity, IsOk, OnOk, OnErr};
-ghost use Rattle.sp_splice.specs.Runs.{Poured, exchanged};
+ghost use Rattle.sp_runs.specs.Runs.{Poured, exchanged};
 
 use std::alloc::AllocError;
 

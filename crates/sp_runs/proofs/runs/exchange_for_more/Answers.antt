@@ -1,6 +1,6 @@
 use Rattle.std.proofs.Common.{◌-◌, ap, ◌∙◌, arith}
-use Rattle.sp_splice.proofs.RunLaws.{more-exchanged}
-use Rattle.sp_splice.proofs.runs.exchange_for_more.Goals as goal
+use Rattle.sp_runs.proofs.RunLaws.{more-exchanged}
+use Rattle.sp_runs.proofs.runs.exchange_for_more.Goals as goal
 
 pub returns-clause-list : goal.returns-clause-list
 returns-clause-list g c =

@@ -1,6 +1,6 @@
 use Rattle.std.proofs.Common.{◌≡◌, ◌+◌, vec_len, vec_capacity}
-use Rattle.sp_splice.specs.Runs.{Poured}
-use Rattle.sp_splice.proofs.runs.pour.Given as goal
+use Rattle.sp_runs.specs.Runs.{Poured}
+use Rattle.sp_runs.proofs.runs.pour.Given as goal
 
 abbrev pub invariant-loop : goal.invariant-loop
 invariant-loop g l =

@@ -1,6 +1,6 @@
 use Rattle.std.proofs.Common.{◌++◌, ◌-◌, length, drop, refl, ap, ◌∙◌, arith}
-use Rattle.sp_splice.proofs.RunLaws.{fewer-exchanged}
-use Rattle.sp_splice.proofs.runs.exchange_for_fewer.Goals as goal
+use Rattle.sp_runs.proofs.RunLaws.{fewer-exchanged}
+use Rattle.sp_runs.proofs.runs.exchange_for_fewer.Goals as goal
 
 pub returns-clause-list : goal.returns-clause-list
 returns-clause-list g c =

@@ -1,6 +1,6 @@
 use Rattle.std.proofs.Common.{arith}
-use Rattle.sp_splice.proofs.RunLaws.{Poured-one}
-use Rattle.sp_splice.proofs.runs.pour.Goals as goal
+use Rattle.sp_runs.proofs.RunLaws.{Poured-one}
+use Rattle.sp_runs.proofs.runs.pour.Goals as goal
 
 pub loop-preserved : goal.loop-preserved
 loop-preserved g c =

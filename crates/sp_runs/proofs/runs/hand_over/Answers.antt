@@ -1,6 +1,6 @@
 use Rattle.std.proofs.Common.{◌∙◌}
-use Rattle.sp_splice.proofs.RunLaws.{handed-over}
-use Rattle.sp_splice.proofs.runs.hand_over.Goals as goal
+use Rattle.sp_runs.proofs.RunLaws.{handed-over}
+use Rattle.sp_runs.proofs.runs.hand_over.Goals as goal
 
 pub returns-clause-from : goal.returns-clause-from
 returns-clause-from g c =
