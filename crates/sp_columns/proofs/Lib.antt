@@ -1,2 +1,1 @@
-pub mod SentenceLaws
 pub mod SpeakerLaws

@@ -1,16 +1,16 @@
 //! The rows of blocks by themselves and of dual dialogue.
-ghost use Rattle.std.specs.Prelude.{◌≡◌, ◌+◌, ◌^◌, ◌<◌, ◌≤◌, length, map, max, IfOk, OnOk};
+ghost use Rattle.std.specs.Prelude.{◌≡◌, ◌≤◌, IfOk, OnOk};
 ghost use Rattle.spec_text.specs.Lines.{line_texts};
 ghost use Rattle.spec_script.specs.BlockParts.{BlockLies};
-ghost use Rattle.spec_pages.specs.Rows.{block_alone, blocks_beside, dual_rows, half_row, is_title, joined_row, joined_rows, lead_at, number_cell, numbered_cells, shaped_row, shaped_rows, single_rows, title_row, with_number};
+ghost use Rattle.spec_pages.specs.Rows.{block_alone, blocks_beside, dual_rows, is_title, number_cell, numbered_cells, single_rows, with_number};
 
 use crate::columns::{first_lead, has_rows};
 use crate::lines::block_rows;
 use crate::speakers::tell_speakers;
 use sp_blocks::{Block, plain_runs};
-use sp_elements::{Cell, Row};
+use sp_rows::{Cell, Row, join_rows, shape_rows, title_rows};
 use sp_text::Lines;
-use spec_pages::{NUMBER_BEFORE, NUMBER_BEHIND, RowKind, Shape, Side};
+use spec_pages::{NUMBER_BEFORE, NUMBER_BEHIND, Side};
 use spec_script::Kind;
 use std::alloc::{AllocError, Global};
 
@@ -46,61 +46,10 @@ fn number_rows(alloc: Global, block: &Block, rows: &mut Vec<Row>) -> Result<(), 
     number_cells(alloc, block, &mut row.cells)
 }
 
-/// The empty rows before a row with so many rows of its element before it, by the lead of its line.
-fn lead_at(lead: u8, index: u32, own: u8) -> u8
-    ensures { result ≡ lead_at lead index own }
-{
-    if index == 0 { lead } else { own }
-}
-
-/// Tells a row how many rows of its element stand before it and behind it.
-fn shape_row(row: &mut Row, lead: u8, index: u32, rest: u32)
-    ensures { row.new ≡ shaped_row lead index rest row.old }
-{
-    row.shape.lead = lead_at(lead, index, row.shape.lead);
-    row.shape.index = index;
-    row.shape.rest = rest;
-}
-
-/// Tells the rows of an element their places in it.
-fn shape_rows(rows: &mut [Row], lead: u8)
-    requires { length rows.old < 2 ^ 32 }
-    ensures { rows.new ≡ shaped_rows lead 0 rows.old }
-{
-    let mut rest = rows.len() as u32;
-    let mut index = 0;
-    for row in rows.iter_mut() {
-        rest -= 1;
-        shape_row(row, lead, index, rest);
-        index += 1;
-    }
-}
-
 fn is_title(kind: Kind) -> bool
     ensures { result ≡ is_title kind }
 {
     matches!(kind, Kind::Title)
-}
-
-/// Shows a row of a title page to page ends as the middle of one element.
-fn title_row(row: &mut Row)
-    ensures { row.new ≡ title_row row.old }
-{
-    row.shape = Shape {
-        lead: row.shape.lead,
-        kind: RowKind::Action,
-        index: 1,
-        rest: 0,
-        sentence_end: false,
-    };
-}
-
-fn title_rows(rows: &mut [Row])
-    ensures { rows.new ≡ map title_row rows.old }
-{
-    for row in rows.iter_mut() {
-        title_row(row);
-    }
 }
 
 /// The rows of a block by itself, with its written number.
@@ -143,46 +92,6 @@ pub fn single_rows(
     }
     tell_speakers(alloc, lines, first, &[continued], &mut rows)?;
     Ok(rows)
-}
-
-/// Makes a row one of dual dialogue, with one half.
-fn half_row(row: &mut Row)
-    ensures { row.new ≡ half_row row.old }
-{
-    row.shape.lead = 0;
-    row.shape.kind = RowKind::Dual;
-    row.shape.sentence_end = false;
-}
-
-/// Makes a row one of dual dialogue, with the other half where there is one.
-fn join_row(row: &mut Row, other: Row) -> Result<(), AllocError>
-    ensures { OnOk result (row.new ≡ joined_row row.old other) }
-{
-    let mut other = other;
-    half_row(row);
-    row.mark = row.mark.max(other.mark);
-    row.cells.append(&mut other.cells)?;
-    Ok(())
-}
-
-/// Puts the rows of a right half beside those of a left one.
-fn join_rows(rows: &mut Vec<Row>, right: Vec<Row>) -> Result<(), AllocError>
-    ensures rows { OnOk result (rows.new.items ≡ joined_rows rows.old.items right.items) }
-    ensures few { OnOk result (length rows.new.items ≤ length rows.old.items + length right.items) }
-{
-    let mut others = right.into_iter();
-    for row in rows.iter_mut() {
-        match others.next() {
-            Some(other) => join_row(row, other)?,
-            None => half_row(row),
-        }
-    }
-    for other in others {
-        let mut row = other;
-        half_row(&mut row);
-        rows.push(row)?;
-    }
-    Ok(())
 }
 
 /// The rows of two speeches side by side.

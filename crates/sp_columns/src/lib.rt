@@ -4,7 +4,6 @@
 mod columns;
 mod elements;
 mod lines;
-mod sentences;
 mod speakers;
 
 pub use columns::width_of;

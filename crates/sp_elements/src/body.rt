@@ -12,7 +12,7 @@ ghost use Rattle.sp_runs.specs.Runs.{exchanged};
 use crate::moves::move_elements;
 use crate::page::Page;
 use crate::search::{last_start, starts_below};
-use crate::values::{Element, Row, begins_heading};
+use sp_rows::{Element, Row, begins_heading};
 use sp_runs::{exchange, make_room};
 use sp_splice::{GapList, GapPlaces};
 use sp_text::Lines;

@@ -1,14 +1,13 @@
-//! The rows of elements, and elements one behind the other with what is asked of their rows (docs/RULES.md, "Elements").
+//! Elements one behind the other, with what is asked of their rows (docs/RULES.md, "Elements").
 #![tactic(auto)]
 
 mod body;
 mod moves;
 mod page;
 mod search;
-mod values;
 
 pub use body::{Body, is_heading_element};
 pub use page::Page;
 pub use search::{count_below, elements_before};
+pub use sp_rows::{Cell, Element, Row, begins_heading};
 pub use spec_pages::{RowKind, Shape};
-pub use values::{Cell, Element, Row, begins_heading};

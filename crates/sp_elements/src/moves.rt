@@ -2,7 +2,7 @@
 ghost use Rattle.std.specs.Prelude.{◌≡◌, ◌≤◌, ◌++◌, map, take, drop, vec_len, vec_capacity, All};
 ghost use Rattle.sp_elements.specs.Exchanges.{moved_element, CanMove};
 
-use crate::values::Element;
+use sp_rows::Element;
 
 /// Makes the place of each element less and more by so much.
 fn move_all(elements: &mut [Element], less: u64, more: u64)

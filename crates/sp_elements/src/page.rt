@@ -1,5 +1,5 @@
 //! The elements of a page.
-use crate::values::Element;
+use sp_rows::Element;
 use std::marker::Model;
 
 /// Rows of a body that follow one another, as those of a page do: the elements that they stand in, the places of the first

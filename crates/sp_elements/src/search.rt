@@ -2,7 +2,7 @@
 ghost use Rattle.std.specs.Prelude.{◌<◌, ◌≤◌, length, slice_index, AllPairs};
 ghost use Rattle.sp_elements.specs.Places.{ArePartedAt, CountsBefore, CountsBelow, IsLastStart};
 
-use crate::values::Element;
+use sp_rows::Element;
 use sp_splice::GapPlaces;
 
 /// How many of these places, which never fall, are below a bound, as page breaks are before a row (docs/RULES.md, "Pages").

@@ -1,10 +1,7 @@
-//! The large sample: its script, its commands, its session, and the line that tells of a state (docs/RULES.md, "The sample").
+//! The session of the large sample, and the line that tells of the state behind it (docs/RULES.md, "The sample").
 #![tactic(auto)]
 
-mod commands;
 mod line;
-mod numbers;
-mod script;
 mod session;
 
 pub use session::run_sample;

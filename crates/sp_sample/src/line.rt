@@ -7,11 +7,11 @@ ghost use Rattle.spec_print.specs.Sheets.{sheet_bytes};
 ghost use Rattle.spec_state.specs.Printing.{printed_state};
 ghost use Rattle.spec_sample.specs.Sample.{state_line};
 
-use crate::numbers::add_numbered;
 use sha2::{Digest, Sha256};
 use sp_answers::sheet_reply;
 use sp_commands::Reply;
 use sp_print::PageView;
+use sp_sample_script::told_line;
 use sp_state::Script;
 use std::alloc::{AllocError, Global};
 
@@ -20,19 +20,14 @@ pub(crate) fn state_line(alloc: Global, rooms: u32, script: &Script) -> Result<V
     ensures { IfOk result (λ line. line.items ≡ state_line rooms script.now) }
 {
     let digest = sheets_digest(alloc, script)?;
-    let mut line = Vec::new(alloc);
-    add_numbered(&mut line, b"sample ", u64::from(rooms))?;
-    add_numbered(&mut line, b": ", script.lines().len() as u64)?;
-    add_numbered(&mut line, b" lines, ", script.sheets() as u64)?;
-    add_numbered(
-        &mut line,
-        b" sheets, round ",
-        u64::from(script.records().round),
-    )?;
-    line.extend_from_slice(b", sha256 ")?;
-    line.extend_from_slice(digest.as_bytes())?;
-    line.extend_from_slice(b"\n")?;
-    Ok(line)
+    told_line(
+        alloc,
+        rooms,
+        script.lines().len(),
+        script.sheets(),
+        script.records().round,
+        digest.as_str(),
+    )
 }
 
 /// The digest of all sheets of a script, in hexadecimal. They are printed one after another, and none is kept.

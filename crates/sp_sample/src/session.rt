@@ -11,12 +11,11 @@ ghost use Rattle.sp_reflow.specs.Starts.{many_more};
 ghost use Rattle.sp_desk.specs.Outcomes.{FillsAtMost, FillsOf, ReadsAtMost, ReadsOf};
 ghost use Rattle.sp_sample.specs.SampleCounts.{CountsAlong, CountsUpTo, SampleFills, SampleFillsAtMost, SampleReads, SampleReadsAtMost};
 
-use crate::commands::sample_commands;
 use crate::line::state_line;
-use crate::script::sample_script;
 use sp_commands::Command;
 use sp_desk::{Desk, DeskFault};
 use sp_kit::Steps;
+use sp_sample_script::{sample_commands, sample_script};
 use sp_text::{Lines, TextFault};
 use std::alloc::{AllocError, Global};
 

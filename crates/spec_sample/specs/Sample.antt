@@ -72,11 +72,14 @@ sample_opened n = opened_state (sample_lines n)
 abbrev pub sample_state : ℕ → State
 sample_state n = (fold stepped (opened_memory (sample_opened n)) (sample_commands n)).state
 
--- The line that tells of a state: how many lines and sheets it has, its round, and the digest of all its sheets.
+-- The line of a sample of so many rooms: how many lines and sheets its state has, the state's round, and the digest of all its sheets.
+abbrev pub told_line : ℕ → ℕ → ℕ → ℕ → List ℕ → List ℕ
+told_line n lines sheets round digest =
+    codes "sample " ++ decimal n ++ codes ": " ++ decimal lines ++ codes " lines, " ++ decimal sheets ++ codes " sheets, round " ++ decimal round ++ codes ", sha256 " ++ digest ++ codes "\n"
+
+-- The line that tells of a state.
 abbrev pub state_line : ℕ → State → List ℕ
-state_line n state =
-    codes "sample " ++ decimal n ++ codes ": " ++ decimal (length state.lines) ++ codes " lines, " ++ decimal (length (sheets_of_state state)) ++ codes " sheets, round "
-    ++ decimal state.round ++ codes ", sha256 " ++ encode_lower (sha256 (printed_state state)) ++ codes "\n"
+state_line n state = told_line n (length state.lines) (length (sheets_of_state state)) state.round (encode_lower (sha256 (printed_state state)))
 
 -- What a sample writes.
 abbrev pub sample_output : ℕ → List ℕ

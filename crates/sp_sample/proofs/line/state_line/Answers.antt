@@ -1,12 +1,12 @@
-use Rattle.std.proofs.Common.{◌∙◌, ap, length}
+use Rattle.std.proofs.Common.{◌≡◌, ℕ, List, length, ap, ◌∙◌, IfOk, subst}
 use Rattle.spec_text.specs.Lines.{TextState}
 use Rattle.spec_records.specs.Kept.{RecordsOf}
-use Rattle.sp_sample.proofs.ToldSamples.{made, told}
+use Rattle.sp_sample.proofs.ToldSamples.{told}
 use Rattle.sp_sample.proofs.line.state_line.Goals as goal
 
 pub returns : goal.returns
 returns c =
-    told c.args.rooms _ _ _ _ c.args.script.now _ _
-    (made c.from.result c.len.result c.sheets.result c.from-2.result c.as_bytes.result.now c.new-line.result.items _ _ _ _ _ _ _ c.new-line.ensures.items c.in_ok-add_numbered.ensures c.in_ok-add_numbered-2.ensures c.in_ok-add_numbered-3.ensures c.in_ok-add_numbered-4.ensures
-    c.in_ok-extend_from_slice.ensures.items c.in_ok-extend_from_slice-2.ensures.items c.in_ok-extend_from_slice-3.ensures.items)
-    c.from.ensures (c.len.ensures.len ∙ ap (λ (text : TextState). length text.lines) c.lines.ensures) c.sheets.ensures (c.from-2.ensures ∙ ap (λ (records : RecordsOf). records.round) (c.behind-script.view_is ∙ c.records.ensures)) (c.as_bytes.ensures.value ∙ c.in_ok-digest.ensures)
+    subst (λ (text : List ℕ). IfOk c.told_line.result (λ line. line.items ≡ text))
+    (told c.args.rooms c.len.result c.sheets.result c.behind-script.inside.round c.args.script.now c.as_str.result.now (c.len.ensures.len ∙ ap (λ (text : TextState). length text.lines) c.lines.ensures) c.sheets.ensures
+    (ap (λ (records : RecordsOf). records.round) (c.behind-script.view_is ∙ c.records.ensures)) (c.as_str.ensures.value ∙ c.in_ok-digest.ensures))
+    c.told_line.ensures

@@ -1,7 +1,0 @@
-use Rattle.std.proofs.Common.{map}
-use Rattle.spec_sample.proofs.SampleSteps.{edits-more}
-use Rattle.sp_commands.specs.Values.{command_of}
-use Rattle.sp_sample.proofs.commands.sample_commands.Goals as goal
-
-pub loop-behind-preserved : goal.loop-behind-preserved
-loop-behind-preserved c = edits-more (map command_of c.loop-behind.commands.items) _ _ c.args.rooms c.loop-behind.behind c.loop-behind-test.true c.loop-behind.invariant c.in_ok-add_edits.ensures
