@@ -16,7 +16,9 @@ LEAST_EDITS = 3
 NO_EDITS = ("sp_case", "sp_cases", "sp_commands")
 # Crates of the program that have none: what theirs would try is a call of a smaller crate below (docs/DECISIONS.md).
 TRIED_BELOW = (
+    "sp_block_values",
     "sp_blocks",
+    "sp_reread",
     "sp_columns",
     "sp_print",
     "sp_wire",

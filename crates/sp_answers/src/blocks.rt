@@ -10,7 +10,7 @@ ghost use Rattle.spec_layout.specs.Speakers.{first_text, visible_text};
 ghost use Rattle.spec_machine.specs.Blocks.{block_reply, block_replies, element_replies, kind_name, written_number};
 ghost use Rattle.sp_answers.specs.Pairs.{is_second, opens_pair};
 
-use sp_blocks::{BlockLine, Kind, PlacedBlock, parts_text, shown_text};
+use sp_block_values::{BlockLine, Kind, PlacedBlock, parts_text, shown_text};
 use sp_commands::BlockReply;
 use sp_reread::{Stanzas, placed_blocks};
 use sp_text::Lines;

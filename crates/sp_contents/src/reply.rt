@@ -8,7 +8,7 @@ ghost use Rattle.spec_wire.specs.Replies as replies;
 ghost use Rattle.sp_commands.specs.Values.{reply_of};
 
 use crate::scenes::scenes_of;
-use sp_blocks::PlacedBlock;
+use sp_block_values::PlacedBlock;
 use sp_commands::Reply;
 use sp_entries::{entries_of, speaker_names};
 use sp_outline::{CastLine, cast};

@@ -5,7 +5,7 @@ ghost use Rattle.spec_script.specs.Stanzas.{blocks_of};
 ghost use Rattle.spec_state.specs.Headings.{headings_of};
 ghost use Rattle.spec_machine.specs.Outlines.{scenes_of};
 
-use sp_blocks::PlacedBlock;
+use sp_block_values::PlacedBlock;
 use sp_entries::{Scenes, are_locked, gone_labels, heading_rows, labels_of, sheet_texts};
 use sp_numbers::headings_among;
 use sp_scenes::{HeadingAt, SceneRecord};

@@ -11,7 +11,7 @@ ghost use Rattle.sp_entries.specs.Walks.{AddsBlock, IsAbove, IsWalked, label_at,
 
 use crate::scenes::Scenes;
 use sp_answers::{first_text, scene_label_text, written_number};
-use sp_blocks::{Kind, PlacedBlock};
+use sp_block_values::{Kind, PlacedBlock};
 use sp_labels::{Label, compare};
 use sp_outline::Entry;
 use sp_text::Lines;

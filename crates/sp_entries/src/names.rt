@@ -4,7 +4,7 @@ ghost use Rattle.spec_text.specs.Lines.{line_texts};
 ghost use Rattle.spec_script.specs.Elements.{PlacedLies};
 ghost use Rattle.spec_machine.specs.Outlines.{speaker_names};
 
-use sp_blocks::{PlacedBlock, is_speech_block};
+use sp_block_values::{PlacedBlock, is_speech_block};
 use sp_layout::speaker_name;
 use sp_text::Lines;
 use std::alloc::{AllocError, Global};

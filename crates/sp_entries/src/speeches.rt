@@ -8,7 +8,7 @@ ghost use Rattle.spec_cast.specs.Said.{begins_speech, block_said, first_label, i
 ghost use Rattle.sp_entries.specs.Sheets.{AreInTurn};
 
 use crate::sheets::sheet_of;
-use sp_blocks::{Kind, PlacedBlock, is_speech_block};
+use sp_block_values::{Kind, PlacedBlock, is_speech_block};
 use sp_cast::Said;
 use sp_labels::Label;
 use sp_layout::speaker_name;

@@ -10,7 +10,7 @@ ghost use Rattle.sp_layout.specs.LaidOut.{AddsElement, IsLayoutOf, layout_behind
 ghost use Rattle.sp_layout.specs.Speaking.{speakers_before};
 
 use crate::speakers::Speakers;
-use sp_blocks::PlacedBlock;
+use sp_block_values::PlacedBlock;
 use sp_columns::{dual_rows, single_rows};
 use sp_elements::{Body, Element};
 use sp_text::Lines;

@@ -10,7 +10,7 @@ ghost use Rattle.spec_layout.specs.Cells.{continued};
 ghost use Rattle.spec_layout.specs.Speakers.{block_text, cue_ends_continued, cue_text, is_last_speaker, last_row_continued, name_in, named_block, settled, shown_text, speaker_after};
 ghost use Rattle.sp_layout.specs.Speaking.{last_speaker, speakers_after, speakers_before, speakers_behind};
 
-use sp_blocks::{BlockLine, Kind, PlacedBlock, shown_text};
+use sp_block_values::{BlockLine, Kind, PlacedBlock, shown_text};
 use sp_columns::width_of;
 use sp_forms::letters::ends;
 use sp_forms::spaces::trim;

@@ -11,7 +11,7 @@ ghost use Rattle.spec_labels.specs.LabelReading.{label_read};
 ghost use Rattle.spec_state.specs.Headings.{as_scene_label, heading_of, is_heading_block, is_heading_kind, letter_limit};
 ghost use Rattle.sp_numbers.specs.HeadingLines.{heading_line, heading_lines};
 
-use sp_blocks::{Block, Kind, PlacedBlock, Stanza, parts_text};
+use sp_block_values::{Block, Kind, PlacedBlock, Stanza, parts_text};
 use sp_labels::{Label, parse};
 use sp_reread::Stanzas;
 use sp_scenes::HeadingAt;

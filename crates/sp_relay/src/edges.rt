@@ -6,7 +6,7 @@ ghost use Rattle.sp_relay.specs.Edges.{BreaksAt, CanBegin, CanEnd, CanPart, IsEd
 ghost use Rattle.sp_relay.specs.Kept.{laid_of};
 
 use crate::KeptLayout;
-use sp_blocks::{Block, Stanza};
+use sp_block_values::{Block, Stanza};
 use sp_elements::{count_below, elements_before};
 use sp_reread::Stanzas;
 use spec_script::Kind;

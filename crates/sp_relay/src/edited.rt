@@ -16,7 +16,7 @@ ghost use Rattle.sp_relay.specs.Outside.{StaysOutside};
 
 use crate::edges::{PartEdge, part_end, part_start, stanza_settles};
 use crate::{KeptLayout, LayoutPart, PartPlaces, relay};
-use sp_blocks::{PlacedBlock, Stanza, is_speech_block};
+use sp_block_values::{PlacedBlock, Stanza, is_speech_block};
 use sp_layout::Speakers;
 use sp_reread::{Stanzas, Swapped, placed_blocks_between};
 use sp_text::Lines;

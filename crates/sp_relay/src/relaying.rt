@@ -9,7 +9,7 @@ ghost use Rattle.sp_relay.specs.Outside.{StaysOutside};
 ghost use Rattle.sp_relay.specs.Relaid.{IsRelaid};
 
 use crate::{KeptLayout, LayoutPart, PartPlaces};
-use sp_blocks::PlacedBlock;
+use sp_block_values::PlacedBlock;
 use sp_layout::{Speakers, lay_out_behind};
 use sp_text::Lines;
 use std::alloc::{AllocError, Global};

@@ -5,7 +5,7 @@ ghost use Rattle.spec_script.specs.Stanzas.{blocks_from};
 ghost use Rattle.spec_reread.specs.Windows.{stanza_lines_in};
 
 use crate::Stanzas;
-use sp_blocks::{PlacedBlock, Stanza};
+use sp_block_values::{PlacedBlock, Stanza};
 use std::alloc::{AllocError, Global};
 
 /// Adds the blocks of the stanza that begins at a place.

@@ -1,8 +1,8 @@
 use Rattle.std.proofs.Common.{◌≡◌, ◌+◌, ◌<◌, length, get_or, sym, ap, ◌∙◌, arith}
 use Rattle.std.proofs.lemmas.Option.{get_or_from_slice_get}
 use Rattle.std.proofs.lemmas.List.{length-map, get_or-map}
-use Rattle.sp_reread.specs.Piles.{line_counts}
-use Rattle.sp_reread.proofs.PileLaws.{lines_of}
+use Rattle.sp_piles.specs.Piles.{line_counts}
+use Rattle.sp_piles.proofs.PileLaws.{lines_of}
 use Rattle.sp_reread.proofs.Exchanges.{counted-more}
 use Rattle.sp_reread.proofs.stanzas.Stanzas.have_lines_of.Goals as goal
 

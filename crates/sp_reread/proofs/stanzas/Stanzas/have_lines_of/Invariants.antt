@@ -1,5 +1,5 @@
 use Rattle.std.proofs.Common.{◌≡◌, take, drop}
-use Rattle.sp_reread.specs.Piles.{line_counts}
+use Rattle.sp_piles.specs.Piles.{line_counts}
 use Rattle.sp_reread.proofs.stanzas.Stanzas.have_lines_of.Given as goal
 
 abbrev pub invariant-loop-k : goal.invariant-loop-k

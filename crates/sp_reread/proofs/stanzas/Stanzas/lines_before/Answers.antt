@@ -1,8 +1,8 @@
 use Rattle.std.proofs.Common.{◌≡◌, ◌≤◌, ◌+◌, ◌-◌, ◌∙◌, length, take, reverse, arith, ap}
 use Rattle.std.proofs.lemmas.List.{take_all, length-append, length-reverse}
 use Rattle.spec_reread.specs.Windows.{stanza_lines_in}
-use Rattle.sp_reread.specs.Cache.{gap_list}
-use Rattle.sp_reread.proofs.GapPlaces.{first-behind}
+use Rattle.sp_piles.specs.Gaps.{gap_list}
+use Rattle.sp_piles.proofs.GapPlaces.{first-behind}
 use Rattle.sp_reread.proofs.stanzas.Stanzas.lines_before.Goals as goal
 
 pub returns-else-place-before : goal.returns-else-place-before

@@ -4,8 +4,8 @@ use Rattle.std.proofs.lemmas.List.{length-map, get_or-map}
 use Rattle.spec_script.specs.BlockValues.{StanzaOf}
 use Rattle.sp_text.specs.Paired.{IsPaired}
 use Rattle.sp_text.proofs.Pairs.{IsPaired-more}
-use Rattle.sp_reread.specs.Piles.{line_counts}
-use Rattle.sp_reread.proofs.PileLaws.{lines_of, counts-set}
+use Rattle.sp_piles.specs.Piles.{line_counts}
+use Rattle.sp_piles.proofs.PileLaws.{lines_of, counts-set}
 use Rattle.sp_reread.proofs.Exchanges.{counted-at}
 use Rattle.sp_reread.proofs.stanzas.Stanzas.swap_all.Goals as goal
 
