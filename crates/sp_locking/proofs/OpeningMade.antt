@@ -29,16 +29,16 @@ use Rattle.spec_machine.proofs.RefusalLaws.{below-is, pages-free, pages-full, ro
 use Rattle.spec_machine.proofs.WholeStates.{lock_scenes-whole, lock_pages-whole, round-whole}
 use Rattle.spec_machine.proofs.LabelLaw.{state-sheets}
 use Rattle.sp_elements.specs.Bodies.{row_count, shapes_in}
-use Rattle.sp_firsts.specs.Firsts.{key_starts}
-use Rattle.sp_made.specs.Made.{MadeOf, IsMadeOf, marked_or_locked}
+use Rattle.sp_made_parts.specs.Firsts.{key_starts}
+use Rattle.sp_made_parts.specs.Made.{MadeOf, IsMadeOf, marked_or_locked}
 use Rattle.sp_labels.specs.declared.fault.LockFault.{LockFault}
 use Rattle.sp_labels.specs.declared.fault.LockFault.TheVariants as locks
 use Rattle.sp_locks.specs.Extension.{IsMade}
 use Rattle.sp_records.specs.OpeningFaults.{lock_fault_of}
 use Rattle.sp_locking.specs.Openings.{ArePagesOpened, CanLockHeadings, IsFull, IsReason, pages_made}
-use Rattle.sp_firsts.proofs.FirstsLaws.{count-rows}
-use Rattle.sp_made.proofs.MadeLaws.{sheets-by}
-use Rattle.sp_made.proofs.SheetPlaces.{body-made, keys-made, made-places}
+use Rattle.sp_made_parts.proofs.FirstsLaws.{count-rows}
+use Rattle.sp_made_parts.proofs.MadePages.{sheets-by}
+use Rattle.sp_made_parts.proofs.MadeSheets.{body-made, keys-made, made-lie}
 
 -- The headings of a text keep what is asked of headings.
 pub lines-headings : (text : TextState) → IsText text → AreHeadings (headings_of text.lines)
@@ -142,7 +142,7 @@ made-AreSheets state it whole made = subst AreSheets (sym made.numbered.sheets) 
 
 pub made-within : (state : State) (it : MadeOf) → IsWhole state → IsMadeOf state it → All (λ (sheet : SheetOf). sheet.omitted ≡ false → sheet.start < length it.layout.body.keys) it.numbered.sheets
 made-within state it whole made k d h shown =
-    let lie = (made-places state it whole made).sheets_lie k d h in
+    let lie = made-lie state it whole made k d h in
     let some = lie.some shown in
     let within = lie.within in
     let keys = ap length (keys-made state it made) in

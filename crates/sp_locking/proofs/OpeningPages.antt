@@ -14,8 +14,8 @@ use Rattle.spec_machine.proofs.RefusalLaws.{free-pages}
 use Rattle.spec_locked_pages.specs.Segments.{pages_of}
 use Rattle.spec_refill.proofs.LockedStarts.{lock-starts, round-starts}
 use Rattle.sp_elements.specs.Bodies.{shapes_in}
-use Rattle.sp_firsts.specs.Firsts.{key_starts}
-use Rattle.sp_made.proofs.MadeLaws.{pages-are}
+use Rattle.sp_made_parts.specs.Firsts.{key_starts}
+use Rattle.sp_made_parts.proofs.MadePages.{pages-are}
 use Rattle.sp_records.specs.declared.opening_fault.OpeningFault.{OpeningFault}
 use Rattle.sp_locking.specs.Openings.{IsOpening}
 use Rattle.sp_locking.proofs.OpeningMade.{scenes-keys, with_scenes}

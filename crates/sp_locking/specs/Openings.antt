@@ -13,7 +13,7 @@ use Rattle.sp_labels.specs.declared.fault.LockFault.{LockFault}
 use Rattle.sp_labels.specs.declared.fault.LockFault.TheVariants as locks
 use Rattle.sp_records.specs.declared.opening_fault.OpeningFault.{OpeningFault}
 use Rattle.sp_records.specs.declared.opening_fault.OpeningFault.TheVariants.{ScenesLocked, SceneForm, SceneOrder, ScenesNotLocked, PagesLocked, NoPages, RoundsFull, RecordsFull, NoMemory}
-use Rattle.sp_made.specs.Made.{MadeOf}
+use Rattle.sp_made_parts.specs.Made.{MadeOf}
 
 -- The fault is the refusal, or there is no memory.
 abbrev pub IsReason : Option RefusalOf → OpeningFault → Type 0

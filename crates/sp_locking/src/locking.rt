@@ -13,12 +13,12 @@ ghost use Rattle.spec_machine.specs.Machine.{FewScenes};
 ghost use Rattle.spec_machine.specs.Refusals.{are_more, pages_refusal, round_refusal, scenes_refusal};
 ghost use Rattle.sp_locks.specs.Extension.{IsMade};
 ghost use Rattle.sp_text.specs.Gap.{text_of};
-ghost use Rattle.sp_made.specs.Made.{IsMadeOf};
+ghost use Rattle.sp_made_parts.specs.Made.{IsMadeOf};
 ghost use Rattle.sp_locking.specs.Openings.{ArePagesOpened, CanLockHeadings, IsFull, IsOpening, IsReason, headings_refusal};
 
 use sp_labels::{Label, LockFault};
 use sp_locks::{PageRecord, extend};
-use sp_made::Made;
+use sp_made_parts::Made;
 use sp_numbers::headings_among;
 use sp_records::{OpeningFault, Records};
 use sp_reread::{Stanzas, placed_blocks};

@@ -21,7 +21,7 @@ use Rattle.sp_elements.specs.Exchanges.{moved_element, run_of, with_run}
 use Rattle.sp_layout.specs.LaidOut.{LayoutOf}
 use Rattle.sp_elements.proofs.BodyExchanges.{count-append, till-is}
 use Rattle.sp_scenes.specs.LineLabels.{line_labels}
-use Rattle.sp_firsts.specs.Firsts.{laid_in}
+use Rattle.sp_made_parts.specs.Firsts.{laid_in}
 use Rattle.sp_numbers.specs.HeadingIds.{body_headings, heading_ids, laid_headings, laid_labels}
 use Rattle.sp_numbers.proofs.LinesOfHeadings.{labels-of}
 use Rattle.sp_numbers.proofs.OpenedHeadings.{ids-opened, state-opened}

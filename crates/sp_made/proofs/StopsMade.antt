@@ -19,9 +19,10 @@ use Rattle.spec_refill.proofs.SortedStops.{in-order}
 use Rattle.sp_elements.specs.Bodies.{row_count}
 use Rattle.sp_reflow.specs.Starts.{many_more}
 use Rattle.sp_reflow.specs.Filling.{FilledAtMost}
-use Rattle.sp_made.specs.Made.{AreStopsOf}
-use Rattle.sp_firsts.proofs.FirstsLaws.{count-rows}
-use Rattle.sp_made.proofs.MadeLaws.{locked-keys, starts-within}
+use Rattle.sp_made.specs.Pages.{AreStopsOf}
+use Rattle.sp_made_parts.proofs.FirstsLaws.{count-rows}
+use Rattle.sp_made_parts.proofs.MadePages.{locked-keys}
+use Rattle.sp_made.proofs.MadeLaws.{starts-within}
 
 -- No stop is behind the last row.
 stops-within : (state : State) → IsWhole state → All (λ (stop : ℕ). stop ≤ length (rows_in state)) (stops_in state)

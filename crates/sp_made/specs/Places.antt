@@ -8,7 +8,7 @@ use Rattle.spec_layout.specs.Shown.{shown_rows}
 use Rattle.spec_print.specs.Sheets.{Sheet}
 use Rattle.spec_state.specs.StateSheets.{shown_sheet, title_sheet}
 use Rattle.sp_elements.specs.Bodies.{row_count}
-use Rattle.sp_made.specs.Made.{MadeOf}
+use Rattle.sp_made_parts.specs.Made.{MadeOf}
 
 -- The sheets lie in the rows of the elements, and these show parts of the lines.
 pub record HasPlaces (lines : List LineState) (it : MadeOf) : Type 0 where

@@ -1,55 +1,13 @@
 //! The headings among rows that are laid out.
-ghost use Rattle.std.specs.Prelude.{◌≡◌, ℕ, ◌≤◌, ◌↔◌, IsTrue, length, slice_range, take};
+ghost use Rattle.std.specs.Prelude.{◌≡◌, ℕ, ◌≤◌, ◌↔◌, IsTrue, length, take};
 ghost use Rattle.sp_elements.specs.Bodies.{keyed_elements, row_count};
 ghost use Rattle.sp_elements.specs.Exchanges.{with_run};
 ghost use Rattle.sp_relay.specs.Kept.{CanSwap, laid_of, with_part};
-ghost use Rattle.sp_numbers.specs.HeadingIds.{IsHeadingFrom, body_headings, heading_ids, laid_headings};
+ghost use Rattle.sp_numbers.specs.HeadingIds.{body_headings, laid_headings};
 
-use sp_elements::{Body, begins_heading};
+use sp_elements::Body;
+use sp_numbers::same_headings;
 use sp_relay::{KeptLayout, LayoutPart};
-use sp_splice::GapList;
-use spec_labels::RowKey;
-use spec_pages::Shape;
-
-/// The first row of a heading from a place on, or the number of rows.
-fn next_heading(shapes: &GapList<Shape>, from: usize) -> usize
-    requires { from ≤ length shapes.now.items }
-    ensures { IsHeadingFrom shapes.now.items from result }
-{
-    for place in from..shapes.len() {
-        if begins_heading(shapes.at(place)) {
-            return place;
-        }
-    }
-    shapes.len()
-}
-
-/// Whether the headings of the rows from one to before another stand on the lines of those of others, in order.
-fn same_headings(
-    shapes: &GapList<Shape>,
-    keys: &GapList<RowKey>,
-    from: usize,
-    to: usize,
-    others: &GapList<Shape>,
-    other_keys: &GapList<RowKey>,
-) -> bool
-    requires order { from ≤ to }
-    requires within { to ≤ length shapes.now.items }
-    requires keys { length keys.now.items ≡ length shapes.now.items }
-    requires other_keys { length other_keys.now.items ≡ length others.now.items }
-    ensures { IsTrue result ↔ heading_ids (slice_range shapes.now.items from to) (slice_range keys.now.items from to) ≡ heading_ids others.now.items other_keys.now.items }
-{
-    let mut next = next_heading(others, 0);
-    for place in from..to {
-        if begins_heading(shapes.at(place)) {
-            if next == others.len() || other_keys.at(next).line != keys.at(place).line {
-                return false;
-            }
-            next = next_heading(others, next + 1);
-        }
-    }
-    next == others.len()
-}
 
 /// The first of the rows of the elements from one place to before another, and the row behind them.
 fn rows_of_run(body: &Body, from: usize, to: usize) -> (usize, usize)

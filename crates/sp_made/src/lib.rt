@@ -6,8 +6,5 @@ mod made;
 mod views;
 
 pub use heading_rows::keeps_headings;
-pub use made::{
-    Made, Numbered, firsts_stay, laid_stops, lay, made_starts, make, make_pages, number, renumber,
-    rows_on,
-};
+pub use made::{laid_stops, lay, made_starts, make, make_pages, number, renumber, rows_on};
 pub use views::{body_shapes, made_sheet, made_title, sheet_count, title_count};

@@ -1,6 +1,6 @@
 //! What is made of a state and its stanzas: its elements in rows, the labels of its headings, and its sheets.
 ghost use Rattle.std.specs.Prelude.{◌≡◌, [], length, option_map, All, None, Some, IfNone, IfOk, IfSome, IsTrue, OnErr, OnOk};
-ghost use Rattle.std.specs.Bool.{OnFalse, OnTrue};
+ghost use Rattle.std.specs.Bool.{OnFalse};
 ghost use Rattle.spec_text.specs.Lines.{line_texts};
 ghost use Rattle.spec_script.specs.Stanzas.{stanzas_of};
 ghost use Rattle.spec_pages.specs.Pages.{page_starts, rows_on};
@@ -16,17 +16,18 @@ ghost use Rattle.sp_reflow.specs.Starts.{many_more};
 ghost use Rattle.sp_reflow.specs.Filling.{FilledAtMost};
 ghost use Rattle.sp_reflow.specs.Updates.{with_taken, CanPutBack};
 ghost use Rattle.sp_relay.specs.Kept.{laid_of};
-ghost use Rattle.sp_firsts.specs.Firsts.{IsLaidOf, first_rows};
-ghost use Rattle.sp_made.specs.Made.{AreStopsOf, AskedOfPages, IsMadeOf, IsNumberedOf, marked_or_locked};
+ghost use Rattle.sp_made_parts.specs.Firsts.{IsLaidOf, first_rows};
+ghost use Rattle.sp_made_parts.specs.Made.{IsMadeOf, IsNumberedOf, marked_or_locked};
+ghost use Rattle.sp_made.specs.Pages.{AreStopsOf, AskedOfPages};
 ghost use Rattle.sp_numbers.specs.Locked.{AreSheetsBefore};
 ghost use Rattle.sp_numbers.specs.Numbered.{marked_sheets, AreMovedOutside, AreUnmarked};
 
 use sp_elements::Body;
-use sp_firsts::laid_firsts;
 use sp_kit::{Counter, Steps};
 use sp_labels::Label;
 use sp_layout::lay_out_text;
 use sp_locks::{PageRecord, Sheet};
+use sp_made_parts::{Made, Numbered, laid_firsts};
 use sp_numbers::{Stale, heading_lines, merged_stops, renew_locked, renew_sheets, stale_places};
 use sp_records::Records;
 use sp_reflow::{Pages, SwappedPages};
@@ -36,44 +37,6 @@ use sp_scenes::numbers_of_lines;
 use sp_text::Lines;
 use spec_pages::Paper;
 use std::alloc::{AllocError, Global};
-use std::marker::Model;
-
-/// The labels of the headings of a state where scenes are locked, the first rows of its title sheets, and its other sheets.
-#[derive(Drop)]
-pub struct Numbered {
-    pub labels: Option<Vec<Label>>,
-    pub title_pages: Pages,
-    pub sheets: Vec<Sheet>,
-}
-
-impl Model for Numbered {
-    ghost use Rattle.std.specs.Prelude.{option_map};
-    ghost use Rattle.sp_made.specs.Made.{NumberedOf};
-
-    ghost Value = { NumberedOf };
-
-    ghost view = { λ n. record {
-      labels = option_map (λ those. those.items) n.labels;
-      title_starts = n.title_pages.starts;
-      sheets = n.sheets.items;
-    } };
-}
-
-/// The elements of a state laid out, and its labels and sheets.
-#[derive(Drop)]
-pub struct Made {
-    pub layout: KeptLayout,
-    pub numbered: Numbered,
-}
-
-impl Model for Made {
-    ghost use Rattle.sp_relay.specs.Kept.{laid_of};
-    ghost use Rattle.sp_made.specs.Made.{MadeOf};
-
-    ghost Value = { MadeOf };
-
-    ghost view = { λ m. record { layout = laid_of m.layout; numbered = m.numbered } };
-}
 
 /// How many body rows a page of the paper has.
 pub fn rows_on(paper: Paper) -> u32
@@ -133,17 +96,6 @@ fn title_pages(alloc: Global, titles: &Body, paper: Paper) -> Result<Pages, Allo
     let mut fills = Counter::new();
     let none: &[usize] = &[];
     Pages::new(alloc, titles.shapes(), none, rows_on(paper), &mut fills)
-}
-
-/// Whether the first rows of page records (docs/RULES.md, "Page records") were known, and are these. True is told only where that is
-/// so. It takes no memory.
-pub fn firsts_stay(known: &Option<Vec<usize>>, firsts: &[usize]) -> bool
-    ensures { OnTrue result (option_map (λ those. those.items) known.now ≡ Some firsts.now) }
-{
-    match known {
-        Some(those) => those.as_slice() == firsts,
-        None => false,
-    }
 }
 
 /// The first rows of the page records of a state that this was made of; none where pages aren't locked.

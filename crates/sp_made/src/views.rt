@@ -1,22 +1,22 @@
 //! Sheets of elements laid out, lent.
-ghost use Rattle.std.specs.Prelude.{◌≡◌, ◌+◌, ◌<◌, ◌≤◌, None, Some, All, AllPairs, IfNone, IfSome, drop, length, option_map, slice_get, slice_index, slice_index_or, slice_range};
+ghost use Rattle.std.specs.Prelude.{◌≡◌, ◌+◌, ◌<◌, ◌≤◌, None, Some, All, AllPairs, IfNone, IfSome, length, option_map, slice_get, slice_index, slice_index_or, slice_range};
 ghost use Rattle.std.specs.Option.{option_copied};
 ghost use Rattle.spec_text.specs.Lines.{line_texts};
 ghost use Rattle.spec_labels.specs.PageRecords.{LiesWithin};
 ghost use Rattle.spec_layout.specs.Cells.{RowShows};
 ghost use Rattle.spec_layout.specs.Layout.{placed_in};
-ghost use Rattle.spec_layout.specs.Shown.{labels_past, shown_rows};
+ghost use Rattle.spec_layout.specs.Shown.{shown_rows};
 ghost use Rattle.spec_print.specs.PageRows.{page_body};
 ghost use Rattle.spec_state.specs.StateSheets.{shown_sheet, title_sheet};
 ghost use Rattle.sp_elements.specs.Bodies.{row_count, shapes_in};
 ghost use Rattle.sp_views.specs.Views.{label_of};
 ghost use Rattle.sp_made.specs.Places.{HasPlaces, sheet_shown, title_at};
 
-use crate::made::Made;
 use sp_elements::Body;
 use sp_labels::Label;
 use sp_locks::Sheet;
-use sp_numbers::{greatest, page_behind};
+use sp_made_parts::Made;
+use sp_numbers::{greatest, labels_past, page_behind};
 use sp_print::PageView;
 use sp_splice::GapList;
 use sp_text::Lines;
@@ -30,24 +30,6 @@ fn lent_labels(labels: &Option<Vec<Label>>) -> Option<&[Label]>
     match labels {
         None => None,
         Some(labels) => Some(labels.as_slice()),
-    }
-}
-
-/// The labels behind the first ones.
-fn labels_behind(labels: &[Label], count: usize) -> &[Label]
-    ensures { result.now ≡ drop count labels.now }
-{
-    let past = count.min(labels.len());
-    &labels[past..]
-}
-
-/// The labels behind those of so many headings.
-fn labels_past<'a>(labels: Option<&'a [Label]>, count: usize) -> Option<&'a [Label]>
-    ensures { option_copied result ≡ labels_past count (option_copied labels.entry) }
-{
-    match labels {
-        None => None,
-        Some(labels) => Some(labels_behind(labels, count)),
     }
 }
 

@@ -7,3 +7,4 @@ mod HeadingMade
 pub mod LinesOfHeadings
 pub mod OpenedHeadings
 mod LockedSheets
+mod SameHeadings

@@ -1,5 +1,6 @@
 //! The stops of a state.
-ghost use Rattle.std.specs.Prelude.{◌++◌, IfOk, IsPermutation, AllPairs, ◌≤◌};
+ghost use Rattle.std.specs.Prelude.{◌≡◌, ◌++◌, ◌≤◌, option_map, AllPairs, IfOk, IsPermutation, Some};
+ghost use Rattle.std.specs.Bool.{OnTrue};
 
 use std::alloc::{AllocError, Global};
 
@@ -18,4 +19,15 @@ pub fn merged_stops(
     stops.extend_from_slice(starts)?;
     stops.sort()?;
     Ok(stops)
+}
+
+/// Whether the first rows of page records (docs/RULES.md, "Page records") were known, and are these. True is told only where that is
+/// so. It takes no memory.
+pub fn firsts_stay(known: &Option<Vec<usize>>, firsts: &[usize]) -> bool
+    ensures { OnTrue result (option_map (λ those. those.items) known.now ≡ Some firsts.now) }
+{
+    match known {
+        Some(those) => those.as_slice() == firsts,
+        None => false,
+    }
 }

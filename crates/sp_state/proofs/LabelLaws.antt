@@ -8,7 +8,7 @@ use Rattle.spec_state.specs.Keeping.{IsWhole}
 use Rattle.spec_text.specs.Lines.{IsText}
 use Rattle.spec_state.specs.State.{text_of as state_text}
 use Rattle.sp_layout.specs.LaidOut.{LayoutOf}
-use Rattle.sp_firsts.specs.Firsts.{laid_in}
+use Rattle.sp_made_parts.specs.Firsts.{laid_in}
 use Rattle.sp_numbers.specs.HeadingIds.{laid_headings, laid_labels}
 use Rattle.sp_made.proofs.LaidHeadings.{labels-laid, labels-stay}
 

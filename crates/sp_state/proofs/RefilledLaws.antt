@@ -18,7 +18,7 @@ use Rattle.spec_relayout.proofs.WindowExists.{window-exists}
 use Rattle.spec_locked_pages.specs.Segments.{pages_of}
 use Rattle.spec_refill.proofs.EditExchange.{edit-exchanged, speakers-starts}
 use Rattle.sp_reflow.specs.Updates.{AreStale}
-use Rattle.sp_made.specs.Made.{AreStopsOf}
+use Rattle.sp_made.specs.Pages.{AreStopsOf}
 use Rattle.sp_made.proofs.StopsMade.{starts-of, stops-in_order}
 use Rattle.sp_text_entry.specs.Relaid.{IsExchangeOf}
 

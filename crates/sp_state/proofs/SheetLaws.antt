@@ -18,7 +18,7 @@ use Rattle.spec_pages.specs.Pages.{rows_on}
 use Rattle.spec_state.proofs.EditKeeps.{raised-labels}
 use Rattle.spec_state.proofs.StateLaws.{state-AreKeptPages, state-AreStarts, state-ArePages}
 use Rattle.spec_locked_pages.specs.Segments.{pages_of}
-use Rattle.sp_firsts.specs.Firsts.{first_rows, key_starts}
+use Rattle.sp_made_parts.specs.Firsts.{first_rows, key_starts}
 use Rattle.sp_numbers.specs.Locked.{AreSheetsBefore}
 use Rattle.sp_numbers.specs.Numbered.{AreUnmarked}
 use Rattle.sp_numbers.proofs.UnmarkedLaws.{body-unmarked}

@@ -6,7 +6,7 @@ use Rattle.spec_locked_pages.specs.Segments.{pages_of}
 use Rattle.sp_reflow.specs.Starts.{Taken}
 use Rattle.sp_reflow.specs.Updates.{CanPutBack, with_taken}
 use Rattle.sp_relay.specs.Kept.{CanSwap, PartOf, laid_of, with_part}
-use Rattle.sp_firsts.specs.Firsts.{laid_in}
+use Rattle.sp_made_parts.specs.Firsts.{laid_in}
 use Rattle.sp_text_entry.specs.TextEntries.{TextEntryState, CanRedoText, CanUndoText, IsSameTextEntry, done_lines, redone_text, undone_lines, undone_text}
 
 -- What an edit displaced of the text and of the page records, of the layout, and first rows of pages.

@@ -19,7 +19,7 @@ ghost use Rattle.spec_state.specs.StateSheets.{body_sheets, locked_starts, rows_
 ghost use Rattle.sp_reread.specs.Cache.{RisesWithin, counted_on};
 ghost use Rattle.sp_exchange.specs.Reads.{IsRefused};
 ghost use Rattle.sp_exchange.specs.Restoring.{text_stanzas};
-ghost use Rattle.sp_made.specs.Made.{IsMadeOf};
+ghost use Rattle.sp_made_parts.specs.Made.{IsMadeOf};
 ghost use Rattle.sp_locking.specs.Openings.{IsOpening};
 ghost use Rattle.sp_text_entry.specs.Reads.{EditReads, EditReadsAtMost};
 ghost use Rattle.sp_state.specs.Fills.{EditFills, EditFillsAtMost};
@@ -30,9 +30,8 @@ use crate::entry::{Entry, Unturned};
 use sp_kit::Steps;
 use sp_locking::{lock_pages_made, lock_scenes_made, next_round_made};
 use sp_locks::Sheet;
-use sp_made::{
-    Made, body_shapes, made_sheet, made_starts, made_title, make, sheet_count, title_count,
-};
+use sp_made::{body_shapes, made_sheet, made_starts, made_title, make, sheet_count, title_count};
+use sp_made_parts::Made;
 use sp_print::PageView;
 use sp_records::{OpeningFault, Records};
 use sp_reflow::Pages;
@@ -76,8 +75,8 @@ impl Model for Script {
     ghost use Rattle.spec_state.specs.Keeping.{IsWhole, state_of};
     ghost use Rattle.sp_exchange.specs.Restoring.{text_stanzas};
     ghost use Rattle.spec_locked_pages.specs.Segments.{pages_of};
-    ghost use Rattle.sp_firsts.specs.Firsts.{first_rows};
-    ghost use Rattle.sp_made.specs.Made.{IsMadeOf};
+    ghost use Rattle.sp_made_parts.specs.Firsts.{first_rows};
+    ghost use Rattle.sp_made_parts.specs.Made.{IsMadeOf};
 
     ghost Value = { State };
 

@@ -17,12 +17,14 @@ ghost use Rattle.sp_relay.specs.Kept.{CanSwap, laid_of, with_part};
 ghost use Rattle.sp_numbers.specs.HeadingIds.{laid_labels};
 ghost use Rattle.sp_numbers.specs.Locked.{AreSheetsBefore};
 ghost use Rattle.sp_numbers.specs.Numbered.{AreUnmarked};
-ghost use Rattle.sp_firsts.specs.Firsts.{IsLaidOf, first_rows};
-ghost use Rattle.sp_made.specs.Made.{AreStopsOf, IsNumberedOf};
+ghost use Rattle.sp_made_parts.specs.Firsts.{IsLaidOf, first_rows};
+ghost use Rattle.sp_made_parts.specs.Made.{IsNumberedOf};
+ghost use Rattle.sp_made.specs.Pages.{AreStopsOf};
 
-use sp_firsts::laid_firsts;
 use sp_kit::Steps;
-use sp_made::{Numbered, firsts_stay, keeps_headings, laid_stops, renumber, rows_on};
+use sp_made::{keeps_headings, laid_stops, renumber, rows_on};
+use sp_made_parts::{Numbered, laid_firsts};
+use sp_numbers::firsts_stay;
 use sp_records::Records;
 use sp_reflow::{Pages, SwappedPages, UnswappedPages};
 use sp_relay::{KeptLayout, LayoutPart, UnswappedLayout};

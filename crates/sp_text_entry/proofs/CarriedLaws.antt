@@ -43,9 +43,9 @@ use Rattle.sp_compare.specs.BareRows.{AreLaid, Both}
 use Rattle.sp_compare.specs.Raised.{AreSegments, raises}
 use Rattle.sp_exchange.specs.Restoring.{CanRestoreText}
 use Rattle.sp_text_entry.specs.TextEntries.{TextEntryState, FitRecords, LeadsTextBack, displaced, undone_records, with_text}
-use Rattle.sp_firsts.specs.Firsts.{first_rows, key_starts}
+use Rattle.sp_made_parts.specs.Firsts.{first_rows, key_starts}
 use Rattle.sp_text_entry.specs.Raised.{AreCarried, CanCarry, FitPages, put_back_in, raises_in, records_carried, records_raised, state_before, with_pages}
-use Rattle.sp_firsts.proofs.FirstsLaws.{count-rows}
+use Rattle.sp_made_parts.proofs.FirstsLaws.{count-rows}
 use Rattle.sp_text_entry.proofs.RaisedLaws.{raises-distinct, raises-raised, raises-within}
 
 -- ---- a carried state is whole

@@ -19,7 +19,7 @@ use Rattle.sp_layout.specs.LaidOut.{LayoutOf, keyed}
 use Rattle.sp_relay.specs.Edited.{WasLaidOf}
 use Rattle.sp_relay.proofs.WindowLaws.{was-laid-put}
 use Rattle.sp_refill.specs.Edits.{IsOfEdit}
-use Rattle.sp_firsts.specs.Firsts.{IsLaidOf}
+use Rattle.sp_made_parts.specs.Firsts.{IsLaidOf}
 use Rattle.sp_text_entry.specs.Raised.{state_before}
 
 -- The layout of the text before an edit, by what the edit displaced of the stanzas.

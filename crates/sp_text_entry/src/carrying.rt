@@ -14,14 +14,14 @@ ghost use Rattle.sp_compare.specs.Raised.{AreSegments};
 ghost use Rattle.sp_elements.specs.Bodies.{row_count};
 ghost use Rattle.sp_relay.specs.Kept.{CanSwap, laid_of, with_part};
 ghost use Rattle.sp_relay.specs.Outside.{StaysOutside};
-ghost use Rattle.sp_firsts.specs.Firsts.{IsLaidOf, first_rows};
+ghost use Rattle.sp_made_parts.specs.Firsts.{IsLaidOf, first_rows};
 ghost use Rattle.sp_text_entry.specs.TextEntries.{had_by};
 ghost use Rattle.sp_text_entry.specs.Raised.{AreCarried, FitPages, put_back_in, raises_in, records_carried, records_raised, state_before};
 ghost use Rattle.sp_text_entry.specs.Relaid.{body_before};
 
 use sp_compare::{BothTexts, OldLines, raises};
-use sp_firsts::laid_firsts;
 use sp_locks::{carry, put_back};
+use sp_made_parts::laid_firsts;
 use sp_records::Records;
 use sp_relay::{KeptLayout, LayoutPart};
 use sp_text::{Displaced, Lines};

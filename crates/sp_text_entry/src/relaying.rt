@@ -8,7 +8,7 @@ ghost use Rattle.sp_exchange.specs.Restoring.{text_stanzas};
 ghost use Rattle.sp_relay.specs.Edited.{WasLaidOf};
 ghost use Rattle.sp_relay.specs.Kept.{CanSwap, HasPartRoom, laid_of, with_part};
 ghost use Rattle.sp_refill.specs.Edits.{IsOfEdit};
-ghost use Rattle.sp_firsts.specs.Firsts.{IsLaidOf, first_rows};
+ghost use Rattle.sp_made_parts.specs.Firsts.{IsLaidOf, first_rows};
 ghost use Rattle.sp_text_entry.specs.Raised.{AreCarried, FitPages, put_back_in, records_carried, records_raised, state_before};
 ghost use Rattle.sp_text_entry.specs.Relaid.{IsExchangeOf, IsSomeEditOf};
 

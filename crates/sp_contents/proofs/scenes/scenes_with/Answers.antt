@@ -1,7 +1,7 @@
 use Rattle.std.proofs.Common.{rules, sym, subst}
 use Rattle.spec_labels.specs.Scenes.{AreHeadings}
 use Rattle.spec_state.proofs.StateKeys.{text-headings}
-use Rattle.sp_made.proofs.SheetPlaces.{body-lie}
+use Rattle.sp_made_parts.proofs.MadeSheets.{body-lie}
 use Rattle.sp_entries.specs.Sheets.{AreInTurn}
 use Rattle.sp_entries.proofs.SheetFinds.{body-turn}
 use Rattle.sp_contents.proofs.scenes.scenes_with.Goals as goal

@@ -1,5 +1,5 @@
 use Rattle.std.proofs.Common.{sym, subst}
-use Rattle.sp_made.proofs.SheetPlaces.{body-lie}
+use Rattle.sp_made_parts.proofs.MadeSheets.{body-lie}
 use Rattle.sp_entries.specs.Sheets.{AreInTurn}
 use Rattle.sp_entries.proofs.SheetFinds.{body-turn}
 use Rattle.sp_contents.proofs.speeches.speech_sheets_of.Goals as goal

@@ -5,7 +5,7 @@ use Rattle.spec_script.specs.Stanzas.{PlacedBlock, blocks_from, blocks_of}
 use Rattle.spec_script.specs.Elements.{PlacedLies}
 use Rattle.spec_state.specs.Headings.{headings_of, heading_of, is_heading_block}
 use Rattle.sp_text.specs.Gap.{text_of}
-use Rattle.sp_made.proofs.MadeLaws.{blocks-lie, shows-same}
+use Rattle.sp_made_parts.proofs.MadePages.{blocks-lie, shows-same}
 use Rattle.sp_locking.proofs.locking.headings_by.Goals as goal
 
 pub headings_among-requires : goal.headings_among-requires

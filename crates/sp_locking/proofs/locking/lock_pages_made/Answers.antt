@@ -8,7 +8,7 @@ use Rattle.spec_machine.proofs.RefusalLaws.{pages-none}
 use Rattle.sp_elements.specs.Bodies.{row_count}
 use Rattle.sp_text.specs.Gap.{text_of}
 use Rattle.sp_relay.specs.Kept.{KeptOf}
-use Rattle.sp_made.specs.Made.{MadeOf}
+use Rattle.sp_made_parts.specs.Made.{MadeOf}
 use Rattle.sp_locking.proofs.OpeningMade.{full-answer, full-pages, made-AreSheets, made-within, none-map, pages-answer, rows-answer, some-map}
 use Rattle.sp_locking.proofs.locking.lock_pages_made.Goals as goal
 

@@ -5,7 +5,7 @@ use Rattle.spec_records.specs.Kept.{RecordsOf}
 use Rattle.spec_state.specs.Headings.{headings_of}
 use Rattle.sp_text.specs.Gap.{text_of}
 use Rattle.sp_relay.specs.Kept.{laid_of}
-use Rattle.sp_made.specs.Made.{MadeOf, NumberedOf}
+use Rattle.sp_made_parts.specs.Made.{MadeOf, NumberedOf}
 use Rattle.sp_locking.proofs.OpeningMade.{headings-can, lines-headings, scenes-answer, some-map}
 use Rattle.sp_locking.proofs.locking.lock_scenes_made.Goals as goal
 

@@ -2,7 +2,7 @@ use Rattle.std.proofs.Common.{◌≡◌, ℕ, List, ◌++◌, ap, ap₂, sym, �
 use Rattle.spec_state.specs.StateSheets.{layout_in, rows_in, locked_starts}
 use Rattle.sp_layout.specs.LaidOut.{LayoutOf}
 use Rattle.sp_relay.specs.Kept.{laid_of}
-use Rattle.sp_made.proofs.MadeLaws.{locked-keys}
+use Rattle.sp_made_parts.proofs.MadePages.{locked-keys}
 use Rattle.sp_made.proofs.StopsMade.{stops-made}
 use Rattle.sp_made.proofs.made.laid_stops.Goals as goal
 

@@ -12,7 +12,8 @@ use Rattle.sp_text.specs.Gap.{text_of}
 use Rattle.sp_scenes.specs.LineLabels.{line_labels}
 use Rattle.sp_numbers.specs.HeadingLines.{heading_lines}
 use Rattle.sp_numbers.proofs.LinesOfHeadings.{labels-of, length-heading_lines}
-use Rattle.sp_made.proofs.MadeLaws.{blocks-lie, labels-are}
+use Rattle.sp_made_parts.proofs.MadePages.{blocks-lie}
+use Rattle.sp_made.proofs.MadeLaws.{labels-are}
 use Rattle.sp_made.proofs.made.made_labels.Goals as goal
 
 pub heading_lines-requires : goal.heading_lines-requires

@@ -3,9 +3,9 @@ use Rattle.spec_state.specs.State.{State}
 use Rattle.spec_state.specs.Keeping.{state_of}
 use Rattle.spec_state.specs.StateSheets.{locked_starts, rows_in}
 use Rattle.sp_text.specs.Gap.{text_of}
-use Rattle.sp_firsts.specs.Firsts.{first_rows}
-use Rattle.sp_made.specs.Made.{MadeOf}
-use Rattle.sp_made.proofs.MadeLaws.{locked-keys, shows-same}
+use Rattle.sp_made_parts.specs.Firsts.{first_rows}
+use Rattle.sp_made_parts.specs.Made.{MadeOf}
+use Rattle.sp_made_parts.proofs.MadePages.{locked-keys, shows-same}
 use Rattle.sp_made.proofs.made.made_starts.Goals as goal
 
 pub laid_firsts-requires-clause-laid : goal.laid_firsts-requires-clause-laid

@@ -13,7 +13,7 @@ use Rattle.sp_layout.specs.LaidOut.{LayoutOf}
 use Rattle.sp_reflow.specs.Starts.{many_more}
 use Rattle.sp_reflow.specs.Filling.{FilledAtMost}
 use Rattle.sp_relay.specs.Kept.{laid_of}
-use Rattle.sp_made.proofs.MadeLaws.{same-shapes, shows-same}
+use Rattle.sp_made_parts.proofs.MadePages.{same-shapes, shows-same}
 use Rattle.sp_made.proofs.StopsMade.{filled-most, starts-of, stops-of}
 use Rattle.sp_made.proofs.made.make_pages.Goals as goal
 

@@ -7,9 +7,10 @@ use Rattle.spec_state.specs.StateSheets.{body_sheets, layout_in, keys_in}
 use Rattle.sp_text.specs.Gap.{text_of}
 use Rattle.sp_layout.specs.LaidOut.{LayoutOf}
 use Rattle.sp_relay.specs.Kept.{laid_of}
-use Rattle.sp_firsts.specs.Firsts.{key_starts}
-use Rattle.sp_made.specs.Made.{marked_or_locked}
-use Rattle.sp_made.proofs.MadeLaws.{asked-of, done-same, pages-are, sheets-made}
+use Rattle.sp_made_parts.specs.Firsts.{key_starts}
+use Rattle.sp_made_parts.specs.Made.{marked_or_locked}
+use Rattle.sp_made_parts.proofs.MadePages.{pages-are}
+use Rattle.sp_made.proofs.MadeLaws.{asked-of, done-same, sheets-made}
 use Rattle.sp_numbers.proofs.MarkedLaws.{rows-unmarked}
 use Rattle.sp_made.proofs.made.renew_body_sheets.Goals as goal
 

@@ -2,7 +2,7 @@ use Rattle.std.proofs.Common.{ℕ, List, ap, ap₂, sym, ◌∙◌}
 use Rattle.std.specs.Prelude.{option_map}
 use Rattle.spec_labels.specs.PageRecords.{PageRecordOf, sheets_of_records}
 use Rattle.sp_numbers.specs.Numbered.{marked_sheets}
-use Rattle.sp_made.specs.Made.{marked_or_locked}
+use Rattle.sp_made_parts.specs.Made.{marked_or_locked}
 use Rattle.sp_made.proofs.MadeLaws.{done-same}
 use Rattle.sp_made.proofs.made.renew_sheets_of_pages.Goals as goal
 

@@ -14,8 +14,8 @@ use Rattle.sp_text.specs.Gap.{text_of}
 use Rattle.sp_elements.specs.Bodies.{marks_in, shapes_in}
 use Rattle.sp_layout.specs.LaidOut.{LayoutOf}
 use Rattle.sp_relay.specs.Kept.{KeptOf, laid_of}
-use Rattle.sp_made.specs.declared.made.Numbered.TheInside.{Inside}
-use Rattle.sp_made.specs.Made.{NumberedOf}
+use Rattle.sp_made_parts.specs.declared.made.Numbered.TheInside.{Inside}
+use Rattle.sp_made_parts.specs.Made.{NumberedOf}
 use Rattle.sp_numbers.specs.Numbered.{marked_sheets, AreMovedOutside}
 use Rattle.sp_numbers.proofs.MarkedLaws.{rows-unmarked}
 use Rattle.sp_numbers.proofs.StaleSheets.{stale-same}

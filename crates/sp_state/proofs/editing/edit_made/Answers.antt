@@ -12,8 +12,8 @@ use Rattle.spec_reflow.specs.Windows.{Exchange}
 use Rattle.sp_text.specs.Changing.{edit_of}
 use Rattle.sp_text.specs.Gap.{text_of}
 use Rattle.sp_relay.specs.Kept.{laid_of, with_part}
-use Rattle.sp_firsts.specs.Firsts.{first_rows, laid_in}
-use Rattle.sp_made.specs.Made.{IsNumberedOf}
+use Rattle.sp_made_parts.specs.Firsts.{first_rows, laid_in}
+use Rattle.sp_made_parts.specs.Made.{IsNumberedOf}
 use Rattle.sp_numbers.specs.Locked.{AreSheetsBefore}
 use Rattle.sp_text_entry.specs.Relaid.{IsExchangeOf}
 use Rattle.sp_state.specs.Fills.{EditFills, EditFillsAtMost}

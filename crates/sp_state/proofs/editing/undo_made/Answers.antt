@@ -4,8 +4,8 @@ use Rattle.spec_state.specs.State.{State}
 use Rattle.spec_state.specs.Keeping.{state_of}
 use Rattle.sp_text.specs.Gap.{text_of}
 use Rattle.sp_relay.specs.Kept.{laid_of}
-use Rattle.sp_firsts.specs.Firsts.{laid_in}
-use Rattle.sp_made.specs.Made.{IsNumberedOf}
+use Rattle.sp_made_parts.specs.Firsts.{laid_in}
+use Rattle.sp_made_parts.specs.Made.{IsNumberedOf}
 use Rattle.sp_numbers.specs.Locked.{AreSheetsBefore}
 use Rattle.sp_text_entry.specs.TextEntries.{IsSameTextEntry, IsTextRedone}
 use Rattle.sp_state.specs.Entries.{EntryState, CanUndo, done_range, undone_state}

@@ -14,7 +14,7 @@ use Rattle.sp_layout.specs.LaidOut.{LayoutOf}
 use Rattle.sp_reflow.specs.Starts.{many_more}
 use Rattle.sp_reflow.specs.Filling.{FilledAtMost}
 use Rattle.sp_relay.specs.Kept.{laid_of}
-use Rattle.sp_made.proofs.MadeLaws.{same-shapes}
+use Rattle.sp_made_parts.proofs.MadePages.{same-shapes}
 use Rattle.sp_made.proofs.StopsMade.{filled-most, starts-of}
 use Rattle.sp_state.proofs.RefilledLaws.{stale-same, window-same}
 use Rattle.sp_state.proofs.turning.update_pages.Goals as goal

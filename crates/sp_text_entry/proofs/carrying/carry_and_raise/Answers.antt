@@ -11,7 +11,7 @@ use Rattle.sp_text.specs.Gap.{text_of}
 use Rattle.sp_elements.specs.Bodies.{KeyedElements}
 use Rattle.sp_layout.specs.LaidOut.{LayoutOf}
 use Rattle.sp_relay.specs.Kept.{laid_of}
-use Rattle.sp_firsts.specs.Firsts.{IsLaidOf, first_rows}
+use Rattle.sp_made_parts.specs.Firsts.{IsLaidOf, first_rows}
 use Rattle.sp_text_entry.specs.Raised.{state_before}
 use Rattle.sp_text_entry.specs.Relaid.{body_before}
 use Rattle.sp_text_entry.proofs.CarriedLaws.{before-segments, raised-firsts, raised-fit, raised-here, whole-few, whole-laid}

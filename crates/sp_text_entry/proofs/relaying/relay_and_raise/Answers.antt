@@ -12,7 +12,7 @@ use Rattle.sp_layout.specs.LaidOut.{LayoutOf, keyed}
 use Rattle.sp_relay.specs.Edited.{WasLaidOf}
 use Rattle.sp_relay.specs.Kept.{laid_of}
 use Rattle.sp_refill.specs.Edits.{AreAhead}
-use Rattle.sp_firsts.specs.Firsts.{IsLaidOf}
+use Rattle.sp_made_parts.specs.Firsts.{IsLaidOf}
 use Rattle.sp_text_entry.specs.Raised.{state_before}
 use Rattle.sp_text_entry.proofs.RelaidLaws.{body-now}
 use Rattle.sp_text_entry.proofs.relaying.relay_and_raise.Goals as goal

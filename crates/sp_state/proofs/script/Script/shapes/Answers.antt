@@ -5,8 +5,8 @@ use Rattle.spec_state.specs.State.{State}
 use Rattle.spec_state.specs.StateSheets.{rows_in}
 use Rattle.sp_text.specs.Gap.{text_of}
 use Rattle.sp_elements.specs.Bodies.{shapes_in}
-use Rattle.sp_made.proofs.MadeLaws.{same-shapes}
-use Rattle.sp_made.proofs.SheetPlaces.{body-made}
+use Rattle.sp_made_parts.proofs.MadePages.{same-shapes}
+use Rattle.sp_made_parts.proofs.MadeSheets.{body-made}
 use Rattle.sp_state.proofs.script.Script.shapes.Goals as goal
 
 pub returns : goal.returns

@@ -1,8 +1,8 @@
 use Rattle.std.proofs.Common.{◌≡◌, ℕ, take}
 use Rattle.std.specs.Prelude.{slice_range}
 use Rattle.sp_numbers.specs.HeadingIds.{IsHeadingFrom, heading_ids}
-use Rattle.sp_made.proofs.SameHeadings.{AreLeft, ids_left}
-use Rattle.sp_made.proofs.heading_rows.same_headings.Given as goal
+use Rattle.sp_numbers.proofs.SameHeadings.{AreLeft, ids_left}
+use Rattle.sp_numbers.proofs.heading_rows.same_headings.Given as goal
 
 abbrev pub invariant-loop-place : goal.invariant-loop-place
 invariant-loop-place l =

@@ -1,5 +1,5 @@
 use Rattle.std.proofs.Common.{rules}
-use Rattle.sp_made.proofs.made.firsts_stay.Goals as goal
+use Rattle.sp_numbers.proofs.stops.firsts_stay.Goals as goal
 
 pub returns-in-Some : goal.returns-in-Some
 returns-in-Some c = search rules

@@ -9,9 +9,9 @@ use Rattle.spec_state.proofs.StateKeys.{state-row_keys}
 use Rattle.sp_text.specs.Gap.{text_of}
 use Rattle.sp_layout.specs.LaidOut.{LayoutOf}
 use Rattle.sp_relay.specs.Kept.{laid_of}
-use Rattle.sp_firsts.specs.Firsts.{key_starts}
-use Rattle.sp_firsts.proofs.FirstsLaws.{anchored}
-use Rattle.sp_firsts.proofs.firsts.laid_firsts.Goals as goal
+use Rattle.sp_made_parts.specs.Firsts.{key_starts}
+use Rattle.sp_made_parts.proofs.FirstsLaws.{anchored}
+use Rattle.sp_made_parts.proofs.firsts.laid_firsts.Goals as goal
 
 pub record_starts-requires : goal.record_starts-requires
 record_starts-requires c =

@@ -3,9 +3,9 @@ use Rattle.std.specs.Prelude.{IsTrue, slice_range}
 use Rattle.std.proofs.lemmas.Bool.{eq-eqb, eqb-true, true≢false}
 use Rattle.spec_pages.specs.Pages.{begins_heading}
 use Rattle.sp_numbers.specs.HeadingIds.{IsHeadingFrom, heading_ids}
-use Rattle.sp_made.proofs.SameHeadings.{AreLeft, below, ids_left, ids-next, ids-run, left-end, left-heading, left-other, left-over, left-plain, same-lines, same-till, till-inside, till-over, till-read}
-use Rattle.sp_made.proofs.heading_rows.same_headings.Goals as goal
-use Rattle.sp_made.proofs.heading_rows.same_headings.Goals.{then-next-len-via-then-next-len, then-next-len-via-else-next-len+then-at, then-begins_heading+else-next-len+else-at, else-begins_heading}
+use Rattle.sp_numbers.proofs.SameHeadings.{AreLeft, below, ids_left, ids-next, ids-run, left-end, left-heading, left-other, left-over, left-plain, same-lines, same-till, till-inside, till-over, till-read}
+use Rattle.sp_numbers.proofs.heading_rows.same_headings.Goals as goal
+use Rattle.sp_numbers.proofs.heading_rows.same_headings.Goals.{then-next-len-via-then-next-len, then-next-len-via-else-next-len+then-at, then-begins_heading+else-next-len+else-at, else-begins_heading}
 
 pub loop-place-init : goal.loop-place-init
 loop-place-init c =

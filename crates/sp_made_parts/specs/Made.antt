@@ -1,18 +1,15 @@
 -- What is made of a state.
-use Rattle.std.specs.Prelude.{◌≡◌, ℕ, ◌<◌, ◌≤◌, All, AllPairs, IsPermutation, IfSome, List, length, Option, Some, None}
+use Rattle.std.specs.Prelude.{◌≡◌, ℕ, List, Option, Some, None}
 use Rattle.spec_pages.specs.Rows.{ElementOf}
 use Rattle.spec_labels.specs.Labels.{LabelOf}
 use Rattle.spec_labels.specs.PageRecords.{PageRecordOf, SheetOf, sheets_of_records}
 use Rattle.spec_state.specs.State.{State}
-use Rattle.sp_elements.specs.Bodies.{row_count, marks_in}
-use Rattle.sp_firsts.specs.Firsts.{IsLaidOf}
-use Rattle.sp_layout.specs.LaidOut.{LayoutOf}
-use Rattle.sp_numbers.specs.Locked.{LockedSheets}
-use Rattle.sp_numbers.specs.Numbered.{marked_sheets}
 use Rattle.spec_state.specs.Headings.{heading_labels}
-use Rattle.spec_state.specs.StateSheets.{rows_in, title_starts, body_sheets}
-use Rattle.spec_reflow.specs.Windows.{AreStops}
-use Rattle.spec_refill.specs.Exchanges.{stops_in}
+use Rattle.spec_state.specs.StateSheets.{title_starts, body_sheets}
+use Rattle.sp_elements.specs.Bodies.{row_count, marks_in}
+use Rattle.sp_layout.specs.LaidOut.{LayoutOf}
+use Rattle.sp_numbers.specs.Numbered.{marked_sheets}
+use Rattle.sp_made_parts.specs.Firsts.{IsLaidOf}
 
 -- The labels of its headings, the first rows of its title sheets, and its other sheets.
 pub record NumberedOf : Type 0 where
@@ -35,23 +32,7 @@ pub record IsMadeOf (state : State) (it : MadeOf) : Type 0 where
   pub layout : IsLaidOf state it.layout
   pub numbered : IsNumberedOf state it.numbered
 
--- Page starts rise, are rows, and are few.
-pub record AreFewPages (rows : ℕ) (pages : List ℕ) : Type 0 where
-  pub rising : AllPairs (λ (one other : ℕ). one < other) pages
-  pub within : All (λ (page : ℕ). page < rows) pages
-  pub few : length pages ≤ 16777216
-
--- What the sheets of elements on these pages ask for.
-pub record AskedOfPages {V : Type 0} (items : V → List PageRecordOf) (elements : List ElementOf) (records : Option V) (starts pages : List ℕ) : Type 0 where
-  pub are : AreFewPages (row_count elements) pages
-  pub locked : IfSome records (λ those. LockedSheets (row_count elements) (items those) starts pages)
-
 -- The sheets of elements on these pages: those of page records, or numbered ones by the marks of rows.
 abbrev pub marked_or_locked : List ElementOf → Option (List PageRecordOf) → List ℕ → List ℕ → List SheetOf
 marked_or_locked elements None starts pages = marked_sheets (marks_in elements) 1 pages
 marked_or_locked elements (Some records) starts pages = sheets_of_records (row_count elements) records starts pages
-
--- Stops of a state, in order: its page breaks and the first rows of its page records.
-pub record AreStopsOf (state : State) (stops : List ℕ) : Type 0 where
-  pub same : IsPermutation (stops_in state) stops
-  pub are : AreStops (length (rows_in state)) stops

@@ -4,7 +4,7 @@ ghost use Rattle.spec_labels.specs.PageRecords.{AreAnchored};
 ghost use Rattle.spec_state.specs.Keeping.{IsWhole, state_of};
 ghost use Rattle.sp_text.specs.Gap.{text_of};
 ghost use Rattle.sp_relay.specs.Kept.{laid_of};
-ghost use Rattle.sp_firsts.specs.Firsts.{IsLaidOf, first_rows, key_starts};
+ghost use Rattle.sp_made_parts.specs.Firsts.{IsLaidOf, first_rows, key_starts};
 
 use sp_locks::{PageRecord, RowKey, starts};
 use sp_records::Records;

@@ -1,0 +1,3 @@
+pub mod FirstsLaws
+pub mod MadePages
+pub mod MadeSheets
