@@ -1,9 +1,10 @@
 //! A case as text: what a program is run on, and what has to come of it; and what is told where something else comes of it.
 #![tactic(auto)]
 
-mod case;
+mod bytes;
 mod compare;
 mod faults;
+mod lines;
 mod packets;
 mod ran;
 mod turns;

@@ -1,22 +1,10 @@
 //! Cases of packets.
-use crate::case::{Case, case_of};
+use crate::bytes::written_of;
 use crate::faults::Faults;
-use crate::ran::{Program, kept, ran_over, shelf_of, store};
+use crate::lines::first_of;
+use crate::ran::{Program, kept, ran_over, shelf_of, store, written};
 use sp_kit::MemoryShelf;
 use std::alloc::{AllocError, Global};
-
-/// What a run writes over what the shelf has.
-fn written<P: Program>(
-    program: &P,
-    alloc: Global,
-    text: &str,
-    shelf: &mut MemoryShelf,
-) -> Result<Vec<u8>, AllocError> {
-    let case = case_of(alloc, text)?;
-    ran_over(program, alloc, &case, shelf)?
-        .written
-        .to_vec(alloc)
-}
 
 /// Keeps under a name what a run writes over what the shelf has.
 fn keep<P: Program>(
@@ -34,17 +22,18 @@ fn keep<P: Program>(
 fn compare_replies<P: Program>(
     program: &P,
     alloc: Global,
-    case: &Case,
+    text: &str,
     shelf: &mut MemoryShelf,
     faults: &mut Faults,
 ) -> Result<(), AllocError> {
-    let command = &case.command;
+    let command = first_of(text, b'.');
     let session = format!(in alloc;
         "$desk f\n>{command}\n>{{\"do\":\"save\"}}\n>{{\"do\":\"packet\"}}"
     )?;
     let replies = written(program, alloc, session.as_str(), shelf)?;
-    if !replies.ends_with(&case.written) {
-        faults.tell("wrote", &replies, &case.written)?;
+    let expected = written_of(alloc, text)?;
+    if !replies.ends_with(&expected) {
+        faults.tell("wrote", &replies, &expected)?;
     }
     Ok(())
 }
@@ -70,13 +59,13 @@ fn compare_collated<P: Program>(
 pub fn compare_packet<P: Program>(
     program: &P,
     alloc: Global,
-    case: &Case,
+    text: &str,
     faults: &mut Faults,
 ) -> Result<(), AllocError> {
-    let mut shelf = shelf_of(alloc, case)?;
-    ran_over(program, alloc, case, &mut shelf)?;
+    let mut shelf = shelf_of(alloc, text)?;
+    ran_over(program, alloc, text, &mut shelf)?;
     keep(program, alloc, "$print f", "old", &mut shelf)?;
-    compare_replies(program, alloc, case, &mut shelf, faults)?;
+    compare_replies(program, alloc, text, &mut shelf, faults)?;
     keep(program, alloc, "$packet f", "new", &mut shelf)?;
     compare_collated(program, alloc, &mut shelf, faults)
 }

@@ -1,8 +1,21 @@
 //! A case that is run.
-use crate::case::{Case, MOST};
+use crate::bytes::{said, written_of};
 use crate::faults::Faults;
+use crate::lines::{first_of, has, line_of, status_of};
 use sp_kit::{Counter, Fetched, MemoryShelf, MemorySink, MemorySource, Shelf};
 use std::alloc::{AllocError, Global};
+
+/// More than any call asks for.
+const MOST: usize = 1 << 30;
+
+/// The kinds of lines that say what stands under `f`, under `f.desk`, under `g`, and what the source has.
+const SCRIPT: &[u8] = b"|(^";
+
+const RECORDS: &[u8] = b"@";
+
+const OTHER: &[u8] = b"&'";
+
+const COMMANDS: &[u8] = b">)\"";
 
 /// What is run on cases.
 pub trait Program {
@@ -27,40 +40,85 @@ pub fn store(shelf: &mut MemoryShelf, name: &str, bytes: &[u8]) -> Result<(), Al
     }
 }
 
-/// Stores bytes of a case where there are any.
-fn store_any(shelf: &mut MemoryShelf, name: &str, bytes: &[u8]) -> Result<(), AllocError> {
-    if bytes.is_empty() {
-        return Ok(());
-    }
-    store(shelf, name, bytes)
-}
-
 /// How many files a case begins with.
-fn files_of(case: &Case) -> u64 {
-    u64::from(!case.is_missing)
-        + u64::from(!case.records.is_empty())
-        + u64::from(!case.other.is_empty())
+fn file_count(text: &str) -> u64 {
+    let mut count: u64 = 0;
+    if !has(text, b"-") {
+        count = count.saturating_add(1);
+    }
+    if has(text, RECORDS) {
+        count = count.saturating_add(1);
+    }
+    if has(text, OTHER) {
+        count = count.saturating_add(1);
+    }
+    count
 }
 
-/// The calls of the shelf that fail, those counted that store the files of a case.
-fn shelf_fails_of(alloc: Global, case: &Case) -> Result<Vec<u64>, AllocError> {
-    let files = files_of(case);
+/// The calls that fail of the source, the sink or the shelf, by its letter, `before` of which come before the run.
+fn fails_of(alloc: Global, text: &str, letter: u8, before: u64) -> Result<Vec<u64>, AllocError> {
     let mut fails = Vec::new(alloc);
-    for call in &case.shelf_fails {
-        fails.push(call.saturating_add(files))?;
+    for line in text.split('\n') {
+        let it = line_of(line);
+        if it.kind == b'!' && it.rest.as_bytes().first() == Some(&letter) {
+            let call = it.rest.get(1..).unwrap_or("").parse().unwrap_or(0);
+            fails.push(before.saturating_add(call))?;
+        }
     }
     Ok(fails)
 }
 
 /// A shelf with the files of a case, whose calls fail as the case says.
-pub fn shelf_of(alloc: Global, case: &Case) -> Result<MemoryShelf, AllocError> {
-    let mut shelf = MemoryShelf::new(alloc, shelf_fails_of(alloc, case)?);
-    if !case.is_missing {
-        store(&mut shelf, "f", &case.script)?;
+pub fn shelf_of(alloc: Global, text: &str) -> Result<MemoryShelf, AllocError> {
+    let fails = fails_of(alloc, text, b's', file_count(text))?;
+    let mut shelf = MemoryShelf::new(alloc, fails);
+    if !has(text, b"-") {
+        store(&mut shelf, "f", &said(alloc, text, SCRIPT)?)?;
     }
-    store_any(&mut shelf, "f.desk", &case.records)?;
-    store_any(&mut shelf, "g", &case.other)?;
+    if has(text, RECORDS) {
+        store(&mut shelf, "f.desk", &said(alloc, text, RECORDS)?)?;
+    }
+    if has(text, OTHER) {
+        store(&mut shelf, "g", &said(alloc, text, OTHER)?)?;
+    }
     Ok(shelf)
+}
+
+/// The words of a case.
+fn words_of(alloc: Global, text: &str) -> Result<Vec<String>, AllocError> {
+    let line = if has(text, b"$") {
+        first_of(text, b'$')
+    } else {
+        "print"
+    };
+    let mut words = Vec::new(alloc);
+    for word in line.split(' ') {
+        words.push(String::from_str(alloc, word)?)?;
+    }
+    Ok(words)
+}
+
+/// How many bytes a call of the source gives, or one of the sink takes.
+fn piece_of(text: &str) -> usize {
+    first_of(text, b'%').parse().unwrap_or(MOST)
+}
+
+/// The source of a case: its commands, or its script where it has none.
+fn source_of(alloc: Global, text: &str) -> Result<MemorySource, AllocError> {
+    let kinds = if has(text, COMMANDS) {
+        COMMANDS
+    } else {
+        SCRIPT
+    };
+    let bytes = said(alloc, text, kinds)?;
+    let fails = fails_of(alloc, text, b'i', 0)?;
+    Ok(MemorySource::new(bytes, piece_of(text).max(1), fails))
+}
+
+/// The sink of a case.
+fn sink_of(alloc: Global, text: &str) -> Result<MemorySink, AllocError> {
+    let fails = fails_of(alloc, text, b'o', 0)?;
+    MemorySink::new(alloc, 1 << 25, piece_of(text).max(1), fails)
 }
 
 /// What a run told, wrote and counted.
@@ -79,24 +137,6 @@ impl Drop for Outcome {
             counts: _counts,
         } = self;
     }
-}
-
-/// The source of a case: its commands, or its script where it has none.
-fn source_of(alloc: Global, case: &Case) -> Result<MemorySource, AllocError> {
-    let bytes = if case.commands.is_empty() {
-        &case.script
-    } else {
-        &case.commands
-    };
-    let bytes = bytes.to_vec(alloc)?;
-    let fails = case.input_fails.to_vec(alloc)?;
-    Ok(MemorySource::new(bytes, case.piece.max(1), fails))
-}
-
-/// The sink of a case.
-fn sink_of(alloc: Global, case: &Case) -> Result<MemorySink, AllocError> {
-    let fails = case.output_fails.to_vec(alloc)?;
-    MemorySink::new(alloc, 1 << 25, case.piece.max(1), fails)
 }
 
 /// What came of a run that told this.
@@ -119,27 +159,31 @@ fn outcome_of(
 pub fn ran_over<P: Program>(
     program: &P,
     alloc: Global,
-    case: &Case,
+    text: &str,
     shelf: &mut MemoryShelf,
 ) -> Result<Outcome, AllocError> {
-    let mut input = source_of(alloc, case)?;
-    let mut output = sink_of(alloc, case)?;
+    let words = words_of(alloc, text)?;
+    let mut input = source_of(alloc, text)?;
+    let mut output = sink_of(alloc, text)?;
     let mut steps = Counter::new();
-    let told = program.run(
-        alloc,
-        &case.words,
-        &mut input,
-        &mut output,
-        shelf,
-        &mut steps,
-    )?;
+    let told = program.run(alloc, &words, &mut input, &mut output, shelf, &mut steps)?;
     outcome_of(alloc, told, &output, &steps)
 }
 
 /// Runs the program on a case.
-pub fn ran<P: Program>(program: &P, alloc: Global, case: &Case) -> Result<Outcome, AllocError> {
-    let mut shelf = shelf_of(alloc, case)?;
-    ran_over(program, alloc, case, &mut shelf)
+pub fn ran<P: Program>(program: &P, alloc: Global, text: &str) -> Result<Outcome, AllocError> {
+    let mut shelf = shelf_of(alloc, text)?;
+    ran_over(program, alloc, text, &mut shelf)
+}
+
+/// What a run writes over a shelf that stands already.
+pub fn written<P: Program>(
+    program: &P,
+    alloc: Global,
+    text: &str,
+    shelf: &mut MemoryShelf,
+) -> Result<Vec<u8>, AllocError> {
+    ran_over(program, alloc, text, shelf)?.written.to_vec(alloc)
 }
 
 /// What the shelf has under a name; nothing where it has none.
@@ -150,41 +194,53 @@ pub fn kept(alloc: Global, shelf: &mut MemoryShelf, name: &str) -> Result<Vec<u8
     }
 }
 
-/// Compares what the shelf has under a name with what it has to, where that is said.
+/// Compares what the shelf has under a name with what the lines of a kind say, where there are any.
 fn compare_kept(
     alloc: Global,
+    text: &str,
+    kinds: &[u8],
     shelf: &mut MemoryShelf,
     name: &str,
-    bytes: &[u8],
     faults: &mut Faults,
 ) -> Result<(), AllocError> {
-    if !bytes.is_empty() {
-        faults.compare(name, &kept(alloc, shelf, name)?, bytes)?;
+    if has(text, kinds) {
+        let bytes = said(alloc, text, kinds)?;
+        faults.compare(name, &kept(alloc, shelf, name)?, &bytes)?;
     }
     Ok(())
 }
 
 /// Compares what a run told, counted and wrote with what it has to.
-fn compare_outcome(case: &Case, it: &Outcome, faults: &mut Faults) -> Result<(), AllocError> {
-    if !it.told.starts_with(case.status.as_str()) {
-        faults.tell("told", it.told.as_bytes(), case.status.as_bytes())?;
+fn compare_outcome(
+    alloc: Global,
+    text: &str,
+    it: &Outcome,
+    faults: &mut Faults,
+) -> Result<(), AllocError> {
+    let status = status_of(alloc, first_of(text, b'?'))?;
+    if !it.told.starts_with(status.as_str()) {
+        faults.tell("told", it.told.as_bytes(), status.as_bytes())?;
     }
-    if !case.counts.is_empty() {
-        faults.compare("counted", it.counts.as_bytes(), case.counts.as_bytes())?;
+    if has(text, b";") {
+        faults.compare(
+            "counted",
+            it.counts.as_bytes(),
+            first_of(text, b';').as_bytes(),
+        )?;
     }
-    faults.compare("wrote", &it.written, &case.written)
+    faults.compare("wrote", &it.written, &written_of(alloc, text)?)
 }
 
 /// Runs the program on a case, and compares what comes of it with what has to.
 pub fn compare_run<P: Program>(
     program: &P,
     alloc: Global,
-    case: &Case,
+    text: &str,
     faults: &mut Faults,
 ) -> Result<(), AllocError> {
-    let mut shelf = shelf_of(alloc, case)?;
-    let it = ran_over(program, alloc, case, &mut shelf)?;
-    compare_outcome(case, &it, faults)?;
-    compare_kept(alloc, &mut shelf, "f", &case.script_kept, faults)?;
-    compare_kept(alloc, &mut shelf, "f.desk", &case.records_kept, faults)
+    let mut shelf = shelf_of(alloc, text)?;
+    let it = ran_over(program, alloc, text, &mut shelf)?;
+    compare_outcome(alloc, text, &it, faults)?;
+    compare_kept(alloc, text, b"=", &mut shelf, "f", faults)?;
+    compare_kept(alloc, text, b"~", &mut shelf, "f.desk", faults)
 }
