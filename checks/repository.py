@@ -14,7 +14,7 @@ MOST_LINES = 800
 # How many edits that must fail a crate of the program has at least; not those that are tests alone, or types without a function.
 LEAST_EDITS = 3
 NO_EDITS = ("sp_case", "sp_cases", "sp_commands")
-# Crates of the program that have none: what theirs would try is a call of a smaller crate below (docs/DECISIONS.md).
+# Crates of the program that have none: what theirs would try is a call of a smaller crate below, for most (docs/DECISIONS.md).
 TRIED_BELOW = (
     "sp_block_values",
     "sp_blocks",

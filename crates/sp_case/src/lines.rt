@@ -3,8 +3,8 @@
 //! A case says what the program is run on, and what has to come of it, in lines of text. What a line is its first character says:
 //!
 //! - `$` words, between spaces; without it the words are `print`;
-//! - `|` a line of the script, which stands under `f`, and is what the source has where there is no `>`; `-` where nothing
-//!   stands under `f`;
+//! - `|` a line of the script, which stands under `f`, and is what the source has where no line says that; `-` where nothing stands
+//!   under `f`;
 //! - `(` a line of the script, `)` one of the source, of a text so many times, as `3*a`;
 //! - `^` bytes of the script, `"` of the source, `'` of the file under `g`, without an end of a line; each character is the byte of its
 //!   number;
@@ -21,10 +21,11 @@
 //! - `/` the number of a status and its line, which tell of the script that is left beside its record file, cut anywhere but at the
 //!   last line feed;
 //! - `.` a command that is done over the files that are left, before a save and `packet`: `<` are then the last lines of that
-//!   session, and the packet has to bring the sheets up to date.
+//!   session, and the packet has to bring the sheets up to date; status, counts and files are not compared.
 //!
-//! Any other line is a remark. A number with `*` before a line stands for so many of it. In what is written `[n]` stands for n
-//! spaces, but `[0]` for itself. In any line `\u{n}` stands for the character of the hexadecimal number n.
+//! Any other line is a remark. Of the lines of `$`, `%`, `?`, `;`, `/` and `.` the first holds. A number with `*` before a line stands for
+//! so many of it, from 1. In what is written `[n]` stands for n spaces, but `[0]` for itself. In any line `\u{n}` stands for the character
+//! of the hexadecimal number n.
 use std::alloc::{AllocError, Global};
 
 /// A line of a case: how often it stands there, its kind, and what stands behind that.

@@ -8,13 +8,16 @@ use std::alloc::{AllocError, Global};
 /// More than any call asks for.
 const MOST: usize = 1 << 30;
 
-/// The kinds of lines that say what stands under `f`, under `f.desk`, under `g`, and what the source has.
+/// The kinds of lines that say what stands under `f`.
 const SCRIPT: &[u8] = b"|(^";
 
+/// Those that say what stands under `f.desk`.
 const RECORDS: &[u8] = b"@";
 
+/// Those that say what stands under `g`.
 const OTHER: &[u8] = b"&'";
 
+/// Those that say what the source has.
 const COMMANDS: &[u8] = b">)\"";
 
 /// What is run on cases.
@@ -55,12 +58,21 @@ fn file_count(text: &str) -> u64 {
     count
 }
 
-/// The calls that fail of the source, the sink or the shelf, by its letter, `before` of which come before the run.
+/// What a call that fails is of: `i` of the source, `o` of the sink, else `s` of the shelf.
+fn letter_of(rest: &str) -> u8 {
+    match rest.as_bytes().first() {
+        Some(b'i') => b'i',
+        Some(b'o') => b'o',
+        _ => b's',
+    }
+}
+
+/// The calls that fail of the source, the sink or the shelf, by its letter. So many calls come before the run as `before`.
 fn fails_of(alloc: Global, text: &str, letter: u8, before: u64) -> Result<Vec<u64>, AllocError> {
     let mut fails = Vec::new(alloc);
     for line in text.split('\n') {
         let it = line_of(line);
-        if it.kind == b'!' && it.rest.as_bytes().first() == Some(&letter) {
+        if it.kind == b'!' && letter_of(it.rest) == letter {
             let call = it.rest.get(1..).unwrap_or("").parse().unwrap_or(0);
             fails.push(before.saturating_add(call))?;
         }

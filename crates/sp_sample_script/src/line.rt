@@ -1,5 +1,5 @@
 //! The line that tells of a sample.
-ghost use Rattle.std.specs.Prelude.{◌≡◌, IfOk, string_bytes};
+ghost use Rattle.std.specs.Prelude.{◌≡◌, IfOk};
 ghost use Rattle.spec_sample.specs.Sample.{told_line};
 
 use crate::numbers::add_numbered;

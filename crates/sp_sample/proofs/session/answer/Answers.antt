@@ -1,4 +1,4 @@
-use Rattle.std.proofs.Common.{rules, ap}
+use Rattle.std.proofs.Common.{ap}
 use Rattle.spec_machine.specs.Answers.{Step}
 use Rattle.sp_commands.specs.declared.reply.Reply.{Reply}
 use Rattle.sp_commands.specs.Values.{command_of}
@@ -33,12 +33,3 @@ returns-clause-reads_at_most g c =
 pub returns-clause-fills_at_most : goal.returns-clause-fills_at_most
 returns-clause-fills_at_most g c =
     lacking-fills Reply DeskFault c.args.desk.now (command_of c.args.command) c.in-Err-NoMemory.field-0 (g.S.Steps.fills c.args.steps.now) (g.S.Steps.fills c.apply.new.steps) c.in-Err-NoMemory.ensures.fills
-
-pub returns-clause-memory : goal.returns-clause-memory
-returns-clause-memory g c = search rules
-
-pub returns-clause-reads : goal.returns-clause-reads
-returns-clause-reads g c = search rules
-
-pub returns-clause-fills : goal.returns-clause-fills
-returns-clause-fills g c = search rules
