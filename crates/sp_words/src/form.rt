@@ -45,69 +45,6 @@ pub enum Form<'a> {
     Collate(&'a str, &'a str),
 }
 
-/// Whether the word is `print`.
-fn is_print(word: &str) -> bool
-    ensures { result ≡ bytes_eq word.now (codes "print") }
-{
-    word == "print"
-}
-
-/// Whether the word is `outline`.
-fn is_outline(word: &str) -> bool
-    ensures { result ≡ bytes_eq word.now (codes "outline") }
-{
-    word == "outline"
-}
-
-/// Whether the word is `desk`.
-fn is_desk(word: &str) -> bool
-    ensures { result ≡ bytes_eq word.now (codes "desk") }
-{
-    word == "desk"
-}
-
-/// Whether the word is `room`.
-fn is_room(word: &str) -> bool
-    ensures { result ≡ bytes_eq word.now (codes "room") }
-{
-    word == "room"
-}
-
-/// Whether the word is `sample`.
-fn is_sample(word: &str) -> bool
-    ensures { result ≡ bytes_eq word.now (codes "sample") }
-{
-    word == "sample"
-}
-
-/// Whether the word is `html`.
-fn is_html(word: &str) -> bool
-    ensures { result ≡ bytes_eq word.now (codes "html") }
-{
-    word == "html"
-}
-
-/// Whether the word is `collate`.
-fn is_collate(word: &str) -> bool
-    ensures { result ≡ bytes_eq word.now (codes "collate") }
-{
-    word == "collate"
-}
-
-/// Whether the word is `cast`.
-fn is_cast(word: &str) -> bool
-    ensures { result ≡ bytes_eq word.now (codes "cast") }
-{
-    word == "cast"
-}
-
-/// Whether the word is `packet`.
-fn is_packet(word: &str) -> bool
-    ensures { result ≡ bytes_eq word.now (codes "packet") }
-{
-    word == "packet"
-}
-
 /// Whether a sample may have so many rooms, and the word is this number in decimal.
 fn is_rooms(rooms: u32, word: &str) -> bool
     ensures { result ≡ is_rooms rooms word.now }
@@ -142,21 +79,21 @@ fn form_with<'a>(word: &str, name: &'a str) -> Option<Form<'a>>
     ensures asked { option_map asked_of result ≡ asked_with word.now name.now }
     ensures rooms { IfSome result KeepsRooms }
 {
-    if is_print(word) {
+    if word == "print" {
         Some(Form::Show(View::Sheets, Origin::File(name)))
-    } else if is_outline(word) {
+    } else if word == "outline" {
         Some(Form::Show(View::Outline, Origin::File(name)))
-    } else if is_desk(word) {
+    } else if word == "desk" {
         Some(Form::Desk(name))
-    } else if is_sample(word) {
+    } else if word == "sample" {
         sample_form(name)
-    } else if is_html(word) {
+    } else if word == "html" {
         Some(Form::Show(View::Html, Origin::File(name)))
-    } else if is_cast(word) {
+    } else if word == "cast" {
         Some(Form::Show(View::Cast, Origin::File(name)))
-    } else if is_packet(word) {
+    } else if word == "packet" {
         Some(Form::Show(View::Packet, Origin::File(name)))
-    } else if is_room(word) {
+    } else if word == "room" {
         Some(Form::Room(name))
     } else {
         None
@@ -169,9 +106,9 @@ pub fn form_of(words: &[String]) -> Option<Form<'_>>
     ensures rooms { IfSome result KeepsRooms }
 {
     match words {
-        [word] if is_print(word.as_str()) => Some(Form::Show(View::Sheets, Origin::Source)),
+        [word] if word.as_str() == "print" => Some(Form::Show(View::Sheets, Origin::Source)),
         [word, name] => form_with(word.as_str(), name.as_str()),
-        [word, old, new] if is_collate(word.as_str()) => {
+        [word, old, new] if word.as_str() == "collate" => {
             Some(Form::Collate(old.as_str(), new.as_str()))
         }
         _ => None,
