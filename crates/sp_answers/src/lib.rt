@@ -7,4 +7,4 @@ mod sheets;
 
 pub use blocks::{block_replies, first_text, written_number};
 pub use rounds::round_name;
-pub use sheets::{scene_label_text, sheet_label, sheet_label_text, sheet_reply};
+pub use sheets::{sheet_label, sheet_label_text, sheet_reply};

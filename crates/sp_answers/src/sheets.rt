@@ -1,7 +1,6 @@
 //! A sheet and its label, as replies tell them.
 ghost use Rattle.std.specs.Prelude.{◌≡◌, string_bytes, IfOk};
 ghost use Rattle.std.specs.Str.{IsUtf8};
-ghost use Rattle.spec_labels.specs.Labels.{label_text};
 ghost use Rattle.spec_print.specs.Sheets.{sheet_bytes, sheet_label_text};
 ghost use Rattle.spec_machine.specs.Answers.{label_of_sheet, sheet_reply};
 ghost use Rattle.sp_views.specs.Views.{label_of};
@@ -9,21 +8,9 @@ ghost use Rattle.sp_commands.specs.Values.{reply_of};
 
 use sp_commands::Reply;
 use sp_kit::GrowingSink;
-use sp_labels::{Label, write};
 use sp_print::{PageView, print_sheet, write_sheet_label};
 use sp_views::SheetLabel;
 use std::alloc::{AllocError, Global};
-
-/// A scene number as it is written (docs/RULES.md, "Labels"). `AllocError` comes for want of memory alone.
-pub fn scene_label_text(alloc: Global, label: &Label) -> Result<String, AllocError>
-    ensures { IfOk result (λ text. string_bytes text ≡ label_text label.now) }
-{
-    let mut sink = GrowingSink::new(alloc);
-    match write(label, &mut sink) {
-        Ok(()) => Ok(sink.into_text()),
-        Err(_) => Err(AllocError),
-    }
-}
 
 /// The label of a sheet as it is written, without its full stop (docs/RULES.md, "Sheets"). `AllocError` comes for want of
 /// memory alone.

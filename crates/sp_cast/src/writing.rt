@@ -9,8 +9,7 @@ use crate::groups::{Group, by_name, by_scene};
 use crate::keys::label_key;
 use crate::speech::Said;
 use indexmap::IndexSet;
-use sp_answers::scene_label_text;
-use sp_labels::Label;
+use sp_labels::{Label, label_text};
 use std::alloc::{AllocError, Global};
 
 /// The sides: for each name, in order of first speech, the name and the scenes in which it speaks, each with the number of
@@ -81,7 +80,7 @@ fn scene_text(alloc: Global, scene: &Option<Label>) -> Result<String, AllocError
     ensures { IfOk result (λ text. string_bytes text ≡ scene_text scene.now) }
 {
     match scene {
-        Some(label) => scene_label_text(alloc, label),
+        Some(label) => label_text(alloc, label),
         None => String::from_str(alloc, "-"),
     }
 }
@@ -95,7 +94,7 @@ fn sheet_texts(alloc: Global, group: &Group<'_>) -> Result<Vec<String>, AllocErr
     for spoken in &group.spoken {
         let said = spoken.said;
         if sheets.insert(label_key(&said.sheet))? {
-            texts.push(scene_label_text(alloc, &said.sheet)?)?;
+            texts.push(label_text(alloc, &said.sheet)?)?;
         }
     }
     Ok(texts)

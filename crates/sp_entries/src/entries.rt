@@ -10,9 +10,9 @@ ghost use Rattle.sp_outline.specs.Entries.{entry_of};
 ghost use Rattle.sp_entries.specs.Walks.{AddsBlock, IsAbove, IsWalked, label_at, omitted_of};
 
 use crate::scenes::Scenes;
-use sp_answers::{first_text, scene_label_text, written_number};
+use sp_answers::{first_text, written_number};
 use sp_block_values::{Kind, PlacedBlock};
-use sp_labels::{Label, compare};
+use sp_labels::{Label, compare, label_text};
 use sp_outline::Entry;
 use sp_text::Lines;
 use std::alloc::{AllocError, Global};
@@ -79,7 +79,7 @@ fn add_gone(alloc: Global, entries: &mut Vec<Entry>, gone: &[Label]) -> Result<(
     ensures { OnOk result (map entry_of entries.new.items ≡ map entry_of entries.old.items ++ map omitted_of gone.now) }
 {
     for gone_label in gone {
-        let label = scene_label_text(alloc, gone_label)?;
+        let label = label_text(alloc, gone_label)?;
         entries.push(Entry::Omitted { label })?;
     }
     Ok(())
@@ -102,7 +102,7 @@ fn scene_number(
             return Ok(number);
         }
     }
-    scene_label_text(alloc, &scenes.labels[i])
+    label_text(alloc, &scenes.labels[i])
 }
 
 /// A copy of the text at a place; an empty one where there is none.

@@ -13,4 +13,4 @@ pub use insertion::between;
 pub use label::{Label, compare};
 pub use reading::parse;
 pub use width::columns;
-pub use writing::write;
+pub use writing::{label_text, write};

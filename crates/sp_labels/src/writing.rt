@@ -1,10 +1,12 @@
-ghost use Rattle.std.specs.Prelude.{◌++◌, codes, decimal, flat_map};
+//! Labels, written.
+ghost use Rattle.std.specs.Prelude.{◌≡◌, ◌++◌, codes, decimal, flat_map, string_bytes, IfOk};
 ghost use Rattle.sp_kit.specs.Outside.{Writes};
 ghost use Rattle.spec_labels.specs.Labels.{label_text, step_text};
 
 use crate::label::Label;
 use itoa::Buffer;
-use sp_kit::{Failed, Sink, write_whole};
+use sp_kit::{Failed, GrowingSink, Sink, write_whole};
+use std::alloc::{AllocError, Global};
 
 /// The letters of the steps 1 to 24: A to Z without I and O.
 pub(crate) const STEP_LETTERS: &[u8; 24] = b"ABCDEFGHJKLMNPQRSTUVWXYZ";
@@ -16,6 +18,17 @@ pub fn write<O: Sink>(label: &Label, sink: &mut O) -> Result<(), Failed>
 {
     write_number(sink, label.number)?;
     write_steps(sink, &label.path)
+}
+
+/// A label as it is written (docs/RULES.md, "Labels"). `AllocError` comes for want of memory alone.
+pub fn label_text(alloc: Global, label: &Label) -> Result<String, AllocError>
+    ensures { IfOk result (λ text. string_bytes text ≡ label_text label.now) }
+{
+    let mut sink = GrowingSink::new(alloc);
+    match write(label, &mut sink) {
+        Ok(()) => Ok(sink.into_text()),
+        Err(_) => Err(AllocError),
+    }
 }
 
 fn write_steps<O: Sink>(sink: &mut O, path: &[u32]) -> Result<(), Failed>

@@ -5,7 +5,7 @@ use Rattle.spec_labels.specs.Labels.{label_text}
 use Rattle.spec_cast.specs.Sides.{sheets_in}
 use Rattle.sp_cast.specs.Keys.{label_of}
 use Rattle.sp_cast.proofs.SheetTexts.{labels-step, texts-step}
-use Rattle.sp_cast.proofs.writing.sheet_texts.Goals.{then-branch+in_ok-scene_label_text+in_ok-push, else-branch}
+use Rattle.sp_cast.proofs.writing.sheet_texts.Goals.{then-branch+in_ok-label_text+in_ok-push, else-branch}
 use Rattle.sp_cast.proofs.writing.sheet_texts.Goals as goal
 
 pub loop-spoken-preserved : goal.loop-spoken-preserved
@@ -24,11 +24,11 @@ loop-spoken-preserved c =
     record {
       labels = labels-step all i item c.loop-spoken.sheets.keys _ c.label_key.result inside here sheet c.in_ok-insert.ensures.keys so_far.labels;
       texts = elim c.if-branch.branch [
-        | then-branch+in_ok-scene_label_text+in_ok-push w ↦
+        | then-branch+in_ok-label_text+in_ok-push w ↦
             texts-step all i item c.loop-spoken.sheets.keys c.label_key.result old (map string_bytes c.if-branch.texts.items) true inside here sheet
             (sym w.if-branch.true ∙ c.in_ok-insert.ensures.added) so_far.labels so_far.texts
-            (ap (λ v. map string_bytes v.items) w.texts-is ∙ ap (map string_bytes) w.in_ok-push.ensures.items ∙ map-append string_bytes c.loop-spoken.texts.items (w.in_ok-scene_label_text.field-0 ∷ [])
-            ∙ ap (λ text. old ++ text ∷ []) (w.in_ok-scene_label_text.ensures ∙ ap label_text shown))
+            (ap (λ v. map string_bytes v.items) w.texts-is ∙ ap (map string_bytes) w.in_ok-push.ensures.items ∙ map-append string_bytes c.loop-spoken.texts.items (w.in_ok-label_text.field-0 ∷ [])
+            ∙ ap (λ text. old ++ text ∷ []) (w.in_ok-label_text.ensures ∙ ap label_text shown))
         | else-branch w ↦
             texts-step all i item c.loop-spoken.sheets.keys c.label_key.result old (map string_bytes c.if-branch.texts.items) false inside here sheet
             (sym w.if-branch.false ∙ c.in_ok-insert.ensures.added) so_far.labels so_far.texts
