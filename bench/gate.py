@@ -125,11 +125,23 @@ def print_chain(taken, measure):
     print(f"\nlongest chain of proofs, {seconds / 60:.1f} minutes {measure}: {' '.join(names)}")
 
 
+def print_readings(meter):
+    """How many checks there were, and what those took that found nothing to prove: the last before the edits of each crate with two or more."""
+    before = {}
+    for (_, crate, phase), seconds in meter.seen.items():
+        if phase == "before edits":
+            before.setdefault(crate, []).append(seconds)
+    idle = [parts[-1] for parts in before.values() if len(parts) > 1]
+    if idle:
+        print(f"\n{len(meter.seen)} checks and builds; {len(idle)} checks that found nothing to prove took {sum(idle) / len(idle):.1f} s on the average")
+
+
 def main():
     meter = Meter()
     begun = time.monotonic()
     status = run_gate(sys.argv[1:], meter)
     print_table(meter.table(), (time.monotonic() - begun) / 60)
+    print_readings(meter)
     print_chain({crate: row["proof"] for crate, row in meter.table().items()}, "of processor time")
     print_chain({crate: end - first for crate, (first, end) in meter.spans.items()}, "by the clock")
     return status
