@@ -1,4 +1,4 @@
-//! The outline of a script with its cast, and its speeches (docs/RULES.md, "Outline" and "Cast sides").
+//! The outline of a script with its cast, and its speeches, by its state that is lent (docs/RULES.md, "Outline" and "Cast sides").
 #![tactic(auto)]
 
 mod reply;

@@ -316,7 +316,7 @@ impl Desk {
         ensures step { IsAnswer self.now commands.outline self.now result }
         ensures unrefused { IfOk result (λ reply. is_refused (reply_of reply) ≡ false) }
     {
-        Ok(outline_reply(alloc, &self.script)?)
+        Ok(outline_reply(alloc, &self.script.view())?)
     }
 
     /// How many sheets the present state has, those of its title page counted. The state and all that can be undone or

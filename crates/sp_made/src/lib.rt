@@ -7,4 +7,4 @@ mod views;
 
 pub use heading_rows::keeps_headings;
 pub use made::{laid_stops, lay, made_starts, make, make_pages, number, renumber, rows_on};
-pub use views::{body_shapes, made_sheet, made_title, sheet_count, title_count};
+pub use views::{made_sheet, made_title, sheet_count, title_count};

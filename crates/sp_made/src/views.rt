@@ -8,7 +8,7 @@ ghost use Rattle.spec_layout.specs.Layout.{placed_in};
 ghost use Rattle.spec_layout.specs.Shown.{shown_rows};
 ghost use Rattle.spec_print.specs.PageRows.{page_body};
 ghost use Rattle.spec_state.specs.StateSheets.{shown_sheet, title_sheet};
-ghost use Rattle.sp_elements.specs.Bodies.{row_count, shapes_in};
+ghost use Rattle.sp_elements.specs.Bodies.{row_count};
 ghost use Rattle.sp_views.specs.Views.{label_of};
 ghost use Rattle.sp_made.specs.Places.{HasPlaces, sheet_shown, title_at};
 
@@ -18,10 +18,8 @@ use sp_locks::Sheet;
 use sp_made_parts::Made;
 use sp_numbers::{greatest, labels_past, page_behind};
 use sp_print::PageView;
-use sp_splice::GapList;
 use sp_text::Lines;
 use sp_views::SheetLabel;
-use spec_pages::Shape;
 
 /// The labels, where there are some.
 fn lent_labels(labels: &Option<Vec<Label>>) -> Option<&[Label]>
@@ -110,14 +108,6 @@ fn body_view<'a>(
         Some(label),
         sheet.round,
     )
-}
-
-/// What page ends see of each row of the body.
-pub fn body_shapes(made: &Made) -> &GapList<Shape>
-    ensures { result.now.items ≡ shapes_in made.now.layout.body.elements }
-{
-    let layout = &made.layout;
-    layout.body.shapes()
 }
 
 /// How many title sheets there are.

@@ -19,6 +19,7 @@ use crate::sheets::{write_packet, write_pages, write_sheets};
 use sp_cast::sides;
 use sp_contents::{outline_text, said};
 use sp_kit::{Shelf, Sink, Source, Steps, write_whole};
+use sp_made_parts::StateView;
 use sp_opening::{Opened, open_state};
 use sp_state::Script;
 use sp_words::{Origin, Status, View};
@@ -88,27 +89,31 @@ fn write_view<O: Sink>(
 {
     match view {
         View::Sheets => write_sheets(alloc, script, output),
-        View::Outline => write_outline(alloc, script, output),
+        View::Outline => write_outline(alloc, &script.view(), output),
         View::Html => write_pages(alloc, script, output),
-        View::Cast => write_cast(alloc, script, output),
+        View::Cast => write_cast(alloc, &script.view(), output),
         View::Packet => write_packet(alloc, script, output),
     }
 }
 
 /// Writes the outline of a script, which is made whole first.
-fn write_outline<O: Sink>(alloc: Global, script: &Script, output: &mut O) -> Result<(), Status>
-    ensures { IsWritten (O.state output.old) (O.state output.new) (outline_of script.now) result }
+fn write_outline<O: Sink>(
+    alloc: Global,
+    state: &StateView<'_>,
+    output: &mut O,
+) -> Result<(), Status>
+    ensures { IsWritten (O.state output.old) (O.state output.new) (outline_of state.now) result }
 {
-    let text = outline_text(alloc, script)?;
+    let text = outline_text(alloc, state)?;
     write_whole(output, text.as_bytes())?;
     Ok(())
 }
 
 /// Writes the sides of a script's cast, which are made whole first.
-fn write_cast<O: Sink>(alloc: Global, script: &Script, output: &mut O) -> Result<(), Status>
-    ensures { IsWritten (O.state output.old) (O.state output.new) (sides_of (said_of script.now)) result }
+fn write_cast<O: Sink>(alloc: Global, state: &StateView<'_>, output: &mut O) -> Result<(), Status>
+    ensures { IsWritten (O.state output.old) (O.state output.new) (sides_of (said_of state.now)) result }
 {
-    let said = said(alloc, script)?;
+    let said = said(alloc, state)?;
     let text = sides(alloc, &said)?;
     write_whole(output, text.as_bytes())?;
     Ok(())

@@ -30,8 +30,8 @@ use crate::entry::{Entry, Unturned};
 use sp_kit::Steps;
 use sp_locking::{lock_pages_made, lock_scenes_made, next_round_made};
 use sp_locks::Sheet;
-use sp_made::{body_shapes, made_sheet, made_starts, made_title, make, sheet_count, title_count};
-use sp_made_parts::Made;
+use sp_made::{made_sheet, made_starts, made_title, make, sheet_count, title_count};
+use sp_made_parts::{Made, StateView};
 use sp_print::PageView;
 use sp_records::{OpeningFault, Records};
 use sp_reflow::Pages;
@@ -149,6 +149,13 @@ impl Script {
         })
     }
 
+    /// Lends its state with what is made of it.
+    pub fn view(&self) -> StateView<'_>
+        ensures { result ≡ self.now }
+    {
+        StateView::new(&self.lines, &self.stanzas, &self.records, &self.made)
+    }
+
     /// Lends its lines.
     pub fn lines(&self) -> &Lines
         ensures { text_of result.now ≡ state_text self.now }
@@ -174,7 +181,7 @@ impl Script {
     pub fn shapes(&self) -> &GapList<Shape>
         ensures { result.now.items ≡ map shape_of (rows_in self.now) }
     {
-        body_shapes(&self.made)
+        self.view().shapes()
     }
 
     /// Lends the sheets of its body, by the places of their rows. The state keeps the rules of a state.

@@ -19,9 +19,9 @@ pub entries_of-requires-clause-labels : goal.entries_of-requires-clause-labels
 entries_of-requires-clause-labels c =
     let blocks = c.deref-2.ensures.value ∙ c.in_ok-blocks.ensures ∙ ap (blocks_from 0) c.stanzas.ensures in
     ap (λ (it : Scenes). length it.labels) c.in_ok-scenes.ensures
-    ∙ labels-counted c.args.script.now
+    ∙ labels-counted c.args.view.now
     ∙ sym (ap (λ (those : List PlacedBlock). length (filter is_heading_block those)) blocks)
 
 pub entries_of-requires-clause-rising : goal.entries_of-requires-clause-rising
 entries_of-requires-clause-rising c =
-    subst (λ (it : Scenes). AllPairs Below it.gone) (sym c.in_ok-scenes.ensures) (gone-rises c.args.script.now c.body_sheets-sheets.ensures.whole)
+    subst (λ (it : Scenes). AllPairs Below it.gone) (sym c.in_ok-scenes.ensures) (gone-rises c.args.view.now c.body_sheets-sheets.ensures.whole)

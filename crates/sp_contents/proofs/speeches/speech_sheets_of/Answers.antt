@@ -7,4 +7,4 @@ use Rattle.sp_contents.proofs.speeches.speech_sheets_of.Goals as goal
 pub speech_sheets-requires : goal.speech_sheets-requires
 speech_sheets-requires c =
     let whole = c.body_sheets-sheets.ensures.whole in
-    subst AreInTurn (sym c.body_sheets-sheets.ensures.sheets) (body-turn c.args.script.now whole (body-lie c.args.script.now whole))
+    subst AreInTurn (sym c.body_sheets-sheets.ensures.sheets) (body-turn c.args.view.now whole (body-lie c.args.view.now whole))

@@ -7,12 +7,12 @@ use Rattle.sp_text.specs.Gap.{text_of}
 use Rattle.sp_elements.specs.Bodies.{shapes_in}
 use Rattle.sp_made_parts.proofs.MadePages.{same-shapes}
 use Rattle.sp_made_parts.proofs.MadeSheets.{body-made}
-use Rattle.sp_state.proofs.script.Script.shapes.Goals as goal
+use Rattle.sp_made_parts.proofs.view.StateView.shapes.Goals as goal
 
 pub returns : goal.returns
 returns c =
-    let state : State = state_of (text_of c.self.inside.lines) c.self.inside.records in
+    let state : State = state_of (text_of c.self.inside.lines.now) c.self.inside.records.now in
     c.body_shapes.ensures
-    ∙ ap shapes_in (body-made state c.self.inside.made c.self.invariant.1)
+    ∙ ap shapes_in (body-made state c.self.inside.made.now c.self.invariant.1)
     ∙ sym (same-shapes state)
     ∙ ap (λ (it : State). map shape_of (rows_in it)) c.self.view_is
