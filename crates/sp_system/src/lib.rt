@@ -6,8 +6,3 @@ mod streams;
 
 pub use files::FileShelf;
 pub use streams::{Input, Output};
-
-#[cfg(test)]
-mod failing;
-#[cfg(test)]
-mod tests;
