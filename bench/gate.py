@@ -1,5 +1,6 @@
 """Runs the gate and says how many processor seconds each crate took: for its proof, its tests and the edits that must fail, and before
-these for one more check of the crate as it stands, which the gate begins them with.
+these for one more check of the crate as it stands, which the gate begins them with; and how many checks there were, and what those took
+that found nothing to prove.
 
 `python3 bench/gate.py WORDS..` runs `rt ci WORDS..`, hands its lines on to standard error, and prints a table at the end, and the longest
 chain of crates one above the other, in processor time and by the clock. What an earlier run passed isn't proved again, so the table is whole
@@ -126,14 +127,15 @@ def print_chain(taken, measure):
 
 
 def print_readings(meter):
-    """How many checks there were, and what those took that found nothing to prove: the last before the edits of each crate with two or more."""
-    before = {}
+    """How many checks there were, and what those took that found nothing to prove: the gate tries a crate with two or more edits once more
+    behind them, over what the check before them proved."""
+    over = {}
     for (_, crate, phase), seconds in meter.seen.items():
         if phase == "before edits":
-            before.setdefault(crate, []).append(seconds)
-    idle = [parts[-1] for parts in before.values() if len(parts) > 1]
-    if idle:
-        print(f"\n{len(meter.seen)} checks and builds; {len(idle)} checks that found nothing to prove took {sum(idle) / len(idle):.1f} s on the average")
+            over.setdefault(crate, []).append(seconds)
+    empty = [parts[-1] for parts in over.values() if len(parts) > 1]
+    if empty:
+        print(f"\n{len(meter.seen)} checks and builds; {len(empty)} checks that found nothing to prove took {sum(empty) / len(empty):.1f} s on the average")
 
 
 def main():

@@ -49,7 +49,7 @@ static const char *name_in(const char *path) {
     return slash ? slash + 1 : path;
 }
 static const char *name_of(int file) { return file >= 0 && file < 64 ? names[file] : ""; }
-static long turn(const char *call, const char *name, size_t *count) {
+static long change_call(const char *call, const char *name, size_t *count) {
     if (!plan || strcmp(call, plan->call) || strcmp(name, plan->name)) return GOES_ON;
     if (++plan->calls == plan->at) {
         plan->changed++;
@@ -67,26 +67,26 @@ int open(const char *path, int flags, ...) {
     va_start(rest, flags);
     mode_t mode = flags & O_CREAT ? va_arg(rest, mode_t) : 0;
     va_end(rest);
-    int file = turn("open", name_in(path), NULL) == GOES_ON ? NEXT(open)(path, flags, mode) : -1;
+    int file = change_call("open", name_in(path), NULL) == GOES_ON ? NEXT(open)(path, flags, mode) : -1;
     if (file >= 0 && file < 64) snprintf(names[file], sizeof names[file], "%s", name_in(path));
     return file;
 }
 ssize_t read(int file, void *bytes, size_t count) {
-    long moves = turn("read", name_of(file), &count);
+    long moves = change_call("read", name_of(file), &count);
     return moves == GOES_ON ? NEXT(read)(file, bytes, count) : moves;
 }
 ssize_t write(int file, const void *bytes, size_t count) {
-    long moves = turn("write", name_of(file), &count);
+    long moves = change_call("write", name_of(file), &count);
     return moves == GOES_ON ? NEXT(write)(file, bytes, count) : moves;
 }
-int fsync(int file) { return turn("fsync", name_of(file), NULL) == GOES_ON ? NEXT(fsync)(file) : -1; }
-int fchmod(int file, mode_t mode) { return turn("fchmod", name_of(file), NULL) == GOES_ON ? NEXT(fchmod)(file, mode) : -1; }
+int fsync(int file) { return change_call("fsync", name_of(file), NULL) == GOES_ON ? NEXT(fsync)(file) : -1; }
+int fchmod(int file, mode_t mode) { return change_call("fchmod", name_of(file), NULL) == GOES_ON ? NEXT(fchmod)(file, mode) : -1; }
 int statx(int file, const char *path, int flags, unsigned mask, struct statx *stat) {
-    return turn("statx", *path ? name_in(path) : name_of(file), NULL) == GOES_ON ? NEXT(statx)(file, path, flags, mask, stat) : -1;
+    return change_call("statx", *path ? name_in(path) : name_of(file), NULL) == GOES_ON ? NEXT(statx)(file, path, flags, mask, stat) : -1;
 }
-int rename(const char *from, const char *to) { return turn("rename", name_in(to), NULL) == GOES_ON ? NEXT(rename)(from, to) : -1; }
+int rename(const char *from, const char *to) { return change_call("rename", name_in(to), NULL) == GOES_ON ? NEXT(rename)(from, to) : -1; }
 char *realpath(const char *path, char *whole) {
-    return turn("realpath", name_in(path), NULL) == GOES_ON ? NEXT(realpath)(path, whole) : NULL;
+    return change_call("realpath", name_in(path), NULL) == GOES_ON ? NEXT(realpath)(path, whole) : NULL;
 }
 """
 PLAN = struct.Struct("=5Q16s32s")
@@ -100,6 +100,7 @@ SCRIPT = b"INT. MILL - NIGHT\n\nANNA\nListen.\n\n===\n\nShe lights a lamp.\n"
 # Then the script has records, which tell in each of its forms: a sheet 1A with a scene and a speech.
 LOCKED = lines_of({"do": "lock_scenes"}, {"do": "lock_pages"}, insert(5, "===", "", "EXT. YARD - DAY", "", "BERT", "No.", ""), SAVE)
 ASKED = lines_of(*({**command, "seat": "a", "seen": 0} for command in (LABELS, UNDO, {"do": "outline"}, LABELS)))
+COLLATE = ("collate", "old", "new")
 OLD, NEW = b"!Hello.\n", b"!Once again.\n!Hello.\n"
 
 
@@ -133,10 +134,12 @@ class Calls:
         yield from differs(f"{what}: a call is changed", self.changed(), True)
         yield from differs(what, found, expected)
 
-    def lock(self):
-        """Puts a script with records."""
+    def put_locked(self):
+        """Puts a script with records, its sheets, and those of its packet."""
         self.place.put("f", SCRIPT)
         self.run(("desk", "f"), LOCKED)
+        for name, form in (("old", "print"), ("new", "packet")):
+            self.place.put(name, self.run((form, "f"), b"")[1])
 
 
 def told(call, name, most=NEVER, at=NEVER, error=NOTHING):
@@ -155,7 +158,7 @@ OUTPUTS = [(3,), *((3, at, error) for at in (1, 2, 9) for error in (NOTHING, err
 
 def inputs(calls):
     """An input that comes in pieces is read whole. One that fails is told as that, behind the replies to its whole lines."""
-    calls.lock()
+    calls.put_locked()
     for words, text in ((("print",), SCRIPT), (("desk", "f"), ASKED), (("room", "f"), ASKED)):
         whole = calls.run(words, text)
         for most, *failure in INPUTS:
@@ -168,8 +171,8 @@ def inputs(calls):
 
 def outputs(calls):
     """An output that takes pieces gets all. One that fails, or takes nothing, is told and has what it took before."""
-    calls.lock()
-    for words in (("print",), ("sample", "3"), *((form, "f") for form in FORMS)):
+    calls.put_locked()
+    for words in (("print",), ("sample", "3"), COLLATE, *((form, "f") for form in FORMS)):
         text = SCRIPT if words == ("print",) else ASKED
         whole = calls.run(words, text)
         for most, *failure in OUTPUTS:
@@ -210,22 +213,27 @@ FETCHES = [
 
 
 def fetches(calls):
-    """A script and its records are fetched whole, or it is told why not, and nothing is written."""
-    calls.lock()
+    """A script and its records, and both files of a collation, are fetched whole, or it is told why not, and nothing is written."""
+    calls.put_locked()
     place = calls.place
-    files = {name: place.text(name) for name in ("f", "f.desk")}
-    for name in files:
-        for form in FORMS:
-            whole = calls.run((form, "f"), ASKED)
-            (place.folder / name).unlink()
-            missing = calls.run((form, "f"), ASKED)
-            place.put(name, files[name])
-            if whole == missing:
-                yield f"{form} ends without {name} as with it"
-            for call, changes, end in FETCHES:
-                plan, expected = (call, name, *changes), {WHOLE: whole, MISSING: missing}.get(end, (end, b"", LINES.get(end)))
-                yield from calls.finds(f"{form}, {told(*plan)}", calls.run((form, "f"), ASKED, *plan), expected)
-    yield from differs("the files", {it: place.text(it) for it in place.names()}, files)
+    files = {name: place.text(name) for name in place.names()}
+    for words, names in (*(((form, "f"), ("f", "f.desk")) for form in FORMS), (COLLATE, COLLATE[1:])):
+        for name in names:
+            yield from fetch(calls, words, name)
+    yield from differs("the files", {name: place.text(name) for name in place.names()}, files)
+
+
+def fetch(calls, words, name):
+    place, whole = calls.place, calls.run(words, ASKED)
+    kept = place.text(name)
+    (place.folder / name).unlink()
+    missing = calls.run(words, ASKED)
+    place.put(name, kept)
+    if whole == missing:
+        yield f"{words} ends without {name} as with it"
+    for call, changes, end in FETCHES:
+        plan, expected = (call, name, *changes), {WHOLE: whole, MISSING: missing}.get(end, (end, b"", LINES.get(end)))
+        yield from calls.finds(f"{words}, {told(*plan)}", calls.run(words, ASKED, *plan), expected)
 
 
 # A call, whether it is for the file or for the one beside it, what becomes of it, and whether a save is done.
@@ -301,7 +309,10 @@ def main():
         return tell("calls", "none was changed", ["the program isn't built"])
     with tempfile.TemporaryDirectory() as name:
         folder = pathlib.Path(name)
-        prepare(folder)
+        try:
+            prepare(folder)
+        except subprocess.CalledProcessError:
+            return tell("calls", "none was changed", ["the library isn't built, which needs the Debian package libc6-dev too"])
         return tell("calls", f"{len(CHECKS)} kinds of calls", [fault for check in CHECKS for fault in faults_of(check, folder)])
 
 

@@ -409,6 +409,23 @@ def folders_and_links(place):
     yield from differs("the files", place.names(), ["f", "folder", "link", "link.desk", "loop", "nowhere"])
 
 
+def stores_onto_folders(place):
+    """A folder in the place of a script or of its records refuses a save, and one succeeds once it is gone."""
+    for name in ("f", "f.desk"):
+        place.put("f", b"!a\n")
+        (place.folder / "f.desk").unlink(missing_ok=True)
+        held = place.session()
+        held.ask(insert(1, "!b"))
+        (place.folder / name).unlink(missing_ok=True)
+        (place.folder / name).mkdir()
+        yield from differs(f"a save onto a folder {name}", held.ask(SAVE), REFUSED)
+        yield from differs("the files", place.names(), sorted({"f", name}))
+        (place.folder / name).rmdir()
+        yield from differs(f"a save without the folder {name}", held.ask(SAVE), {"digest": digest(b"!a\n!b\n"), "ok": True})
+        yield from differs("its end", held.end(), (0, ""))
+        yield from opens("the script", place, ["1"])
+
+
 def files_beside(place):
     """A store takes a name beside the file that nothing has, and follows no link there."""
     victim = place.put("victim", b"kept")
@@ -668,8 +685,8 @@ def two_sessions(place):
 
 CHECKS = [
     statuses, record_statuses, command_statuses, largest_records, old_versions, names_of_the_program, little_memory, full_output,
-    closed_pipes, closed_streams, broken_input, pieces, wild_clients, folders_and_links, files_beside, permissions, short_stores,
-    small_file_systems, read_only_file_systems, devices, ended_sessions, two_sessions,
+    closed_pipes, closed_streams, broken_input, pieces, wild_clients, folders_and_links, stores_onto_folders, files_beside, permissions,
+    short_stores, small_file_systems, read_only_file_systems, devices, ended_sessions, two_sessions,
 ]
 
 

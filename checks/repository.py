@@ -1,6 +1,6 @@
 """Checks of the repository that no proof makes: the one line of HANDLES, the sizes of files, the sections that comments
-cite, the names of definitions, calls, clauses, checks and edits that the documents cite, that crates have edits that must fail, and
-that each file of cases is run."""
+cite, the names of definitions, calls, clauses, checks and edits that the documents cite, that crates have edits that must fail, that
+none lists a crate that its files don't name, and that each file of cases is run."""
 
 import pathlib
 import re

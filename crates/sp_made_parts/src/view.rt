@@ -19,7 +19,8 @@ use sp_text::Lines;
 use spec_pages::Shape;
 use std::marker::Model;
 
-/// The lines of a state, their stanzas, its records, and what is made of it, lent. Contracts see the state alone.
+/// The lines of a state, their stanzas, its records, and what is made of it, lent (docs/RULES.md, "The desk" and "Sheets"). Contracts
+/// see the state alone.
 #[derive(Drop)]
 pub struct StateView<'a> {
     lines: &'a Lines,
@@ -54,7 +55,7 @@ fn body_shapes(made: &Made) -> &GapList<Shape>
 }
 
 impl<'a> StateView<'a> {
-    /// The state of these lines and records, lent with the stanzas of its text and what is made of it.
+    /// The state of these lines and records, lent with the stanzas of its text and what is made of it. Takes no memory.
     pub fn new(
         lines: &'a Lines,
         stanzas: &'a Stanzas,

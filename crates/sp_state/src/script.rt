@@ -149,7 +149,7 @@ impl Script {
         })
     }
 
-    /// Lends its state with what is made of it.
+    /// Lends its state with what is made of it. Takes no memory.
     pub fn view(&self) -> StateView<'_>
         ensures { result ≡ self.now }
     {

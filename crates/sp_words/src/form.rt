@@ -1,4 +1,4 @@
-ghost use Rattle.std.specs.Prelude.{◌≡◌, map, option_map, IfSome, string_bytes, codes, bytes_eq};
+ghost use Rattle.std.specs.Prelude.{◌≡◌, map, option_map, IfSome, string_bytes};
 ghost use Rattle.sp_words.specs.Forms.{asked_by, asked_of, asked_with, is_rooms, rooms_in, sample, KeepsRooms};
 
 use itoa::Buffer;
