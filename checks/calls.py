@@ -16,7 +16,7 @@ import tempfile
 
 from hostile import FORMS, LINES, REFUSED, Place, differs, digest, insert, opens
 from program import LABELS, PROGRAM, SAVE, UNDO, lines_of
-from report import tell
+from report import found_by, tell
 
 # The calls of one function for one stream or file are counted from 1 on. The one with the number `at` fails with an error, or moves nothing
 # where there is none, and each other moves `most` bytes at most. The plan stands in a file that whoever starts the program shares.
@@ -293,14 +293,6 @@ def prepare(folder):
     shutil.copy(PROGRAM, folder / "fountain")
 
 
-def faults_of(check, folder):
-    try:
-        for fault in check(Calls(folder)):
-            yield f"{check.__name__}: {fault}"
-    except (subprocess.TimeoutExpired, OSError, TypeError, KeyError, IndexError) as broken:
-        yield f"{check.__name__} breaks off: {broken!r}"
-
-
 def main():
     if not shutil.which("cc"):
         print("calls: skipped: cc is missing, of the Debian package gcc")
@@ -313,7 +305,7 @@ def main():
             prepare(folder)
         except subprocess.CalledProcessError:
             return tell("calls", "none was changed", ["the library isn't built, which needs the Debian package libc6-dev too"])
-        return tell("calls", f"{len(CHECKS)} kinds of calls", [fault for check in CHECKS for fault in faults_of(check, folder)])
+        return tell("calls", f"{len(CHECKS)} kinds of calls", [fault for check in CHECKS for fault in found_by(check, Calls(folder))])
 
 
 if __name__ == "__main__":

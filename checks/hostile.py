@@ -21,7 +21,7 @@ import threading
 import time
 
 from program import LABELS, PROGRAM, SAVE, SECONDS, UNDO, Session, lines_of
-from report import tell
+from report import found_by, tell
 
 NOBODY = 65534
 # The forms that open a script with its records.
@@ -695,11 +695,7 @@ def faults_of(check):
         os.chmod(folder, 0o755)
         shutil.copy(PROGRAM, f"{folder}/fountain")
         os.chmod(f"{folder}/fountain", 0o755)
-        try:
-            for fault in check(Place(folder)):
-                yield f"{check.__name__}: {fault}"
-        except (subprocess.TimeoutExpired, OSError, TypeError, KeyError, IndexError) as broken:
-            yield f"{check.__name__} breaks off: {broken!r}"
+        yield from found_by(check, Place(folder))
 
 
 def main():

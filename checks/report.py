@@ -1,5 +1,16 @@
 """How checks tell what they found."""
 
+import subprocess
+
+
+def found_by(check, place):
+    """The faults that a check yields over a place, each behind its name, and where it breaks off."""
+    try:
+        for fault in check(place):
+            yield f"{check.__name__}: {fault}"
+    except (subprocess.TimeoutExpired, OSError, TypeError, KeyError, IndexError) as broken:
+        yield f"{check.__name__} breaks off: {broken!r}"
+
 
 def tell(name, what, faults):
     """Prints each fault and how many there are, and gives the exit status: 1 where there is one."""
