@@ -309,7 +309,7 @@ impl Desk {
         ensures unrefused { IfOk result (λ reply. is_refused (reply_of reply) ≡ false) }
     {
         let script = &self.script;
-        Ok(Reply::Blocks(block_replies(alloc, script.lines(), script.stanzas())?))
+        Ok(Reply::Blocks(block_replies(alloc, script.lines(), script.view().stanzas())?))
     }
 
     fn outline_answer(&self, alloc: Global) -> Result<Reply, DeskFault>

@@ -10,6 +10,7 @@ ghost use Rattle.sp_packet.specs.Runs.{LieWithin, empty_run, facts_by, starts_be
 
 use crate::cue::cue_places;
 use sp_locks::Sheet;
+use sp_made_parts::StateView;
 use sp_splice::GapList;
 use sp_state::Script;
 use spec_pages::Shape;
@@ -59,7 +60,7 @@ pub fn sheet_facts(alloc: Global, script: &Script) -> Result<Vec<SheetFacts>, Al
     ensures within { IfOk result (λ facts. All (LieWithin (length (records_in script.now))) facts.items) }
 {
     let starts = script.page_starts(alloc)?;
-    facts_of(alloc, script, &starts)
+    facts_of(alloc, &script.view(), &starts)
 }
 
 /// Where the rows of a record begin, or the end of the rows behind the last record.
@@ -120,14 +121,18 @@ fn add_pages(
 }
 
 /// The facts of the sheets with labels, by the first rows of records.
-fn facts_of(alloc: Global, script: &Script, starts: &[usize]) -> Result<Vec<SheetFacts>, AllocError>
-    requires locked { is_some (script.now).pages ≡ true }
-    requires starts { starts.now ≡ record_starts (script.now).lines (keys_in script.now) (records_in script.now) }
-    ensures facts { IfOk result (λ facts. facts.items ≡ laid_facts (laid_of script.now)) }
-    ensures within { IfOk result (λ facts. All (LieWithin (length (records_in script.now))) facts.items) }
+fn facts_of(
+    alloc: Global,
+    view: &StateView<'_>,
+    starts: &[usize],
+) -> Result<Vec<SheetFacts>, AllocError>
+    requires locked { is_some (view.now).pages ≡ true }
+    requires starts { starts.now ≡ record_starts (view.now).lines (keys_in view.now) (records_in view.now) }
+    ensures facts { IfOk result (λ facts. facts.items ≡ laid_facts (laid_of view.now)) }
+    ensures within { IfOk result (λ facts. All (LieWithin (length (records_in view.now))) facts.items) }
 {
-    let sheets = script.body_sheets();
-    let shapes = script.shapes();
+    let sheets = view.body_sheets();
+    let shapes = view.shapes();
     let rows = shapes.len();
     let mut facts = Vec::new(alloc);
     let mut index = 0;

@@ -1,5 +1,5 @@
 //! A state and its sheets.
-ghost use Rattle.std.specs.Prelude.{◌≡◌, ◌≤◌, Some, length, map, slice_get, IfErr, IfSome, IfNone, IfOk, OnOk, OnErr};
+ghost use Rattle.std.specs.Prelude.{◌≡◌, ◌≤◌, Some, length, slice_get, IfErr, IfSome, IfNone, IfOk, OnOk, OnErr};
 ghost use Rattle.spec_text.specs.Lines.{line_texts, read_lines};
 ghost use Rattle.spec_text.specs.Edits.{refusal_of, replacement_of};
 ghost use Rattle.spec_text.specs.Ranges.{range_of};
@@ -14,7 +14,6 @@ ghost use Rattle.sp_reflow.specs.Starts.{many_more};
 ghost use Rattle.sp_text.specs.Changing.{Refuses, edit_of};
 ghost use Rattle.spec_state.specs.Keeping.{IsWhole, records_of, state_of};
 ghost use Rattle.sp_text.specs.Gap.{text_of};
-ghost use Rattle.spec_layout.specs.Shown.{shape_of};
 ghost use Rattle.spec_state.specs.StateSheets.{body_sheets, locked_starts, rows_in, sheets_of_state};
 ghost use Rattle.sp_reread.specs.Cache.{RisesWithin, counted_on};
 ghost use Rattle.sp_exchange.specs.Reads.{IsRefused};
@@ -36,9 +35,8 @@ use sp_print::PageView;
 use sp_records::{OpeningFault, Records};
 use sp_reflow::Pages;
 use sp_reread::Stanzas;
-use sp_splice::GapList;
 use sp_text::{Edit, EditFault, Lines};
-use spec_pages::{Paper, Shape};
+use spec_pages::Paper;
 use std::alloc::{AllocError, Global};
 use std::marker::Model;
 
@@ -168,20 +166,6 @@ impl Script {
         ensures { result.now ≡ records_of self.now }
     {
         &self.records
-    }
-
-    /// Lends the stanzas of its text.
-    pub fn stanzas(&self) -> &Stanzas
-        ensures { result.now.stanzas ≡ stanzas_of (line_texts self.now.lines) }
-    {
-        &self.stanzas
-    }
-
-    /// Lends what page ends see of each row of its body (docs/RULES.md, "Pages").
-    pub fn shapes(&self) -> &GapList<Shape>
-        ensures { result.now.items ≡ map shape_of (rows_in self.now) }
-    {
-        self.view().shapes()
     }
 
     /// Lends the sheets of its body, by the places of their rows. The state keeps the rules of a state.

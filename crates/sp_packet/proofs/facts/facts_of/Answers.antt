@@ -13,7 +13,7 @@ use Rattle.sp_packet.proofs.facts.facts_of.Goals as goal
 
 pub loop-index-preserved-then-run-gt0 : goal.loop-index-preserved-then-run-gt0
 loop-index-preserved-then-run-gt0 c =
-    let state = c.args.script.now in
+    let state = c.args.view.now in
     let whole = c.body_sheets-sheets.ensures.whole in
     let are = are-starts state whole c.requires.locked in
     let long : length c.args.starts.now ≡ length (starts_in state) = ap length c.requires.starts in
@@ -29,12 +29,12 @@ loop-index-preserved-then-run-gt0 c =
 
 pub add_pages-requires-clause-order : goal.add_pages-requires-clause-order
 add_pages-requires-clause-order c =
-    let are = are-starts c.args.script.now c.body_sheets-sheets.ensures.whole c.requires.locked in
+    let are = are-starts c.args.view.now c.body_sheets-sheets.ensures.whole c.requires.locked in
     subst (AllPairs (λ (one other : ℕ). one ≤ other)) (sym c.requires.starts) are.order
 
 pub add_pages-requires-clause-inside : goal.add_pages-requires-clause-inside
 add_pages-requires-clause-inside c =
-    let state = c.args.script.now in
+    let state = c.args.view.now in
     let whole = c.body_sheets-sheets.ensures.whole in
     let are = are-starts state whole c.requires.locked in
     let long : length c.args.starts.now ≡ length (starts_in state) = ap length c.requires.starts in
@@ -57,7 +57,7 @@ add_pages-requires-clause-inside c =
 
 pub loop-index-preserved : goal.loop-index-preserved
 loop-index-preserved c =
-    let state = c.args.script.now in
+    let state = c.args.view.now in
     let whole = c.body_sheets-sheets.ensures.whole in
     let are = are-starts state whole c.requires.locked in
     let long : length c.args.starts.now ≡ length (starts_in state) = ap length c.requires.starts in
