@@ -22,10 +22,10 @@ fn lines_of(alloc: Global, headings: &[HeadingAt]) -> Result<BTreeMap<u64, bool>
 }
 
 /// Whether the line of a record isn't among these.
-fn is_gone(lines: &BTreeMap<u64, bool>, record: &SceneRecord) -> bool
-    ensures { result ≡ not (is_some (get nat_cmp lines.now record.now.line)) }
+fn is_gone(lines: &BTreeMap<u64, bool>, locked: &SceneRecord) -> bool
+    ensures { result ≡ not (is_some (get nat_cmp lines.now locked.now.line)) }
 {
-    !lines.contains_key(&record.line)
+    !lines.contains_key(&locked.line)
 }
 
 /// The labels of records whose lines aren't those of headings.

@@ -159,22 +159,22 @@ fn pages_rise(records: &[PageEntry]) -> bool
 }
 
 /// Whether the record's line is in the text, or it is at row 0 of the end.
-fn has_anchor(ids: &[u64], places: &HashMap<u64, usize>, record: &PageEntry) -> bool
+fn has_anchor(ids: &[u64], places: &HashMap<u64, usize>, entry: &PageEntry) -> bool
     requires { Indexes (get nat_eq places.now) ids.now }
-    ensures { result ≡ has_anchor ids.now record.now }
+    ensures { result ≡ has_anchor ids.now entry.now }
 {
-    if record.line == END {
-        record.row == 0
+    if entry.line == END {
+        entry.row == 0
     } else {
-        place_at(ids, places, record.line) < ids.len()
+        place_at(ids, places, entry.line) < ids.len()
     }
 }
 
-fn is_anchored(ids: &[u64], places: &HashMap<u64, usize>, record: &PageEntry, round: u64) -> bool
+fn is_anchored(ids: &[u64], places: &HashMap<u64, usize>, entry: &PageEntry, round: u64) -> bool
     requires { Indexes (get nat_eq places.now) ids.now }
-    ensures { result ≡ is_anchored round ids.now record.now }
+    ensures { result ≡ is_anchored round ids.now entry.now }
 {
-    has_anchor(ids, places, record) && record.row <= 4095 && record.changed <= round
+    has_anchor(ids, places, entry) && entry.row <= 4095 && entry.changed <= round
 }
 
 fn are_anchored(

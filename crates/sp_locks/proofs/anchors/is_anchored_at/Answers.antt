@@ -7,7 +7,7 @@ use Rattle.sp_locks.proofs.anchors.is_anchored_at.Goals as goal
 
 pub returns : goal.returns
 returns c =
-    let key : RowKey = record { line = c.record.inside.line; row = c.record.inside.row } in
-    OnTrue_from c.has_key.result (c.args.row ≡ record_start c.args.lines.now.lines c.args.rows.now.items c.args.record.now) (λ yes.
+    let key : RowKey = record { line = c.locked.inside.line; row = c.locked.inside.row } in
+    OnTrue_from c.has_key.result (c.args.row ≡ record_start c.args.lines.now.lines c.args.rows.now.items c.args.locked.now) (λ yes.
     first-with-key c.args.lines.now.lines c.args.rows.now.items key c.args.row c.requires (OnTrue_at yes c.has_key.ensures)
-    ∙ start-inside c.args.lines.now.lines c.args.rows.now.items c.args.record.now key (ap (λ (it : PageRecordOf). it.line) c.record.view_is) (ap (λ (it : PageRecordOf). it.row) c.record.view_is) c.if-record-eq-END.false)
+    ∙ start-inside c.args.lines.now.lines c.args.rows.now.items c.args.locked.now key (ap (λ (it : PageRecordOf). it.line) c.locked.view_is) (ap (λ (it : PageRecordOf). it.row) c.locked.view_is) c.if-locked-eq-END.false)
