@@ -1,6 +1,6 @@
-"""Runs the gate and says how many processor seconds each crate took: for its proof, its tests and the edits that must fail, and before
-these for one more check of the crate as it stands, which the gate begins them with; and how many checks there were, and what those took
-that found nothing to prove.
+"""Runs the gate's proofs and says how many processor seconds each crate took: for its proof, for the checks of the crate as it stands with
+which the toolchain begins and ends its edits, and for the edits that must fail; and how many checks there were, what those took that found
+nothing to prove, and which edit took longest.
 
 `python3 bench/gate.py WORDS..` runs `rt ci WORDS..`, hands its lines on to standard error, and prints a table at the end, and the longest
 chain of crates one above the other, in processor time and by the clock. What an earlier run passed isn't proved again, so the table is whole
@@ -16,7 +16,7 @@ import threading
 import time
 
 TICKS = os.sysconf("SC_CLK_TCK")
-PHASES = ["proof", "tests", "before edits", "edits"]
+PHASES = ["proof", "around edits", "edits"]
 
 
 def parent(number):
@@ -50,8 +50,8 @@ def processes(first):
 
 def phase_of(words, place):
     if "/rt-edit-" in place:
-        return "before edits" if any(word.endswith("/seed") for word in words) else "edits"
-    return "tests" if "--test" in words else "proof"
+        return "around edits" if any(word.endswith("/seed") for word in words) else "edits"
+    return "proof"
 
 
 class Meter:
@@ -96,8 +96,8 @@ def run_gate(words, meter):
 
 
 def print_table(sums, minutes):
-    print("| crate | proof s | tests s | before edits s | edits s | all s |")
-    print("|---|---|---|---|---|---|")
+    print("| crate | proof s | around edits s | edits s | all s |")
+    print("|---|---|---|---|---|")
     for crate, row in sorted(sums.items(), key=lambda item: -sum(item[1].values())):
         print("| " + " | ".join([crate, *(f"{row[phase]:.0f}" for phase in PHASES), f"{sum(row.values()):.0f}"]) + " |")
     whole = [sum(row[phase] for row in sums.values()) / 60 for phase in PHASES]
@@ -131,11 +131,18 @@ def print_readings(meter):
     behind them, over what the check before them proved."""
     over = {}
     for (_, crate, phase), seconds in meter.seen.items():
-        if phase == "before edits":
+        if phase == "around edits":
             over.setdefault(crate, []).append(seconds)
     empty = [parts[-1] for parts in over.values() if len(parts) > 1]
     if empty:
         print(f"\n{len(meter.seen)} checks and builds; {len(empty)} checks that found nothing to prove took {sum(empty) / len(empty):.1f} s on the average")
+
+
+def print_longest_edit(meter):
+    edits = [(seconds, crate) for (_, crate, phase), seconds in meter.seen.items() if phase == "edits"]
+    if edits:
+        seconds, crate = max(edits)
+        print(f"\n{len(edits)} checks of edits, the longest one of {crate}, {seconds:.1f} s")
 
 
 def main():
@@ -144,6 +151,7 @@ def main():
     status = run_gate(sys.argv[1:], meter)
     print_table(meter.table(), (time.monotonic() - begun) / 60)
     print_readings(meter)
+    print_longest_edit(meter)
     print_chain({crate: row["proof"] for crate, row in meter.table().items()}, "of processor time")
     print_chain({crate: end - first for crate, (first, end) in meter.spans.items()}, "by the clock")
     return status
