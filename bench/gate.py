@@ -1,10 +1,10 @@
-"""Runs the gate's proofs and says how many processor seconds each crate took: for its proof, for the checks of the crate as it stands with
-which the toolchain begins and ends its edits, and for the edits that must fail; and how many checks there were, what those took that found
-nothing to prove, and which edit took longest.
+"""Runs the proofs and edits of the gate and says how many processor seconds each crate took: for its proof, builds included, for the checks
+of the crate as it stands with which the toolchain begins and ends its edits, and for the edits that must fail; and how many checks there
+were, what those took that found nothing to prove, and how long the longest edit took.
 
 `python3 bench/gate.py WORDS..` runs `rt ci WORDS..`, hands its lines on to standard error, and prints a table at the end, and the longest
 chain of crates one above the other, in processor time and by the clock. What an earlier run passed isn't proved again, so the table is whole
-only after `rt ci --anew` or on a machine without one.
+only with `--anew` or on a machine without one.
 """
 
 import functools
