@@ -1,6 +1,7 @@
 """Runs the proofs and edits of the gate and says how many processor seconds each crate took: for its proof, builds included, for the checks
 of the crate as it stands with which the toolchain begins and ends its edits, and for the edits that must fail; and how many checks there
-were, what those took that found nothing to prove, and how long the longest edit took.
+were, what those took that found nothing to prove, how long the longest edit took, and what the gate took with all that it does beside.
+A check is last looked at up to half a second before it ends.
 
 `python3 bench/gate.py WORDS..` runs `rt ci WORDS..`, hands its lines on to standard error, and prints a table at the end, and the longest
 chain of crates one above the other, in processor time and by the clock. What an earlier run passed isn't proved again, so the table is whole
@@ -10,6 +11,7 @@ only with `--anew` or on a machine without one.
 import functools
 import os
 import pathlib
+import resource
 import subprocess
 import sys
 import threading
@@ -33,7 +35,7 @@ def comes_from(number, first):
 
 
 def processes(first):
-    """The processes of the prover that another began: number, words, and the processor seconds that each and its ended children took."""
+    """The processes of the prover that another began: number, words, folder, and the processor seconds that each took by itself so far."""
     for folder in pathlib.Path("/proc").iterdir():
         if not folder.name.isdigit():
             continue
@@ -145,6 +147,11 @@ def print_longest_edit(meter):
         print(f"\n{len(edits)} checks of edits, the longest one of {crate}, {seconds:.1f} s")
 
 
+def print_whole():
+    used = resource.getrusage(resource.RUSAGE_CHILDREN)
+    print(f"\n{(used.ru_utime + used.ru_stime) / 60:.1f} minutes of processor time with all that the gate does beside these checks")
+
+
 def main():
     meter = Meter()
     begun = time.monotonic()
@@ -152,6 +159,7 @@ def main():
     print_table(meter.table(), (time.monotonic() - begun) / 60)
     print_readings(meter)
     print_longest_edit(meter)
+    print_whole()
     print_chain({crate: row["proof"] for crate, row in meter.table().items()}, "of processor time")
     print_chain({crate: end - first for crate, (first, end) in meter.spans.items()}, "by the clock")
     return status
