@@ -145,7 +145,7 @@ def place(folder, script):
 def is_kept(files, before, after):
     """Each of both files is as before the run, or as a save of it leaves it; no other file is there but one beside them."""
     left = {name for name in files if name not in ("f", "f.desk")}
-    return all(files.get(name) in (before.get(name), after.get(name)) for name in ("f", "f.desk")) and all(".saving" in name for name in left), len(left)
+    return all(files.get(name) in (before.get(name), after.get(name)) for name in ("f", "f.desk")) and all(name.startswith(".fountain-saving-") for name in left), len(left)
 
 
 def replies_agree(replies, whole):

@@ -1,7 +1,8 @@
 """Times `print` on scripts of 1, 2, 4, 8 and 16 MiB, beside `fold -s -w 60 FILE | pr -l 57` on the same file in the same run,
 and on scripts of 25,000 to 200,000 lines that a careless reader is slow on; and sessions of `desk` on scripts of 2,000 to
-200,000 lines: the opening, a splice and an undo; of many edits and undos of 200,000 lines, and the large sample, beside `print` of
-them; of locks, rounds and saves; and `cast`, `collate` beside `cat`, and a room beside `desk`.
+200,000 lines: the opening, a splice and an undo; of many edits and undos of 200,000 lines and of 152,001 with a long title page, of
+33 to 1,000 lines that go and come, and the large sample, beside `print` of them; of locks, rounds and saves; and `cast`, `collate` beside
+`cat`, and a room beside `desk`.
 
 For each kind of script and each size it prints the time of `print`, MB/s, the peak memory over the size of the input, how
 much longer it took than at half the size, the ratio to `fold | pr`, and that of `html` to `print`. Each time is the least of several runs.
@@ -29,8 +30,14 @@ SPLICES = 20
 TURNS = 200
 # How many edits of a room are late.
 EDITS = 200
-# How many edits and undos of 200,000 lines are timed beside `print`.
+# How many edits and undos of 200,000 lines are timed beside `print`, and how many below a long title page.
 EDITED = 2_000
+BELOW = 10_000
+# How many bytes are typed into one line.
+TYPED = 10_000
+# How many lines go and come at one place, and how often they do.
+STRETCHES = (33, 100, 1_000)
+STRETCHED = 1_000
 # How many rooms the large sample has.
 ROOMS = 2_000
 # A script has at most 16,777,216 bytes with a line end behind its last line.
@@ -143,6 +150,27 @@ def longer(lines, count):
     return [{"do": "replace", "first": edit["line"] + 1, "count": 0, "lines": ["Now."]} for edit in anywhere(lines, count)]
 
 
+def typed(line, place, letters):
+    """One byte of a line in the place of another, again and again."""
+    return [{"do": "splice", "line": line, "from": place, "to": place + 1, "text": letters[k % len(letters)]} for k in range(TYPED)]
+
+
+def stretches(first, count, form):
+    """So many lines go out at a place, or others come in there, and an undo takes that back, many times."""
+    lines = (["!b", ""] * count)[:count]
+    edit = {"out": {"count": count, "lines": []}, "in": {"count": 0, "lines": lines}}[form]
+    return turned([{"do": "replace", "first": first} | edit]) * STRETCHED
+
+
+# A title page of 150,000 lines, and 1,000 short actions below it.
+TITLED = "Title: x\n" + "    a\n" * 149_999 + "\n" + "!a\n\n" * 1_000
+
+
+def below(count):
+    """Splices of the actions below the long title page, in turn."""
+    return [{"do": "splice", "line": 150_001 + 2 * (k % 1_000), "from": 2, "to": 2, "text": "b"} for k in range(count)]
+
+
 UNDO = [{"do": "undo"}]
 LOCKS = [{"do": "lock_scenes"}, {"do": "lock_pages"}, {"do": "next_round"}]
 
@@ -208,7 +236,7 @@ def session_peak(path, commands):
 
 def main():
     others = {
-        "session": time_sessions, "edits": time_edits, "sample": time_sample, "locks": time_locks, "cast": time_cast, "collate": time_collate, "room": time_rooms,
+        "session": time_sessions, "edits": time_edits, "stretches": time_stretches, "sample": time_sample, "locks": time_locks, "cast": time_cast, "collate": time_collate, "room": time_rooms,
     }
     parser = argparse.ArgumentParser()
     parser.add_argument("--kind", choices=sorted([*KINDS, *LINES, *others]), action="append")
@@ -284,15 +312,19 @@ def time_sessions(folder, options):
 
 
 def time_edits(folder, options):
-    """Times many edits of 200,000 lines and their undos beside `print` of the same script in the same run, and prints the memory that they add."""
+    """Times many edits of 200,000 lines, or below a long title page, and their undos beside `print` of the same script in the same run, and
+    prints the memory that they add."""
     print(f"{'kind':24} {'print s':>9} {'session s':>9} {'/ print':>8} {'an edit s':>9} {'an undo s':>9} {'more MB':>8}")
     actions, scenes = "!a\n\n" * 100_000, SCENE * (200_000 // 11)
     for kind, text, before, edits in (
         ("lines far apart", actions, [], apart(EDITED)),
         ("random places", scenes, [], anywhere(200_000, EDITED)),
         ("random, lines come", SCENE * (190_000 // 11), [], longer(190_000, EDITED)),
+        ("below a title page", TITLED, [], below(BELOW)),
         ("lines apart, locked", actions, LOCKS, apart(EDITED)),
         ("random places, locked", scenes, LOCKS, anywhere(200_000, EDITED)),
+        ("typed into a heading", ".H\n\n" + "!a\n\n" * 99_000, [], typed(0, 1, "BH")),
+        ("typed into a speech", "BOB\nHi.\n\n" + "!a\n\n" * 99_000, [], typed(1, 0, "JH")),
     ):
         path = folder / "edits"
         commands = folder / "edits.commands"
@@ -309,6 +341,26 @@ def time_edits(folder, options):
             f"{kind:24} {printed:9.4f} {undone:9.4f} {undone / printed:8.2f} {(edited - opened) / len(edits):9.6f} {(undone - edited) / len(edits):9.6f} {(peaks[2] - peaks[0]) / 1e6:8.1f}",
             flush=True,
         )
+
+
+def time_stretches(folder, options):
+    """Times lines that go out in the middle of 198,000 and come back, and others that come in and go again, by their number, beside `print` of
+    the same script in the same run, and prints the memory that they add."""
+    print(f"{'kind':10} {'lines':>7} {'print s':>9} {'session s':>9} {'/ print':>8} {'a command s':>11} {'a line s':>11} {'more MB':>8}")
+    path = folder / "stretches"
+    commands = folder / f"{path.name}.commands"
+    path.write_text("!a\n\n" * 99_000)
+    printed = least('"$PROGRAM" print "$FILE" > /dev/null', path, options.runs)
+    # A refused undo is answered, so that there is a reply to ask for the memory before.
+    commands.write_text("".join(json.dumps(command) + "\n" for command in UNDO))
+    opened, peak = least(DESK, path, options.runs), session_peak(path, commands)
+    for form in ("out", "in"):
+        for count in STRETCHES:
+            commands.write_text("".join(json.dumps(command) + "\n" for command in stretches(99_000, count, form)))
+            seconds = least(DESK, path, options.runs)
+            each = (seconds - opened) / (2 * STRETCHED)
+            more = session_peak(path, commands) - peak
+            print(f"{'lines ' + form:10} {count:7} {printed:9.4f} {seconds:9.4f} {seconds / printed:8.2f} {each:11.7f} {each / count:11.9f} {more / 1e6:8.1f}", flush=True)
 
 
 def sample_script():

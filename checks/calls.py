@@ -14,7 +14,7 @@ import subprocess
 import sys
 import tempfile
 
-from hostile import FORMS, LINES, REFUSED, Place, differs, digest, insert, opens
+from hostile import BESIDE, FORMS, LINES, REFUSED, Place, differs, digest, insert, opens
 from program import LABELS, PROGRAM, SAVE, UNDO, lines_of
 from report import found_by, tell
 
@@ -85,8 +85,8 @@ int statx(int file, const char *path, int flags, unsigned mask, struct statx *st
     return change_call("statx", *path ? name_in(path) : name_of(file), NULL) == GOES_ON ? NEXT(statx)(file, path, flags, mask, stat) : -1;
 }
 int rename(const char *from, const char *to) { return change_call("rename", name_in(to), NULL) == GOES_ON ? NEXT(rename)(from, to) : -1; }
-char *realpath(const char *path, char *whole) {
-    return change_call("realpath", name_in(path), NULL) == GOES_ON ? NEXT(realpath)(path, whole) : NULL;
+ssize_t readlink(const char *path, char *to, size_t count) {
+    return change_call("readlink", name_in(path), NULL) == GOES_ON ? NEXT(readlink)(path, to, count) : -1;
 }
 """
 PLAN = struct.Struct("=5Q16s32s")
@@ -236,33 +236,61 @@ def fetch(calls, words, name):
         yield from calls.finds(f"{words}, {told(*plan)}", calls.run(words, ASKED, *plan), expected)
 
 
-# A call, whether it is for the file or for the one beside it, what becomes of it, and whether a save is done.
+# What a save stores: nothing, the text alone, or both files.
+NONE, TEXT, BOTH = range(3)
+# A call, whether it is for the script, the records or the file beside, what becomes of it, and what a save stores. Each of its two stores
+# follows links, finds the old file, opens it, fills the one beside, and then looks at the script and at the records, before it renames.
 STORES = [
-    ("write", ".saving0", (5,), True),
-    ("write", ".saving0", (5, 2, errno.EINTR), True),
-    ("write", ".saving0", (5, 1, errno.EIO), False),
-    ("write", ".saving0", (5, 2, errno.ENOSPC), False),
-    ("write", ".saving0", (5, 2, NOTHING), False),
-    ("fsync", ".saving0", (NEVER, 1, errno.EIO), False),
-    ("fchmod", ".saving0", (NEVER, 1, errno.EPERM), True),
-    ("open", ".saving0", (NEVER, 1, errno.EACCES), False),
-    ("open", ".saving0", (NEVER, 1, errno.ENOSPC), False),
-    ("rename", "", (NEVER, 1, errno.EACCES), False),
-    ("rename", "", (NEVER, 1, errno.EIO), False),
-    ("open", "", (NEVER, 1, errno.EACCES), False),
-    ("statx", "", (NEVER, 1, errno.EIO), False),
-    ("realpath", "", (NEVER, 1, errno.EACCES), False),
+    ("write", f"{BESIDE}0", (5,), BOTH),
+    ("write", f"{BESIDE}0", (5, 2, errno.EINTR), BOTH),
+    ("write", f"{BESIDE}0", (5, 1, errno.EIO), NONE),
+    ("write", f"{BESIDE}0", (5, 2, errno.ENOSPC), NONE),
+    ("write", f"{BESIDE}0", (5, 2, NOTHING), NONE),
+    ("write", f"{BESIDE}0", (5, 6, errno.EIO), TEXT),
+    ("write", f"{BESIDE}0", (5, 7, errno.ENOSPC), TEXT),
+    ("write", f"{BESIDE}0", (5, 7, NOTHING), TEXT),
+    ("fsync", f"{BESIDE}0", (NEVER, 1, errno.EIO), NONE),
+    ("fsync", f"{BESIDE}0", (NEVER, 2, errno.EIO), TEXT),
+    ("fchmod", f"{BESIDE}0", (NEVER, 1, errno.EPERM), BOTH),
+    ("fchmod", f"{BESIDE}0", (NEVER, 2, errno.EPERM), BOTH),
+    ("open", f"{BESIDE}0", (NEVER, 1, errno.EACCES), NONE),
+    ("open", f"{BESIDE}0", (NEVER, 1, errno.ENOSPC), NONE),
+    ("open", f"{BESIDE}0", (NEVER, 2, errno.ENOSPC), TEXT),
+    ("rename", "f", (NEVER, 1, errno.EACCES), NONE),
+    ("rename", "f", (NEVER, 1, errno.EIO), NONE),
+    ("rename", "f.desk", (NEVER, 1, errno.EIO), TEXT),
+    ("readlink", "f", (NEVER, 1, errno.EACCES), NONE),
+    ("readlink", "f.desk", (NEVER, 1, errno.EIO), TEXT),
+    ("statx", "f", (NEVER, 1, errno.EIO), NONE),
+    ("open", "f", (NEVER, 1, errno.EACCES), NONE),
+    ("statx", "f", (NEVER, 2, errno.EIO), NONE),
+    ("open", "f", (NEVER, 2, errno.EACCES), NONE),
+    ("open", "f", (NEVER, 2, errno.ENOENT), NONE),
+    ("read", "f", (3,), BOTH),
+    ("read", "f", (3, 2, errno.EINTR), BOTH),
+    ("read", "f", (3, 2, errno.EIO), NONE),
+    ("read", "f", (3, 2, errno.ENOENT), NONE),
+    ("read", "f", (3, 2, NOTHING), NONE),
+    ("statx", "f.desk", (NEVER, 1, errno.EIO), NONE),
+    ("open", "f.desk", (NEVER, 1, errno.EACCES), NONE),
+    ("read", "f.desk", (NEVER, 1, errno.EIO), NONE),
+    ("statx", "f", (NEVER, 3, errno.EIO), TEXT),
+    ("open", "f", (NEVER, 3, errno.EACCES), TEXT),
+    ("statx", "f.desk", (NEVER, 2, errno.EIO), TEXT),
+    ("open", "f.desk", (NEVER, 2, errno.EACCES), TEXT),
+    ("statx", "f.desk", (NEVER, 3, errno.EIO), TEXT),
+    ("open", "f.desk", (NEVER, 3, errno.EACCES), TEXT),
+    ("read", "f.desk", (5,), BOTH),
 ]
 
 
 def stores(calls):
     """A save puts whole files in place, or is refused and leaves the file whose store failed, and the session goes on and saves."""
-    for name in ("f", "f.desk"):
-        for call, beside, plan, is_done in STORES:
-            yield from store(calls, name, (call, name + beside, *plan), is_done)
+    for call, name, plan, stored in STORES:
+        yield from store(calls, (call, name, *plan), stored)
 
 
-def store(calls, name, plan, is_done):
+def store(calls, plan, stored):
     place, what, saved = calls.place, told(*plan), {"digest": digest(NEW), "ok": True}
     place.put("f", OLD)
     (place.folder / "f.desk").unlink(missing_ok=True)
@@ -271,10 +299,9 @@ def store(calls, name, plan, is_done):
     held = place.session(env=calls.env)
     held.ask(insert(0, "!Once again."))
     calls.change(*plan)
-    yield from calls.finds(f"a save, {what}", held.ask(SAVE), saved if is_done else REFUSED)
-    yield from differs(f"the text, {what}", place.text("f"), OLD if name == "f" and not is_done else NEW)
-    if not is_done:
-        yield from differs(f"the records, {what}", place.text("f.desk"), records)
+    yield from calls.finds(f"a save, {what}", held.ask(SAVE), saved if stored == BOTH else REFUSED)
+    yield from differs(f"the text, {what}", place.text("f"), OLD if stored == NONE else NEW)
+    yield from differs(f"the records are as they were, {what}", place.text("f.desk") == records, stored != BOTH)
     yield from differs(f"the files, {what}", place.names(), ["f", "f.desk"])
     yield from differs(f"a later save, {what}", held.ask(SAVE), saved)
     yield from differs(f"its end, {what}", held.end(), (0, ""))

@@ -1,6 +1,6 @@
 """Runs the built program where the outside fails it: full disks, closed pipes, signals, folders and links under the name of a script,
-files that may not be read or written, a million commands, the largest record files, clients that send anything, two sessions over one script. Each run has to end
-with its status and line, and no script, lock or reply may be lost.
+files that may not be read or written, long names, a million commands, the largest record files, clients that send anything, editors that
+write under a session, two sessions over one script. Each run has to end with its status and line, and no script, lock or reply may be lost.
 
 What needs more than a user may do here, such as a small file system, is skipped, and said to be.
 """
@@ -21,12 +21,14 @@ import threading
 import time
 
 from program import LABELS, PROGRAM, SAVE, SECONDS, UNDO, Session, lines_of
-from report import found_by, tell
+from report import faults_by, tell
 
 NOBODY = 65534
 # The forms that open a script with its records.
 FORMS = ("print", "outline", "desk", "html", "cast", "packet", "room")
 REFUSED = {"no": "Shelf"}
+# The name of a file that a store writes beside, but for its number.
+BESIDE = ".fountain-saving-"
 LINES = {
     0: "",
     2: "fountain: usage: print [FILE], outline FILE, desk FILE, sample N",
@@ -430,17 +432,79 @@ def files_beside(place):
     """A store takes a name beside the file that nothing has, and follows no link there."""
     victim = place.put("victim", b"kept")
     place.put("f", b"!a\n")
-    (place.folder / "f.saving0").symlink_to("victim")
+    (place.folder / f"{BESIDE}0").symlink_to("victim")
     for number in range(1, 99):
-        place.put(f"f.saving{number}", b"kept")
+        place.put(f"{BESIDE}{number}", b"kept")
     status, replies, _ = place.replies(insert(1, "!b"), SAVE)
     yield from differs("a save beside 99 files", (status, "digest" in replies[1], place.text("f")), (0, True, b"!a\n!b\n"))
-    yield from differs("what stood there", (victim.read_bytes(), place.text("f.saving1")), (b"kept", b"kept"))
-    place.put("f.saving99", b"kept")
+    yield from differs("what stood there", (victim.read_bytes(), place.text(f"{BESIDE}1")), (b"kept", b"kept"))
+    place.put(f"{BESIDE}99", b"kept")
     status, replies, _ = place.replies(insert(1, "!c"), SAVE, UNDO, SAVE)
     yield from differs("a save beside 100 files", (status, replies[1], replies[3]), (0, REFUSED, REFUSED))
     yield from differs("the script", place.text("f"), b"!a\n!b\n")
     yield from opens("the script", place, ["1"])
+
+
+def long_names(place):
+    """Each name under which a script and its records can be opened can be saved: the system takes 255 bytes, five of them for `.desk`."""
+    saved = [{"lines": 2, "ok": True, "sheets": 1}, {"digest": digest(b"!a\n!b\n"), "ok": True}]
+    for name in (*("n" * length for length in range(236, 251)), "\N{LATIN SMALL LETTER E WITH ACUTE}" * 125):
+        place.put(name, b"!a\n")
+        what = f"a name of {len(name.encode())} bytes"
+        yield from differs(f"a session over {what}", place.replies(insert(1, "!b"), SAVE, words=("desk", name)), (0, saved, ""))
+        yield from differs(f"the files of {what}", (place.text(name), place.names()), (b"!a\n!b\n", [name, f"{name}.desk"]))
+        yield from opens(what, place, ["1"], script=name)
+        for left in place.names():
+            (place.folder / left).unlink()
+    place.put("n" * 251, b"!a\n")
+    for form in FORMS:
+        yield from ends(f"{form} of a name of 251 bytes", place.run(form, "n" * 251), 7)
+    yield from differs("its files", (place.text("n" * 251), place.names()), (b"!a\n", ["n" * 251]))
+
+
+def deep_folders(place):
+    """A name is saved in a folder whose own path is longer than the system takes, or is no UTF-8, and by a link there."""
+    saved = [{"lines": 2, "ok": True, "sheets": 1}, {"digest": digest(b"!a\n!b\n"), "ok": True}]
+    at = os.open(place.folder, os.O_RDONLY)
+    for name in (b"\xe9", *[b"d" * 250] * 20):
+        os.mkdir(name, dir_fd=at)
+        inner = os.open(name, os.O_RDONLY, dir_fd=at)
+        os.close(at)
+        at = inner
+    for name, link in (("f", None), ("link", "f")):
+        with open(os.open("f", os.O_CREAT | os.O_WRONLY | os.O_TRUNC, dir_fd=at), "wb") as script:
+            script.write(b"!a\n")
+        if link:
+            os.symlink(link, name, dir_fd=at)
+        ran = place.replies(insert(1, "!b"), SAVE, words=("desk", name), before=lambda: os.fchdir(at))
+        yield from differs(f"a session over {name} in a deep folder", ran, (0, saved, ""))
+        with open(os.open("f", os.O_RDONLY, dir_fd=at), "rb") as script:
+            yield from differs("its script", script.read(), b"!a\n!b\n")
+    yield from differs("its files", sorted(os.listdir(at)), ["f", "f.desk", "link", "link.desk"])
+    yield from differs("the link", os.readlink("link", dir_fd=at), "f")
+    os.close(at)
+
+
+def chains_of_links(place):
+    """A store follows links from folder to folder, and puts its file in the place of the last one. One that leads nowhere is replaced."""
+    for name in ("one", "two", "three"):
+        (place.folder / name).mkdir()
+    place.put("three/f", b"!a\n")
+    (place.folder / "two/f").symlink_to("../three/f")
+    (place.folder / "one/f").symlink_to(place.folder / "two/f")
+    (place.folder / "near").symlink_to("one")
+    status, replies, _ = place.replies(insert(1, "!b"), SAVE, words=("desk", "near/f"))
+    yield from differs("a session over links", (status, replies[1]), (0, {"digest": digest(b"!a\n!b\n"), "ok": True}))
+    yield from differs("what they lead to", place.text("three/f"), b"!a\n!b\n")
+    for name in ("one/f", "two/f"):
+        yield from differs(f"{name} is a link", (place.folder / name).is_symlink(), True)
+    found = {name: sorted(path.name for path in (place.folder / name).iterdir()) for name in ("one", "two", "three")}
+    yield from differs("the folders", found, {"one": ["f", "f.desk"], "two": ["f"], "three": ["f"]})
+    place.put("g", b"!a\n")
+    (place.folder / "g.desk").symlink_to("gone")
+    status, replies, _ = place.replies(insert(1, "!b"), SAVE, words=("desk", "g"))
+    yield from differs("records by a link to nothing", (status, "digest" in replies[1], (place.folder / "g.desk").is_symlink()), (0, True, False))
+    yield from differs("nothing", (place.folder / "gone").exists(), False)
 
 
 def permissions(place):
@@ -521,11 +585,11 @@ def short_stores(place):
 
 SMALL_DISK = """
 mount -t tmpfs -o size=64k none disk && cp f disk/f && cd disk && "$1" desk f <../commands >../replies || exit
-cp f ../f.after && cp f.desk ../f.desk.after && ls >../names
+cp f ../f.after && cp f.desk ../f.desk.after && ls -A >../names
 """
 READ_ONLY = """
 mount -t tmpfs none disk && cp f disk/f && mount -o remount,ro none disk && cd disk && "$1" print f >../printed || exit
-"$1" desk f <../commands >../replies && cp f ../f.after && ls >../names
+"$1" desk f <../commands >../replies && cp f ../f.after && ls -A >../names
 """
 
 
@@ -640,25 +704,190 @@ def ended_saves(place, how, seconds):
         yield f"records have {len(records)} bytes where their save was ended"
     yield from differs("what it opens as", place.run("print", "f")[0], 0)
     left = [name for name in place.names() if name not in ("f", "f.desk")]
-    yield from differs("what is left beside", all(".saving" in name for name in left) and len(left) < 2, True)
+    yield from differs("what is left beside", all(name.startswith(BESIDE) for name in left) and len(left) < 2, True)
+
+
+def overwrite(path, text):
+    """As an editor that writes into the file itself."""
+    path.write_bytes(text)
+
+
+def replace(path, text):
+    """As an editor that puts another file in its place."""
+    other = path.with_name("other")
+    other.write_bytes(text)
+    other.replace(path)
+
+
+def remove(path, _=None):
+    path.unlink()
+
+
+def put_folder(path, _):
+    path.unlink(missing_ok=True)
+    path.mkdir()
+
+
+def put_pipe(path, _):
+    path.unlink(missing_ok=True)
+    os.mkfifo(path)
+
+
+def put_link(path, text):
+    path.unlink(missing_ok=True)
+    other = path.with_name("elsewhere" + path.suffix)
+    other.write_bytes(text)
+    path.symlink_to(other.name)
+
+
+# What another program does under a session, with which name and text; the script is longer than one read takes.
+LONG = b"!line\n" * 5000
+FOREIGN = [
+    (name, change, text)
+    for name in ("f", "f.desk")
+    for change, text in (
+        (overwrite, b"!other\n"), (overwrite, b""), (replace, b"!other\n"), (put_folder, None), (put_pipe, None), (put_link, b"!other\n"),
+    )
+] + [("f", change, text) for change in (overwrite, replace) for text in (LONG + b"!", LONG[:-1], LONG[:-2] + b"f\n", b"a" + LONG[1:])]
+
+
+def seen(place):
+    """What stands under each name: its bytes, or what kind of file it is."""
+    return {path.name: path.read_bytes() if path.is_file() else stat.S_IFMT(path.stat().st_mode) for path in place.folder.iterdir()}
+
+
+def foreign_writes(place):
+    """A save takes the place of no file that another program wrote: it is refused, nothing is written, and it succeeds once that file
+    is put aside."""
+    for name, change, text in FOREIGN:
+        for saved_first in (False, True):
+            what = f"{change.__name__} {name} with {(text or b'')[:9]} of {len(text or b'')} bytes" + (" behind a save" if saved_first else "")
+            yield from foreign_write(place, what, name, saved_first, lambda path: change(path, text))
+
+
+def cleared(place):
+    for path in place.folder.iterdir():
+        path.rmdir() if path.is_dir() else path.unlink()
+    place.put("f", LONG)
+    place.run("desk", "f", text=lines_of({"do": "lock_scenes"}, SAVE))
+
+
+def foreign_write(place, what, name, saved_first, change):
+    cleared(place)
+    held = place.session()
+    held.ask(insert(0, "!mine"))
+    if saved_first:
+        held.ask(SAVE)
+        held.ask(UNDO)
+    change(place.folder / name)
+    found = seen(place)
+    for _ in range(2):
+        yield from differs(f"a save, {what}", held.ask(SAVE), REFUSED)
+        yield from differs(f"the files, {what}", seen(place) == found, True)
+    yield from differs(f"the session, {what}", held.ask(LABELS)["ok"], True)
+    (place.folder / name).rename(place.folder / "aside")
+    text = LONG if saved_first else b"!mine\n" + LONG
+    yield from differs(f"a save once it is put aside, {what}", held.ask(SAVE), {"digest": digest(text), "ok": True})
+    yield from differs(f"its end, {what}", held.end(), (0, ""))
+    now = seen(place)
+    yield from differs(f"what was put aside, {what}", now.pop("aside") == found[name], True)
+    yield from differs(f"the script, {what}", (now.pop("f") == text, sorted(now)), (True, sorted({*found, "f.desk"} - {"f"})))
+    yield from differs(f"it opens, {what}", place.run("outline", "f")[0], 0)
+
+
+def kept_files(place):
+    """A file that is touched, written again as it was, or gone is no other's."""
+    changes = {
+        "touched": lambda path: os.utime(path, (1, 1)),
+        "given other permissions": lambda path: path.chmod(0o600),
+        "overwritten with the same": lambda path: overwrite(path, path.read_bytes()),
+        "replaced by the same": lambda path: replace(path, path.read_bytes()),
+        "moved behind a link": lambda path: put_link(path, path.read_bytes()),
+        "removed": remove,
+    }
+    text = b"!mine\n" + LONG
+    for what, change in changes.items():
+        for names in (("f",), ("f.desk",), ("f", "f.desk")):
+            cleared(place)
+            held = place.session()
+            held.ask(insert(0, "!mine"))
+            for name in names:
+                change(place.folder / name)
+            yield from differs(f"a save where {names} were {what}", held.ask(SAVE), {"digest": digest(text), "ok": True})
+            held.ask(UNDO)
+            yield from differs(f"a second one where {names} were {what}", held.ask(SAVE), {"digest": digest(LONG), "ok": True})
+            yield from differs("its end", held.end(), (0, ""))
+            yield from differs(f"the script where {names} were {what}", place.text("f") == LONG, True)
+            yield from differs(f"the files where {names} were {what}", set(place.names()) - {"elsewhere", "elsewhere.desk"}, {"f", "f.desk"})
+            yield from differs("it opens", place.run("outline", "f")[0], 0)
+
+
+def unreadable_files(place):
+    """A file that can't be looked at any more is taken for another's."""
+    how = as_nobody()
+    for name in ("f", "f.desk"):
+        cleared(place)
+        for path in place.folder.iterdir():
+            if how:
+                os.chown(path, NOBODY, NOBODY)
+        held = place.session(**how)
+        held.ask(insert(0, "!mine"))
+        path = place.folder / name
+        path.chmod(0o200)
+        found = {other: place.text(other) for other in place.names()}
+        yield from differs(f"a save where {name} may not be read", held.ask(SAVE), REFUSED)
+        yield from differs("the files", {other: place.text(other) for other in place.names()} == found, True)
+        path.chmod(0o600)
+        yield from differs(f"a save where {name} may be read again", "digest" in held.ask(SAVE), True)
+        yield from differs("its end", held.end(), (0, ""))
 
 
 def two_sessions(place):
-    """Of two sessions over one script the last save wins, whole."""
+    """Of two sessions over one script the one that saves first wins; the other is refused until what was saved is put aside."""
     place.put("f", b"!a\n")
     one, other = place.session(), place.session()
     one.ask(insert(1, "!one"))
     other.ask(insert(1, "!other"))
-    for held, text in ((one, b"!a\n!one\n"), (other, b"!a\n!other\n"), (one, b"!a\n!one\n")):
-        yield from differs("a save of two", held.ask(SAVE), {"digest": digest(text), "ok": True})
-        yield from differs("its script", (place.text("f"), place.names()), (text, ["f", "f.desk"]))
-        yield from opens("its script", place, ["1"])
+    texts = {one: b"!a\n!one\n", other: b"!a\n!other\n"}
+    yield from differs("the first save of two", one.ask(SAVE), {"digest": digest(texts[one]), "ok": True})
+    found = seen(place)
+    for _ in range(2):
+        yield from differs("the second save of two", other.ask(SAVE), REFUSED)
+        yield from differs("the files", seen(place) == found, True)
+    yield from differs("the first one saves again", one.ask(SAVE), {"digest": digest(texts[one]), "ok": True})
+    for name in ("f", "f.desk"):
+        (place.folder / name).rename(place.folder / f"aside{name[1:]}")
+    yield from differs("a save of the second", other.ask(SAVE), {"digest": digest(texts[other]), "ok": True})
+    yield from differs("a save of the first behind it", one.ask(SAVE), REFUSED)
     yield from differs("both end", (one.end(), other.end()), ((0, ""), (0, "")))
+    yield from differs("what both saved", (place.text("aside"), place.text("f"), place.names()), (*texts.values(), ["aside", "aside.desk", "f", "f.desk"]))
+    for script in ("aside", "f"):
+        yield from opens("what both saved", place, ["1"], script=script)
+    yield from records_of_another_session(place)
+    yield from saves_at_once(place)
+
+
+def records_of_another_session(place):
+    """A session that has saved nothing but records is overwritten by no other: the text stays too."""
+    place.put("g", b"!a\n")
+    one, other = place.session(script="g"), place.session(script="g")
+    one.ask({"do": "lock_pages"})
+    other.ask(insert(1, "!other"))
+    yield from differs("a save of records", one.ask(SAVE), {"digest": digest(b"!a\n"), "ok": True})
+    yield from differs("a save of a text beside them", other.ask(SAVE), REFUSED)
+    yield from differs("both end", (one.end(), other.end()), ((0, ""), (0, "")))
+    yield from differs("the text", place.text("g"), b"!a\n")
+    yield from opens("the records", place, ["1"], script="g")
+
+
+def saves_at_once(place):
+    """Two sessions that save and save at once leave whole files, and one of them is refused from the other's first save on."""
     texts = {}
     for name in ("one", "other"):
         texts[name] = f"!{name}\n".encode() * (200 if name == "one" else 300)
+    for name in place.names():
+        (place.folder / name).unlink()
     place.put("f", b"")
-    (place.folder / "f.desk").unlink()
     ended = {}
 
     def save_often(name):
@@ -672,10 +901,12 @@ def two_sessions(place):
         thread.join()
     for name in texts:
         status, out, said = ended.get(name, (None, b"", ""))
-        if status == 0 and b'"no"' in out:
-            yield f"a save at the same time as another is refused: {out[:200]}"
         # One that came late has opened what the other saved, or the text of one save beside the records of another.
         yield from differs(f"{name} ends", status in (0, 8), True)
+        replies = [json.loads(line) for line in out.splitlines()[1:]]
+        refused = [reply == REFUSED for reply in replies]
+        yield from differs(f"{name} has its replies", all(no or "digest" in reply for no, reply in zip(refused, replies)), True)
+        yield from differs(f"{name} is refused from one save on", refused, sorted(refused))
     text, kept = place.text("f"), json.loads(place.text("f.desk"))
     yield from differs("the text of two that save at once", text in (*texts.values(), texts["one"] + texts["other"], texts["other"] + texts["one"]), True)
     status = place.run("print", "f")[0]
@@ -685,23 +916,24 @@ def two_sessions(place):
 
 CHECKS = [
     statuses, record_statuses, command_statuses, largest_records, old_versions, names_of_the_program, little_memory, full_output,
-    closed_pipes, closed_streams, broken_input, pieces, wild_clients, folders_and_links, stores_onto_folders, files_beside, permissions,
-    short_stores, small_file_systems, read_only_file_systems, devices, ended_sessions, two_sessions,
+    closed_pipes, closed_streams, broken_input, pieces, wild_clients, folders_and_links, stores_onto_folders, files_beside, long_names,
+    deep_folders, chains_of_links, permissions, short_stores, small_file_systems, read_only_file_systems, devices, ended_sessions,
+    foreign_writes, kept_files, unreadable_files, two_sessions,
 ]
 
 
-def faults_of(check):
-    with tempfile.TemporaryDirectory() as folder:
-        os.chmod(folder, 0o755)
-        shutil.copy(PROGRAM, f"{folder}/fountain")
-        os.chmod(f"{folder}/fountain", 0o755)
-        yield from found_by(check, Place(folder))
+def place_of(folder):
+    """A place with a copy of the program, which any user may run."""
+    os.chmod(folder, 0o755)
+    shutil.copy(PROGRAM, f"{folder}/fountain")
+    os.chmod(f"{folder}/fountain", 0o755)
+    return Place(folder)
 
 
 def main():
     if not PROGRAM.exists():
         return tell("hostile", "none was run", ["the program isn't built"])
-    return tell("hostile", f"{len(CHECKS)} kinds of failure", [fault for check in CHECKS for fault in faults_of(check)])
+    return tell("hostile", f"{len(CHECKS)} kinds of failure", faults_by(CHECKS, place_of))
 
 
 if __name__ == "__main__":

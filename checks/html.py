@@ -11,7 +11,7 @@ import tempfile
 import urllib.parse
 import zlib
 
-from program import PROGRAM, TOP
+from program import PROGRAM, TOP, output_of, sheets_of
 from report import tell
 
 BROWSER = ["chromium", "--headless", "--no-sandbox", "--disable-gpu", "--hide-scrollbars"]
@@ -42,14 +42,6 @@ A & B
 C ^
 "Quotes" & 'quotes'.
 """
-
-
-def output_of(form, script):
-    return subprocess.run([PROGRAM, form, script], capture_output=True, check=True).stdout.decode()
-
-
-def sheets_of(script):
-    return output_of("print", script).split("\f")[:-1]
 
 
 def told_of(page, folder):

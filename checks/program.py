@@ -3,6 +3,7 @@
 import json
 import pathlib
 import select
+import shutil
 import subprocess
 
 TOP = pathlib.Path(__file__).resolve().parent.parent
@@ -12,11 +13,21 @@ SAVE = {"do": "save"}
 LABELS = {"do": "labels"}
 UNDO = {"do": "undo"}
 REDO = {"do": "redo"}
+LOCKS = [{"do": "lock_scenes"}, {"do": "lock_pages"}, {"do": "next_round"}]
 
 
 def lines_of(*commands):
     """Commands as lines: values as JSON, and bytes as they are."""
     return b"".join((command if isinstance(command, bytes) else json.dumps(command).encode()) + b"\n" for command in commands)
+
+
+def output_of(form, script):
+    return subprocess.run([PROGRAM, form, script], capture_output=True, check=True).stdout.decode()
+
+
+def sheets_of(script):
+    """The sheets of a script, each without its form feed."""
+    return output_of("print", script).split("\f")[:-1]
 
 
 def faults_of(title, folder, form, commands, replies):
@@ -28,6 +39,17 @@ def faults_of(title, folder, form, commands, replies):
     for command, expected, reply in zip(commands, replies, told):
         if reply != expected:
             yield f"{title}: {command} is answered {reply}"
+
+
+def scripts_in(folder):
+    """The scripts, put where they find the program that was built."""
+    scripts = folder / "share/fountain"
+    if not scripts.exists():
+        (folder / "bin").mkdir()
+        (folder / "bin/fountain").symlink_to(PROGRAM)
+        shutil.copytree(TOP / "scripts", scripts)
+        shutil.copy(TOP / "examples/clients/fountain_client.py", scripts)
+    return scripts
 
 
 class Session:

@@ -1,6 +1,8 @@
 """How checks tell what they found."""
 
+import pathlib
 import subprocess
+import tempfile
 
 
 def found_by(check, place):
@@ -8,8 +10,17 @@ def found_by(check, place):
     try:
         for fault in check(place):
             yield f"{check.__name__}: {fault}"
-    except (subprocess.TimeoutExpired, OSError, TypeError, KeyError, IndexError) as broken:
+    except (subprocess.SubprocessError, OSError, TypeError, KeyError, IndexError) as broken:
         yield f"{check.__name__} breaks off: {broken!r}"
+
+
+def faults_by(checks, place=pathlib.Path):
+    """The faults of checks, each over a place made of a folder of its own."""
+    faults = []
+    for check in checks:
+        with tempfile.TemporaryDirectory() as folder:
+            faults += found_by(check, place(folder))
+    return faults
 
 
 def tell(name, what, faults):

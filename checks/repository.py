@@ -1,11 +1,14 @@
 """Checks of the repository that no proof makes: the one line of HANDLES, the sizes of files, the sections that comments
-cite, the names of definitions, calls, clauses, checks and edits that the documents cite, that crates have edits that must fail, that
-none lists a crate that its files don't name, and that each file of cases is run."""
+cite, the names of definitions, calls, clauses, checks and edits that the documents cite, that docs/INDEX.md is the index of the sources,
+that the searches of docs/MAP.md find what it names, that crates have edits that must fail, that none lists a crate that its files don't
+name, that no call counts by steps of its own, and that each file of cases is run."""
 
 import pathlib
 import re
+import subprocess
 import sys
 
+from index import empty_sections, index, strangers
 from report import tell
 
 TOP = pathlib.Path(__file__).resolve().parent.parent
@@ -17,7 +20,6 @@ NO_EDITS = ("sp_case", "sp_cases", "sp_commands")
 # Crates of the program that have none: for all but two, what theirs would try is a call of a smaller crate below (docs/DECISIONS.md).
 WITHOUT_EDITS = (
     "sp_block_values",
-    "sp_blocks",
     "sp_reread",
     "sp_columns",
     "sp_print",
@@ -32,6 +34,8 @@ WITHOUT_EDITS = (
     "sp_room",
     "sp_sample",
 )
+# The calls that make steps; all others count what they read and fill by those of their caller.
+COUNTING = ("fountain_cli/src/main.rt", "sp_case/src/ran.rt")
 
 
 def sources(*endings, below=CRATES):
@@ -72,6 +76,34 @@ def names():
         for cited in re.findall(r"`([a-z][a-z_]+[a-z](?:::[A-Za-z_]+)*)`", text):
             if not all(part in known for part in cited.split("::")):
                 yield f"docs/{document} cites `{cited}`, which no source has"
+
+
+def indexed():
+    """docs/INDEX.md is what checks/index.py makes; each section of docs/RULES.md has a definition, or a file, there."""
+    try:
+        text = index()
+    except LookupError as fault:
+        yield fault.args[0]
+        return
+    if (TOP / "docs/INDEX.md").read_text() != text:
+        yield "docs/INDEX.md isn't what checks/index.py makes"
+    for section in empty_sections(text):
+        yield f"no definition stands under \"{section}\" in docs/INDEX.md"
+    for key in strangers(text):
+        yield f"checks/index.txt tells of {key}, which no source has"
+
+
+def searches():
+    """Each file that a list under "To add something" of docs/MAP.md names is found by the search above that list."""
+    _, _, text = (TOP / "docs/MAP.md").read_text().partition("\n## To add something\n")
+    for part in re.split(r"^### ", text.partition("\n## ")[0], flags=re.M)[1:]:
+        search, crate = re.search(r"^    (grep .*)$", part, re.M)[1], ""
+        found = subprocess.run(["sh", "-c", search], cwd=TOP, capture_output=True, text=True).stdout.split()
+        for name in re.findall(r"`(sp(?:ec)?_\w+|(?:src|specs|proofs)/[\w/.]+)`", part):
+            if "/" not in name:
+                crate = name
+            elif f"crates/{crate}/{name}" not in found:
+                yield f"docs/MAP.md names {name} of {crate}, which `{search}` doesn't find"
 
 
 def contracts(crate):
@@ -119,6 +151,12 @@ def edits():
             yield f"docs/PROMISES.md cites {name}, which is no edit that must fail"
 
 
+def counters():
+    for path in sources(".rt"):
+        if "Counter::new(" in path.read_text() and str(path.relative_to(CRATES)) not in COUNTING:
+            yield f"{path.relative_to(TOP)} counts by steps of its own"
+
+
 def cases():
     named = set((CRATES / "sp_cases/args").read_text().split())
     for path in (CRATES / "sp_cases/data").iterdir():
@@ -127,7 +165,7 @@ def cases():
 
 
 def main():
-    checks = [handles, sizes, sections, names, clauses, dependencies, edits, cases]
+    checks = [handles, sizes, sections, names, indexed, searches, clauses, dependencies, edits, counters, cases]
     return tell("checks", f"{len(checks)} checks", [fault for check in checks for fault in check()])
 
 

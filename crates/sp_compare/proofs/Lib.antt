@@ -1,4 +1,3 @@
-pub mod Exchanged
 pub mod CellLists
 pub mod RowLists
 pub mod RowPlaces

@@ -10,11 +10,10 @@ ghost use Rattle.sp_elements.specs.Exchanges.{CanMove, with_run};
 ghost use Rattle.sp_compare.specs.BareRows.{AreLaid, StayOutside, bare_row, bare_rows};
 
 use crate::cells::same_cells;
-use crate::old_lines::OldLines;
 use crate::old_rows::{OldRows, row_at};
 use crate::shapes::{same_key, same_shape};
 use sp_elements::Body;
-use sp_text::Lines;
+use sp_text::{Lines, OldLines};
 use std::marker::Model;
 
 /// A text laid out before a change of its lines and after it. The first rows of both are the same, and those from some row

@@ -8,9 +8,8 @@ ghost use Rattle.spec_layout.specs.Cells.{ShowsParts, shown_cell, shown_part, sl
 ghost use Rattle.spec_state.specs.SameRows.{same_cell, same_cells, same_part, same_parts};
 ghost use Rattle.sp_compare.specs.BareRows.{bare_cells, own_runs, own_text};
 
-use crate::old_lines::{OldLines, line_text};
 use sp_elements::Cell;
-use sp_text::Lines;
+use sp_text::{Lines, OldLines};
 use spec_script::Run;
 
 /// What a fixed cell shows.
@@ -85,7 +84,7 @@ fn new_text<'a>(new: &'a Lines, first: u64, cell: &Cell) -> &'a str
     }
     let count = new.len() as u64;
     prove!(first < count);
-    line_text(new, first + cell.line as u64)
+    new.line((first + cell.line as u64) as usize).text
 }
 
 /// Whether cells before the change and after it are the same.

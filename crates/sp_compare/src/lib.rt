@@ -4,11 +4,9 @@
 
 mod both;
 mod cells;
-mod old_lines;
 mod old_rows;
 mod raising;
 mod shapes;
 
 pub use both::BothTexts;
-pub use old_lines::OldLines;
 pub use raising::raises;

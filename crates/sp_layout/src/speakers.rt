@@ -1,5 +1,5 @@
 //! Which speakers go on.
-ghost use Rattle.std.specs.Prelude.{◌≡◌, ◌+◌, ◌≤◌, ◌&&◌, length, nat_eq, string_bytes, option_map, All, IfOk, OnOk};
+ghost use Rattle.std.specs.Prelude.{◌≡◌, ℕ, ◌+◌, ◌≤◌, ◌&&◌, ◌↔◌, IsTrue, List, None, length, nat_eq, string_bytes, option_map, All, IfNone, IfOk, IfSome, OnOk};
 ghost use Rattle.std.specs.List.{ends_with};
 ghost use Rattle.spec_text.specs.Limits.{line_count_limit};
 ghost use Rattle.spec_text.specs.Lines.{line_texts};
@@ -8,14 +8,14 @@ ghost use Rattle.spec_script.specs.Elements.{PlacedLies, is_speech_kind};
 ghost use Rattle.spec_script.specs.Runs.{RunParts};
 ghost use Rattle.spec_layout.specs.Cells.{continued};
 ghost use Rattle.spec_layout.specs.Speakers.{block_text, cue_ends_continued, cue_text, is_last_speaker, last_row_continued, name_in, named_block, settled, shown_text, speaker_after};
-ghost use Rattle.sp_layout.specs.Speaking.{last_speaker, speakers_after, speakers_before, speakers_behind};
+ghost use Rattle.sp_layout.specs.Speaking.{SpeaksLast, last_speaker, speakers_after, speakers_before, speakers_behind};
 
 use sp_block_values::{BlockLine, Kind, PlacedBlock, shown_text};
 use sp_columns::width_of;
 use sp_forms::letters::ends;
 use sp_forms::spaces::trim;
 use sp_measure::{WrapRow, wrap};
-use sp_text::Lines;
+use sp_text::{Lines, OldLines};
 use spec_pages::Side;
 use spec_script::Run;
 use std::alloc::{AllocError, Global};
@@ -31,6 +31,14 @@ fn block_text<'a>(lines: &'a Lines, first: usize, line: &BlockLine) -> &'a str
     lines.line(first + line.offset as usize).text
 }
 
+/// The text of a line of a block, before a change.
+fn old_block_text<'a>(old: &OldLines<'a>, first: usize, line: &BlockLine) -> &'a str
+    requires { LineLies (line_texts old.now) first line.now }
+    ensures { result.now ≡ block_text (line_texts old.now) first line.now }
+{
+    old.text(first as u64, line.offset)
+}
+
 /// The visible text of a speech's cue, which is the first of its lines.
 fn cue_text(alloc: Global, lines: &Lines, placed: &PlacedBlock<'_>) -> Result<String, AllocError>
     requires { PlacedLies (line_texts lines.now.lines) placed.now }
@@ -39,6 +47,22 @@ fn cue_text(alloc: Global, lines: &Lines, placed: &PlacedBlock<'_>) -> Result<St
     let block = placed.block;
     match block.lines.first() {
         Some(cue) => shown_text(alloc, block_text(lines, placed.first, cue), &cue.runs),
+        None => Ok(String::new(alloc)),
+    }
+}
+
+/// The same before a change.
+fn old_cue_text(
+    alloc: Global,
+    old: &OldLines<'_>,
+    placed: &PlacedBlock<'_>,
+) -> Result<String, AllocError>
+    requires { PlacedLies (line_texts old.now) placed.now }
+    ensures { IfOk result (λ cue. string_bytes cue ≡ cue_text (line_texts old.now) placed.now) }
+{
+    let block = placed.block;
+    match block.lines.first() {
+        Some(cue) => shown_text(alloc, old_block_text(old, placed.first, cue), &cue.runs),
         None => Ok(String::new(alloc)),
     }
 }
@@ -67,6 +91,19 @@ pub fn speaker_name(
     ensures { IfOk result (λ name. string_bytes name ≡ name_in (cue_text (line_texts lines.now.lines) speech.now)) }
 {
     let cue = cue_text(alloc, lines, speech)?;
+    String::from_str(alloc, name_in(&cue))
+}
+
+/// The name of the one who spoke in a speech before a change.
+fn old_speaker_name(
+    alloc: Global,
+    old: &OldLines<'_>,
+    speech: &PlacedBlock<'_>,
+) -> Result<String, AllocError>
+    requires { PlacedLies (line_texts old.now) speech.now }
+    ensures { IfOk result (λ name. string_bytes name ≡ name_in (cue_text (line_texts old.now) speech.now)) }
+{
+    let cue = old_cue_text(alloc, old, speech)?;
     String::from_str(alloc, name_in(&cue))
 }
 
@@ -149,6 +186,25 @@ fn cue_ends_continued(
     }
 }
 
+/// The place of the speech of the one who spoke last in blocks; none where there is no speech, or a heading stands behind it.
+fn last_speech(blocks: &[PlacedBlock<'_>]) -> Option<usize>
+    ensures none { IfNone result ((texts : List (List ℕ)) → last_speaker texts blocks.now ≡ None) }
+    ensures some { IfSome result (SpeaksLast blocks.now) }
+{
+    let mut count = blocks.len();
+    while count > 0 {
+        count -= 1;
+        let placed = &blocks[count];
+        let block = placed.block;
+        match block.kind {
+            Kind::Heading => return None,
+            Kind::Speech => return Some(count),
+            _ => {}
+        }
+    }
+    None
+}
+
 /// Who spoke last in blocks: in the last speech, unless a heading stands behind it.
 fn last_speaker(
     alloc: Global,
@@ -158,18 +214,25 @@ fn last_speaker(
     requires { All (PlacedLies (line_texts lines.now.lines)) blocks.now }
     ensures { IfOk result (λ last. option_map string_bytes last ≡ last_speaker (line_texts lines.now.lines) blocks.now) }
 {
-    let mut count = blocks.len();
-    while count > 0 {
-        count -= 1;
-        let placed = &blocks[count];
-        let block = placed.block;
-        match block.kind {
-            Kind::Heading => return Ok(None),
-            Kind::Speech => return Ok(Some(speaker_name(alloc, lines, placed)?)),
-            _ => {}
-        }
+    match last_speech(blocks) {
+        Some(place) => Ok(Some(speaker_name(alloc, lines, &blocks[place])?)),
+        None => Ok(None),
     }
-    Ok(None)
+}
+
+/// The same of blocks of a text before a change.
+fn old_last_speaker(
+    alloc: Global,
+    old: &OldLines<'_>,
+    blocks: &[PlacedBlock<'_>],
+) -> Result<Option<String>, AllocError>
+    requires { All (PlacedLies (line_texts old.now)) blocks.now }
+    ensures { IfOk result (λ last. option_map string_bytes last ≡ last_speaker (line_texts old.now) blocks.now) }
+{
+    match last_speech(blocks) {
+        Some(place) => Ok(Some(old_speaker_name(alloc, old, &blocks[place])?)),
+        None => Ok(None),
+    }
 }
 
 /// Who spoke last before a place of a text (docs/RULES.md, "Elements"). Where speakers who go on aren't told, nobody is
@@ -214,6 +277,35 @@ impl Speakers {
             None
         };
         Ok(Speakers { on, last })
+    }
+
+    /// The same behind blocks of a text before a change.
+    pub fn behind_old(
+        alloc: Global,
+        old: &OldLines<'_>,
+        blocks: &[PlacedBlock<'_>],
+        on: bool,
+    ) -> Result<Speakers, AllocError>
+        requires { All (PlacedLies (line_texts old.now)) blocks.now }
+        ensures { IfOk result (λ speakers. speakers ≡ speakers_after (line_texts old.now) on blocks.now) }
+    {
+        let last = if on {
+            old_last_speaker(alloc, old, blocks)?
+        } else {
+            None
+        };
+        Ok(Speakers { on, last })
+    }
+
+    /// Whether the same one spoke last. Takes no memory.
+    pub fn are_same(&self, other: &Speakers) -> bool
+        ensures { IsTrue result ↔ self.now.last ≡ other.now.last }
+    {
+        match (&self.last, &other.last) {
+            (None, None) => true,
+            (Some(one), Some(other)) => one.as_str() == other.as_str(),
+            _ => false,
+        }
     }
 
     /// Passes a block that lies in the lines, and tells whether its speaker goes on, where it stands at this side.

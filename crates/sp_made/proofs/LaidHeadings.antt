@@ -45,14 +45,14 @@ ids-three front own back front_keys own_keys back_keys one two =
     ids-append front (own ++ back) front_keys (own_keys ++ back_keys) one ∙ ap (λ (ids : List ℕ). heading_ids front front_keys ++ ids) (ids-append own back own_keys back_keys two)
 
 -- What page ends see of rows, by their elements.
-shapes-append : (one other : List ElementOf) → shapes_in (one ++ other) ≡ shapes_in one ++ shapes_in other
+pub shapes-append : (one other : List ElementOf) → shapes_in (one ++ other) ≡ shapes_in one ++ shapes_in other
 shapes-append one other = ap (map (λ (row : Row). row.shape)) (flat_map-append placed_rows one other) ∙ map-append (λ (row : Row). row.shape) (placed_in one) (placed_in other)
 
 shapes-shifted : (n m : ℕ) (rows : List Row) → map (λ (row : Row). row.shape) (map (shifted_row n) rows) ≡ map (λ (row : Row). row.shape) (map (shifted_row m) rows)
 shapes-shifted n m [] = refl
 shapes-shifted n m (row ∷ rows) = ap (λ (shapes : List Shape). row.shape ∷ shapes) (shapes-shifted n m rows)
 
-shapes-moved : (less more : ℕ) (elements : List ElementOf) → shapes_in (map (moved_element less more) elements) ≡ shapes_in elements
+pub shapes-moved : (less more : ℕ) (elements : List ElementOf) → shapes_in (map (moved_element less more) elements) ≡ shapes_in elements
 shapes-moved less more [] = refl
 shapes-moved less more (element ∷ elements) =
     let own = moved_element less more element in

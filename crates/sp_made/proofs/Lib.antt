@@ -3,3 +3,4 @@ pub mod SheetPlaces
 pub mod MadeLaws
 pub mod StopsMade
 pub mod LaidHeadings
+pub mod TitleLaws

@@ -1,16 +1,16 @@
 //! What is made of a state and its stanzas: its elements in rows, the labels of its headings, and its sheets.
-ghost use Rattle.std.specs.Prelude.{◌≡◌, [], length, option_map, All, None, Some, IfNone, IfOk, IfSome, IsTrue, OnErr, OnOk};
+ghost use Rattle.std.specs.Prelude.{◌≡◌, length, option_map, All, None, Some, IfNone, IfOk, IfSome, IsTrue, OnErr, OnOk};
 ghost use Rattle.std.specs.Bool.{OnFalse};
 ghost use Rattle.spec_text.specs.Lines.{line_texts};
 ghost use Rattle.spec_script.specs.Stanzas.{stanzas_of};
-ghost use Rattle.spec_pages.specs.Pages.{page_starts, rows_on};
+ghost use Rattle.spec_pages.specs.Pages.{rows_on};
 ghost use Rattle.spec_state.specs.Headings.{heading_labels};
-ghost use Rattle.spec_state.specs.StateSheets.{body_sheets, locked_starts, rows_in};
+ghost use Rattle.spec_state.specs.StateSheets.{body_sheets, locked_starts, rows_in, title_starts};
 ghost use Rattle.spec_state.specs.Keeping.{IsWhole, state_of};
 ghost use Rattle.spec_state.specs.State.{State};
 ghost use Rattle.sp_text.specs.Gap.{text_of};
 ghost use Rattle.sp_exchange.specs.Restoring.{text_stanzas};
-ghost use Rattle.sp_elements.specs.Bodies.{marks_in, shapes_in};
+ghost use Rattle.sp_elements.specs.Bodies.{marks_in};
 ghost use Rattle.spec_locked_pages.specs.Segments.{pages_of};
 ghost use Rattle.sp_reflow.specs.Starts.{many_more};
 ghost use Rattle.sp_reflow.specs.Filling.{FilledAtMost};
@@ -22,8 +22,9 @@ ghost use Rattle.sp_made.specs.Pages.{AreStopsOf, AskedOfPages};
 ghost use Rattle.sp_numbers.specs.Locked.{AreSheetsBefore};
 ghost use Rattle.sp_numbers.specs.Numbered.{marked_sheets, AreMovedOutside, AreUnmarked};
 
+use crate::title_rows::{changed_titles, made_titles};
 use sp_elements::Body;
-use sp_kit::{Counter, Steps};
+use sp_kit::Steps;
 use sp_labels::Label;
 use sp_layout::lay_out_text;
 use sp_locks::{PageRecord, Sheet};
@@ -87,15 +88,6 @@ fn changed_labels(
     }
     let labels = made_labels(alloc, lines, stanzas, records)?;
     Ok(Some(labels))
-}
-
-/// The first rows of the title sheets. Their fills aren't counted with those of the body.
-fn title_pages(alloc: Global, titles: &Body, paper: Paper) -> Result<Pages, AllocError>
-    ensures { IfOk result (λ pages. pages.starts ≡ page_starts (rows_on paper) (shapes_in titles.now.elements) []) }
-{
-    let mut fills = Counter::new();
-    let none: &[usize] = &[];
-    Pages::new(alloc, titles.shapes(), none, rows_on(paper), &mut fills)
 }
 
 /// The first rows of the page records of a state that this was made of; none where pages aren't locked.
@@ -235,8 +227,8 @@ pub fn make_pages<S: Steps>(
     )
 }
 
-/// The labels and the sheets of a state whose text is laid out, by the first rows of its page records and of its pages. It fills
-/// no page of the body. `AllocError` comes for want of memory alone.
+/// The labels and the sheets of a state whose text is laid out, by the first rows of its page records, of its pages and of its title
+/// sheets. It fills no page. `AllocError` comes for want of memory alone.
 pub fn number(
     alloc: Global,
     lines: &Lines,
@@ -245,16 +237,17 @@ pub fn number(
     layout: &KeptLayout,
     firsts: &[usize],
     pages: &Pages,
+    titles: Vec<usize>,
 ) -> Result<Numbered, AllocError>
     requires whole { IsWhole (state_of (text_of lines.now) records.now) }
     requires stanzas { stanzas.now.stanzas ≡ text_stanzas (text_of lines.now) }
     requires laid { IsLaidOf (state_of (text_of lines.now) records.now) (laid_of layout.now) }
     requires firsts { firsts.now ≡ first_rows (state_of (text_of lines.now) records.now) }
     requires pages { pages.now.starts ≡ pages_of (state_of (text_of lines.now) records.now) }
+    requires titles { titles.items ≡ title_starts (state_of (text_of lines.now) records.now) }
     ensures { IfOk result (IsNumberedOf (state_of (text_of lines.now) records.now)) }
 {
     let labels = made_labels(alloc, lines, stanzas, records)?;
-    let title_pages = title_pages(alloc, &layout.titles, records.paper)?;
     let mut sheets = Vec::new(alloc);
     let none = Stale {
         from: 0,
@@ -275,7 +268,7 @@ pub fn number(
     )?;
     Ok(Numbered {
         labels,
-        title_pages,
+        title_starts: titles,
         sheets,
     })
 }
@@ -289,11 +282,11 @@ fn renews_all(records: &Records) -> bool
 }
 
 /// Makes the labels and the sheets those of a state after an edit whose text is laid out, by the first rows of its page records
-/// and of its pages, and by what would make the page starts those before. It fills no page of the body. Labels that are those of
-/// the state already may be kept: then no stanza is looked at. Where pages aren't locked and the round is 0, sheets before the
-/// exchanged pages, but for the one before them, stay as they are, and where as many pages come as go those behind them only move,
-/// by the rows that come and go. Where pages are locked and first rows and pages stayed, sheets may be kept but for their rounds.
-/// On an error there was no memory, and nothing is changed.
+/// and of its pages, and by what would make the page starts those before. It fills no page. Labels that are those of the state
+/// already may be kept: then no stanza is looked at; and so may title sheets: then no row of the title page is. Where pages aren't
+/// locked and the round is 0, sheets before the exchanged pages, but for the one before them, stay as they are, and where as many
+/// pages come as go those behind them only move, by the rows that come and go. Where pages are locked and first rows and pages
+/// stayed, sheets may be kept but for their rounds. On an error there was no memory, and nothing is changed.
 pub fn renumber(
     alloc: Global,
     lines: &Lines,
@@ -304,6 +297,7 @@ pub fn renumber(
     pages: &Pages,
     swapped: &SwappedPages,
     keeps_labels: bool,
+    keeps_titles: bool,
     keeps_pages: bool,
     numbered: &mut Numbered,
 ) -> Result<(), AllocError>
@@ -315,11 +309,12 @@ pub fn renumber(
     requires can { CanPutBack pages.now.starts swapped.now }
     requires sheets { (records.now).pages ≡ None → (records.now).round ≡ 0 → AreUnmarked numbered.old.sheets (with_taken pages.now.starts swapped.now) }
     requires labels { IsTrue keeps_labels → numbered.old.labels ≡ heading_labels lines.now.lines records.now.scenes }
+    requires titles { IsTrue keeps_titles → numbered.old.title_starts ≡ title_starts (state_of (text_of lines.now) records.now) }
     requires kept { IsTrue keeps_pages → IfSome (records.now).pages (λ those. AreSheetsBefore those firsts.now pages.now.starts numbered.old.sheets) }
     ensures numbered { OnOk result (IsNumberedOf (state_of (text_of lines.now) records.now) numbered.new) }
     ensures same { OnErr result (numbered.new ≡ numbered.old) }
 {
-    let title_pages = title_pages(alloc, &layout.titles, records.paper)?;
+    let titles = changed_titles(alloc, lines, records, layout, keeps_titles)?;
     let starts = pages.starts();
     let marks = layout.body.marks();
     let stale = stale_places(&numbered.sheets, marks, renews_all(records), swapped);
@@ -338,7 +333,9 @@ pub fn renumber(
     if let Some(labels) = labels {
         numbered.labels = labels;
     }
-    numbered.title_pages = title_pages;
+    if let Some(titles) = titles {
+        numbered.title_starts = titles;
+    }
     Ok(())
 }
 
@@ -363,7 +360,10 @@ fn numbered_pages<S: Steps>(
     let none: &[usize] = &[];
     let firsts = laid_firsts(alloc, lines, records, layout, none)?;
     let pages = make_pages(alloc, lines, records, layout, &firsts, steps)?;
-    let numbered = number(alloc, lines, stanzas, records, layout, &firsts, &pages)?;
+    let titles = made_titles(alloc, lines, records, layout)?;
+    let numbered = number(
+        alloc, lines, stanzas, records, layout, &firsts, &pages, titles,
+    )?;
     Ok((numbered, pages))
 }
 

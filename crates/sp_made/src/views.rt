@@ -115,7 +115,7 @@ pub fn title_count(made: &Made) -> usize
     ensures { result ≡ length made.now.numbered.title_starts }
 {
     let numbered = &made.numbered;
-    numbered.title_pages.starts().len()
+    numbered.title_starts.len()
 }
 
 /// How many sheets there are.
@@ -123,7 +123,7 @@ pub fn sheet_count(made: &Made) -> usize
     ensures { result ≡ length made.now.numbered.title_starts + length made.now.numbered.sheets }
 {
     let numbered = &made.numbered;
-    numbered.title_pages.starts().len() + numbered.sheets.len()
+    numbered.title_starts.len() + numbered.sheets.len()
 }
 
 /// The title sheet at a place.
@@ -134,7 +134,7 @@ pub fn made_title<'a>(lines: &'a Lines, made: &'a Made, place: usize) -> PageVie
 {
     let layout = &made.layout;
     let numbered = &made.numbered;
-    title_view(lines, &layout.titles, numbered.title_pages.starts(), place)
+    title_view(lines, &layout.titles, &numbered.title_starts, place)
 }
 
 /// The sheet at a place behind the title sheets.

@@ -1,7 +1,6 @@
 //! What is made of a state: its text laid out, the labels of its headings, and its sheets.
 use sp_labels::Label;
 use sp_locks::Sheet;
-use sp_reflow::Pages;
 use sp_relay::KeptLayout;
 use std::marker::Model;
 
@@ -9,7 +8,7 @@ use std::marker::Model;
 #[derive(Drop)]
 pub struct Numbered {
     pub labels: Option<Vec<Label>>,
-    pub title_pages: Pages,
+    pub title_starts: Vec<usize>,
     pub sheets: Vec<Sheet>,
 }
 
@@ -21,7 +20,7 @@ impl Model for Numbered {
 
     ghost view = { λ n. record {
       labels = option_map (λ those. those.items) n.labels;
-      title_starts = n.title_pages.starts;
+      title_starts = n.title_starts.items;
       sheets = n.sheets.items;
     } };
 }

@@ -1,7 +1,7 @@
 -- The part of a layout that an edit changes, by the stanzas round its window.
-use Rattle.std.proofs.Common.{◌≡◌, ◌⊎◌, ℕ, ◌+◌, ◌-◌, ◌<◌, ◌≤◌, Bool, true, false, not, cond, Option, None, List, [], ◌++◌, length, map, get_or, take, drop, slice_range, inl, inr, refl, sym, ap, ap₂, subst, ◌∙◌, arith, append_assoc, length-append, take-append-drop, get_or-take, get_or-drop, All}
+use Rattle.std.proofs.Common.{◌≡◌, ◌⊎◌, ℕ, ◌+◌, ◌-◌, ◌<◌, ◌≤◌, Bool, true, false, cond, Option, None, List, [], ◌++◌, length, map, get_or, take, drop, slice_range, inl, inr, refl, sym, ap, ap₂, subst, ◌∙◌, arith, append_assoc, length-append, take-append-drop, get_or-take, get_or-drop, All}
 use Rattle.std.specs.List.{list_any}
-use Rattle.std.proofs.lemmas.Bool.{not-true, or_cases, or_parts}
+use Rattle.std.proofs.lemmas.Bool.{or_cases}
 use Rattle.std.proofs.lemmas.List.{append-nil, drop_all, length-map}
 use Rattle.std.proofs.lemmas.List.Elements.{All-append}
 use Rattle.std.proofs.lemmas.List.Folds.{drop_split}
@@ -31,13 +31,13 @@ use Rattle.spec_reread.proofs.WindowBlocks.{blocks-append}
 use Rattle.spec_layout.specs.Layout.{is_title_element, in_body, breaks_from}
 use Rattle.sp_layout.specs.LaidOut.{LayoutOf, layout_behind}
 use Rattle.sp_layout.specs.Speaking.{SpeakersOf, speakers_after}
-use Rattle.sp_reread.specs.Cache.{SwappedState}
+use Rattle.sp_reread.specs.Cache.{GivesBack, SwappedState}
 use Rattle.sp_relay.specs.declared.edges.PartEdge.{PartEdge}
 use Rattle.sp_relay.specs.declared.kept.PartPlaces.{PartPlaces}
 use Rattle.sp_relay.specs.Kept.{CanSwap}
 use Rattle.sp_relay.specs.Relaid.{IsRelaid, places_of}
-use Rattle.sp_relay.specs.Edges.{CanPart, CanBegin, CanEnd, IsEdge, IsPartStart, IsPartEnd, edge_places}
-use Rattle.sp_relay.specs.Edited.{AreAlike, WasLaid, window_start, window_end, window_was, windows_settle}
+use Rattle.sp_relay.specs.Edges.{CanPart, CanBegin, CanEnd, IsEdge, IsPartBegin, IsPartEnd, edge_places}
+use Rattle.sp_relay.specs.Edited.{AreAlike, IsEdited, LastStays, WasLaid, window_start, window_end, window_was}
 use Rattle.sp_relay.proofs.StanzaLists.{take-split, slice-split, part-four, opens-slice}
 use Rattle.sp_relay.proofs.SpeakerLaws.{behind-quiet}
 use Rattle.sp_relay.proofs.QuietLaws.{quiet-relaid}
@@ -49,6 +49,43 @@ pub spoken-last : (on : Bool) (lines : List LineState) (last : Option (List ℕ)
 spoken-last true lines last blocks = refl
 spoken-last false lines last blocks = spoken_elements-off lines None last blocks
 
+-- Who spoke last before a stanza, by those up to an earlier one and those behind it.
+behind-to : (texts : List (List ℕ)) (stanzas : List StanzaOf) (from to : ℕ) → from ≤ to
+    → speaker_behind texts None (blocks_from 0 (take to stanzas))
+    ≡ speaker_behind texts (speaker_behind texts None (blocks_from 0 (take from stanzas))) (blocks_from (stanza_lines_in (take from stanzas)) (slice_range stanzas from to))
+behind-to texts stanzas from to order =
+    let start : 0 + stanza_lines_in (take from stanzas) ≡ stanza_lines_in (take from stanzas) = omega arith in
+    let one = blocks_from 0 (take from stanzas) in
+    let two = blocks_from (stanza_lines_in (take from stanzas)) (slice_range stanzas from to) in
+    let blocks : blocks_from 0 (take to stanzas) ≡ one ++ two =
+    ap (blocks_from 0) (take-split stanzas from to order) ∙ blocks-append 0 (take from stanzas) (slice_range stanzas from to) ∙ ap (λ n. one ++ blocks_from n (slice_range stanzas from to)) start in
+    ap (speaker_behind texts None) blocks ∙ behind-append texts None one two
+
+-- The same behind the window of an edit, in the text before it.
+pub behind-window : (texts : List (List ℕ)) (stanzas : List StanzaOf) (swapped : SwappedState)
+    → speaker_behind texts None (blocks_from 0 (take swapped.at stanzas ++ swapped.stanzas))
+    ≡ speaker_behind texts (speaker_behind texts None (blocks_from 0 (take swapped.at stanzas))) (blocks_from (window_start stanzas swapped) swapped.stanzas)
+behind-window texts stanzas swapped =
+    let start : 0 + window_start stanzas swapped ≡ window_start stanzas swapped = omega arith in
+    let one = blocks_from 0 (take swapped.at stanzas) in
+    ap (speaker_behind texts None) (blocks-append 0 (take swapped.at stanzas) swapped.stanzas ∙ ap (λ n. one ++ blocks_from n swapped.stanzas) start)
+    ∙ behind-append texts None one (blocks_from (window_start stanzas swapped) swapped.stanzas)
+
+-- Who spoke last behind the window of an edit, in both texts, where it stays.
+last-told : (olds lines : List LineState) (stanzas : List StanzaOf) (swapped : SwappedState) (on : Bool) → LastStays olds lines stanzas swapped on
+    → (on ≡ false)
+    ⊎ (speaker_behind (line_texts lines) (speaker_behind (line_texts lines) None (blocks_from 0 (take swapped.at stanzas))) (blocks_from (window_start stanzas swapped) (slice_range stanzas swapped.at (swapped.at + swapped.stands)))
+    ≡ speaker_behind (line_texts olds) (speaker_behind (line_texts olds) None (blocks_from 0 (take swapped.at stanzas))) (blocks_from (window_start stanzas swapped) swapped.stanzas))
+last-told olds lines stanzas swapped false stays = inl refl
+last-told olds lines stanzas swapped true stays =
+    inr (sym (behind-to (line_texts lines) stanzas swapped.at (swapped.at + swapped.stands) (omega arith)) ∙ ap (λ (it : SpeakersOf). it.last) stays ∙ behind-window (line_texts olds) stanzas swapped)
+
+-- Lines in front of a place are those of another text.
+pub still-by : (before lines : List LineState) (count : ℕ) → take count before ≡ take count lines → (place : ℕ) → place < count → line_state lines place ≡ line_state before place
+still-by before lines count same place low =
+    let d : LineState = record { id = 0; mark = 0; text = [] } in
+    sym (get_or-take count lines place d low) ∙ ap (λ (ls : List LineState). get_or ls place d) (sym same) ∙ get_or-take count before place d low
+
 places-same : (a b c d e f a' b' c' d' e' f' less more : ℕ) → a ≡ a' → b ≡ b' → c ≡ c' → d ≡ d' → e ≡ e' → f ≡ f'
     → let P : PartPlaces = record { title_from = a; title_to = b; from = c; to = d; break_from = e; break_to = f; less = less; more = more } in
     P ≡ record { title_from = a'; title_to = b'; from = c'; to = d'; break_from = e'; break_to = f'; less = less; more = more }
@@ -57,7 +94,7 @@ places-same a b c d e f a' b' c' d' e' f' less more one two three four five six 
     ∙ ap₂ (λ x y. record { title_from = a'; title_to = b'; from = x; to = y; break_from = e; break_to = f; less = less; more = more }) three four
     ∙ ap₂ (λ x y. record { title_from = a'; title_to = b'; from = c'; to = d'; break_from = x; break_to = y; less = less; more = more }) five six
 
-module _ (lines : TextState) (stanzas : List StanzaOf) (swapped : SwappedState) (on : Bool) (layout : LayoutOf) (it : WasLaid lines.lines stanzas swapped on layout) where
+module _ (was_lines : List LineState) (lines : TextState) (stanzas : List StanzaOf) (swapped : SwappedState) (on : Bool) (layout : LayoutOf) (it : WasLaid was_lines lines.lines stanzas swapped on layout) where
   abbrev at : ℕ
   at = swapped.at
 
@@ -94,6 +131,9 @@ module _ (lines : TextState) (stanzas : List StanzaOf) (swapped : SwappedState) 
         can-part on it.before layout it.of.keeps it.of.was (take i stanzas) behind is (opens-more (slice_range stanzas i at) (swapped.stanzas ++ drop to stanzas) (opens-slice stanzas i at low opens));
   }
 
+  pub can-begin-window : OpensApart swapped.stanzas → CanPart layout (stanza_lines_in (take at stanzas))
+  can-begin-window opens = can-part on it.before layout it.of.keeps it.of.was (take at stanzas) (swapped.stanzas ++ drop to stanzas) old-stanzas (opens-more swapped.stanzas (drop to stanzas) opens)
+
   pub can-end : CanEnd stanzas to was end layout
   can-end = record {
     each = λ i low inside opens.
@@ -108,9 +148,7 @@ module _ (lines : TextState) (stanzas : List StanzaOf) (swapped : SwappedState) 
 
   -- The lines outside the window.
   lines-still : (place : ℕ) → place < window_start stanzas swapped → line_state lines.lines place ≡ line_state it.before.lines place
-  lines-still place low =
-      let d : LineState = record { id = 0; mark = 0; text = [] } in
-      sym (get_or-take (window_start stanzas swapped) lines.lines place d low) ∙ ap (λ (ls : List LineState). get_or ls place d) (sym it.of.front) ∙ get_or-take (window_start stanzas swapped) it.before.lines place d low
+  lines-still = still-by it.before.lines lines.lines (window_start stanzas swapped) it.of.front
 
   lines-moved : (place : ℕ) → was ≤ place → line_state lines.lines (moved_place was end place) ≡ line_state it.before.lines place
   lines-moved place low =
@@ -120,8 +158,8 @@ module _ (lines : TextState) (stanzas : List StanzaOf) (swapped : SwappedState) 
       let there : was + n ≡ place = omega (arith, low) in
       ap (λ p. get_or lines.lines p d) here ∙ sym (get_or-drop end lines.lines n d) ∙ ap (λ (ls : List LineState). get_or ls n d) (sym it.of.rest) ∙ get_or-drop was it.before.lines n d ∙ ap (λ p. get_or it.before.lines p d) there
 
-  module _ (list : stanzas ≡ stanzas_of (line_texts lines.lines)) (keeps : IsText lines) (start stop : PartEdge) (quiet : Bool) (begins : IsPartStart stanzas at layout start) (ends : IsPartEnd stanzas to was end quiet layout stop)
-      (told : quiet ≡ not (windows_settle stanzas swapped)) where
+  module _ (list : stanzas ≡ stanzas_of (line_texts lines.lines)) (keeps : IsText lines) (start stop : PartEdge) (quiet : Bool) (begins : IsPartBegin stanzas swapped layout start) (ends : IsPartEnd stanzas to was end quiet layout stop)
+      (told : quiet ≡ true → LastStays was_lines lines.lines stanzas swapped on) where
     abbrev front : List StanzaOf
     front = take start.stanza stanzas
 
@@ -208,13 +246,21 @@ module _ (lines : TextState) (stanzas : List StanzaOf) (swapped : SwappedState) 
         let are = IsText-texts it.before it.of.keeps in
         stanzas-relaid it.before.lines lines.lines front ahead gone come behind rest (window_start stanzas swapped) was end (parts-to behind rest inner apart) are.utf8 are.few on
 
-    -- Where neither window has one.
+    -- Where the same one spoke last behind the window.
     relaid-quiet : OpensApart rest → quiet ≡ true → Relaid
     relaid-quiet opens is =
         let are = IsText-texts it.before it.of.keeps in
-        let none = or_parts (list_any stanza_settles gone) (list_any stanza_settles come) (not-true (windows_settle stanzas swapped) (sym told ∙ is)) in
-        quiet-relaid it.before.lines lines.lines front ahead gone come behind rest (window_start stanzas swapped) was end
-        (parts-to (behind ++ rest) [] (inner ∙ sym (append-nil (behind ++ rest))) (inl refl)) are.utf8 are.few on opens none.0 none.1
+        let parts = parts-to (behind ++ rest) [] (inner ∙ sym (append-nil (behind ++ rest))) (inl refl) in
+        let first_line = window_start stanzas swapped in
+        let stays = last-told was_lines lines.lines stanzas swapped on (told is) in
+        let olds = line_texts it.before.lines in
+        let news = line_texts lines.lines in
+        let Same : List LineState → List StanzaOf → Type 0 = λ (ls : List LineState) (ss : List StanzaOf).
+        speaker_behind news (speaker_behind news None (blocks_from 0 ss)) (blocks_from first_line come) ≡ speaker_behind (line_texts ls) (speaker_behind (line_texts ls) None (blocks_from 0 ss)) (blocks_from first_line gone) in
+        quiet-relaid it.before.lines lines.lines front ahead gone come behind rest first_line was end parts are.utf8 are.few on opens (elim stays [
+          | inl off ↦ inl off
+          | inr same ↦ inr (subst (λ (ls : List LineState). Same ls (front ++ ahead)) (sym it.is) (subst (Same was_lines) (take-split stanzas start.stanza at begins.within) same))
+        ])
 
     relaid : Relaid
     relaid = elim ends.is [
@@ -366,14 +412,13 @@ pub record EditedPart (before lines : List LineState) (layout : LayoutOf) (speak
   pub relaid : IsRelaid before lines speakers blocks places layout
   pub can : CanSwap layout places (layout_behind lines speakers blocks)
 
-pub edited-part : (lines : TextState) (stanzas : List StanzaOf) (swapped : SwappedState) (on : Bool) (layout : LayoutOf) (it : WasLaid lines.lines stanzas swapped on layout) → stanzas ≡ stanzas_of (line_texts lines.lines) → IsText lines
-    → (from upto was end : ℕ) (start stop : PartEdge) (quiet : Bool) (speakers : SpeakersOf) (blocks : List PlacedBlock) (places : PartPlaces) → from ≡ swapped.at → upto ≡ swapped.at + swapped.stands → was ≡ window_was stanzas swapped
-    → end ≡ window_end stanzas swapped → IsPartStart stanzas from layout start → IsPartEnd stanzas upto was end quiet layout stop → quiet ≡ not (windows_settle stanzas swapped)
+pub edited-part : (was_lines : List LineState) (lines : TextState) (stanzas : List StanzaOf) (swapped : SwappedState) (on : Bool) (layout : LayoutOf) (it : WasLaid was_lines lines.lines stanzas swapped on layout) → stanzas ≡ stanzas_of (line_texts lines.lines) → IsText lines
+    → (upto was end : ℕ) (start stop : PartEdge) (quiet : Bool) (speakers : SpeakersOf) (blocks : List PlacedBlock) (places : PartPlaces) → upto ≡ swapped.at + swapped.stands → was ≡ window_was stanzas swapped
+    → end ≡ window_end stanzas swapped → IsPartBegin stanzas swapped layout start → IsPartEnd stanzas upto was end quiet layout stop → (quiet ≡ true → LastStays was_lines lines.lines stanzas swapped on)
     → blocks ≡ blocks_from (stanza_lines_in (take start.stanza stanzas)) (slice_range stanzas start.stanza stop.stanza)
     → AreAlike lines.lines blocks speakers (speakers_after (line_texts lines.lines) on (blocks_from 0 (take start.stanza stanzas))) → places ≡ edge_places start stop was end
     → EditedPart it.before.lines lines.lines layout speakers blocks places
-edited-part lines stanzas swapped on layout it list keeps from upto was end start stop quiet speakers blocks places from_is upto_is was_is end_is begins ends told blocks_are alike places_are =
-    let begin = subst (λ n. IsPartStart stanzas n layout start) from_is begins in
+edited-part was_lines lines stanzas swapped on layout it list keeps upto was end start stop quiet speakers blocks places upto_is was_is end_is begins ends told blocks_are alike places_are =
     let stops = subst (λ n. IsPartEnd stanzas (swapped.at + swapped.stands) (window_was stanzas swapped) n quiet layout stop) end_is
     (subst (λ n. IsPartEnd stanzas (swapped.at + swapped.stands) n end quiet layout stop) was_is (subst (λ n. IsPartEnd stanzas n was end quiet layout stop) upto_is ends)) in
     let places_same : places ≡ edge_places start stop (window_was stanzas swapped) (window_end stanzas swapped) = places_are ∙ ap₂ (λ n m. edge_places start stop n m) was_is end_is in
@@ -381,15 +426,15 @@ edited-part lines stanzas swapped on layout it list keeps from upto was end star
     let relaid = relaid-alike it.before.lines lines.lines speakers own blocks places layout alike
     (subst (λ (p : PartPlaces). IsRelaid it.before.lines lines.lines own blocks p layout) (sym places_same)
     (subst (λ (bs : List PlacedBlock). IsRelaid it.before.lines lines.lines own bs (edge_places start stop (window_was stanzas swapped) (window_end stanzas swapped)) layout) (sym blocks_are)
-    (edit-relaid lines stanzas swapped on layout it list keeps start stop quiet begin stops told))) in
+    (edit-relaid was_lines lines stanzas swapped on layout it list keeps start stop quiet begins stops told))) in
     record { relaid = relaid; can = relaid-can it.before lines speakers blocks places layout it.of.keeps keeps relaid }
 
-pub can-end-at : (lines : TextState) (stanzas : List StanzaOf) (swapped : SwappedState) (on : Bool) (layout : LayoutOf) → WasLaid lines.lines stanzas swapped on layout → (upto was end : ℕ) → upto ≡ swapped.at + swapped.stands
+pub can-end-at : (was_lines : List LineState) (lines : TextState) (stanzas : List StanzaOf) (swapped : SwappedState) (on : Bool) (layout : LayoutOf) → WasLaid was_lines lines.lines stanzas swapped on layout → (upto was end : ℕ) → upto ≡ swapped.at + swapped.stands
     → was ≡ window_was stanzas swapped → end ≡ window_end stanzas swapped → CanEnd stanzas upto was end layout
-can-end-at lines stanzas swapped on layout it upto was end upto_is was_is end_is =
+can-end-at was_lines lines stanzas swapped on layout it upto was end upto_is was_is end_is =
     subst (λ n. CanEnd stanzas n was end layout) (sym upto_is)
     (subst (λ n. CanEnd stanzas (swapped.at + swapped.stands) n end layout) (sym was_is)
-    (subst (λ n. CanEnd stanzas (swapped.at + swapped.stands) (window_was stanzas swapped) n layout) (sym end_is) (can-end lines stanzas swapped on layout it)))
+    (subst (λ n. CanEnd stanzas (swapped.at + swapped.stands) (window_was stanzas swapped) n layout) (sym end_is) (can-end was_lines lines stanzas swapped on layout it)))
 
 -- The stanzas of a text, and the first of them, have no more lines than a text.
 pub record FewLines (stanzas : List StanzaOf) : Type 0 where
@@ -424,18 +469,6 @@ slice-lies text stanzas from to keeps is order =
     let lie = subst (All (PlacedLies texts)) blocks (blocks_of-lie texts are.utf8 are.few).lie in
     All-front (PlacedLies texts) mid last (All-back (PlacedLies texts) (blocks_from 0 (take from stanzas)) (mid ++ last) lie)
 
--- Who spoke last before a stanza, by those up to an earlier one and those behind it.
-behind-to : (texts : List (List ℕ)) (stanzas : List StanzaOf) (from to : ℕ) → from ≤ to
-    → speaker_behind texts None (blocks_from 0 (take to stanzas))
-    ≡ speaker_behind texts (speaker_behind texts None (blocks_from 0 (take from stanzas))) (blocks_from (stanza_lines_in (take from stanzas)) (slice_range stanzas from to))
-behind-to texts stanzas from to order =
-    let start : 0 + stanza_lines_in (take from stanzas) ≡ stanza_lines_in (take from stanzas) = omega arith in
-    let one = blocks_from 0 (take from stanzas) in
-    let two = blocks_from (stanza_lines_in (take from stanzas)) (slice_range stanzas from to) in
-    let blocks : blocks_from 0 (take to stanzas) ≡ one ++ two =
-    ap (blocks_from 0) (take-split stanzas from to order) ∙ blocks-append 0 (take from stanzas) (slice_range stanzas from to) ∙ ap (λ n. one ++ blocks_from n (slice_range stanzas from to)) start in
-    ap (speaker_behind texts None) blocks ∙ behind-append texts None one two
-
 -- Those from one with a heading or a speech on tell it, and those without one don't change it.
 pub speakers-told : (texts : List (List ℕ)) (on : Bool) (stanzas : List StanzaOf) (from to : ℕ) → from ≤ to → (from ≡ 0) ⊎ (list_any stanza_settles (slice_range stanzas from to) ≡ true)
     → speakers_after texts on (blocks_from (stanza_lines_in (take from stanzas)) (slice_range stanzas from to)) ≡ speakers_after texts on (blocks_from 0 (take to stanzas))
@@ -456,3 +489,15 @@ speakers-kept texts on stanzas from to order none =
     let P : Option (List ℕ) → SpeakersOf = λ last. record { on = on; last = cond on last None } in
     let two = blocks_from (stanza_lines_in (take from stanzas)) (slice_range stanzas from to) in
     ap P (sym (behind-to texts stanzas from to order ∙ behind-quiet texts last two (any-blocks (stanza_lines_in (take from stanzas)) (slice_range stanzas from to) ∙ none)))
+
+-- What an edit left is told without the layout.
+pub edited : (was_lines lines : List LineState) (stanzas : List StanzaOf) (swapped : SwappedState) (on : Bool) (layout : LayoutOf) → WasLaid was_lines lines stanzas swapped on layout → IsEdited was_lines lines stanzas swapped
+edited was_lines lines stanzas swapped on layout it =
+    let start = window_start stanzas swapped in
+    record {
+      before = it.before;
+      is = it.is;
+      keeps = it.of.keeps;
+      back = subst (λ (ls : List LineState). GivesBack swapped stanzas (stanzas_of (line_texts ls))) it.is it.of.back;
+      front = subst (λ (ls : List LineState). take start ls ≡ take start lines) it.is it.of.front;
+    }

@@ -7,4 +7,5 @@ pub mod EdgeLaws
 pub mod SwapLaws
 pub mod EditedLaws
 pub mod WindowLaws
+pub mod WindowSpeakers
 mod OutsideLaws

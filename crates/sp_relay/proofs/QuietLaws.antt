@@ -1,7 +1,6 @@
--- The blocks of a text before and after an edit of whose windows neither has a heading or a speech.
-use Rattle.std.proofs.Common.{◌≡◌, ℕ, ◌+◌, ◌≤◌, false, Bool, List, [], ◌++◌, length, map, None, inl, inr, sym, ap, ap₂, subst, ◌∙◌, arith, append_assoc, get_or}
+-- The blocks of a text before and after an edit, behind whose window the same one spoke last.
+use Rattle.std.proofs.Common.{◌≡◌, ◌⊎◌, ℕ, ◌+◌, ◌<◌, ◌≤◌, false, Bool, List, [], ◌++◌, length, map, None, inl, inr, sym, ap, ap₂, subst, ◌∙◌, arith, append_assoc, get_or}
 use Rattle.std.specs.Prelude.{All}
-use Rattle.std.specs.List.{list_any}
 use Rattle.std.specs.Str.{IsUtf8}
 use Rattle.std.proofs.lemmas.List.{append-nil}
 use Rattle.spec_text.specs.Limits.{line_count_limit}
@@ -14,14 +13,24 @@ use Rattle.spec_reread.specs.Windows.{stanza_lines_in}
 use Rattle.spec_reread.proofs.WindowBlocks.{blocks-append}
 use Rattle.spec_relay.specs.Moved.{moved_place, moved_block, BlockStays, speaker_behind, BeginsApart}
 use Rattle.spec_relay.specs.RelaidBlocks.{AreRelaid}
-use Rattle.spec_relay.specs.RelaidStanzas.{OpensApart, StanzasRelaid, stanza_settles}
+use Rattle.spec_relay.specs.RelaidStanzas.{OpensApart, StanzasRelaid}
 use Rattle.spec_relay.proofs.LayoutParts.{still-blocks}
 use Rattle.spec_relay.proofs.MovedElements.{behind-stays}
 use Rattle.spec_relay.proofs.Parts.{behind-append}
-use Rattle.spec_relay.proofs.RelaidStanzas.{IsWhole, blocks-whole, front-stands, stanzas-relaid}
-use Rattle.spec_relay.proofs.StanzaBlocks.{lines-append, blocks-three, blocks-moved, blocks-past, places-rise, any-blocks, opens-apart}
-use Rattle.sp_relay.proofs.SpeakerLaws.{behind-quiet}
+use Rattle.spec_relay.proofs.RelaidStanzas.{IsWhole, blocks-whole, front-block, front-stands, stanzas-relaid}
+use Rattle.spec_relay.proofs.StanzaBlocks.{lines-append, blocks-three, blocks-moved, blocks-past, places-rise, opens-apart}
 use Rattle.sp_relay.proofs.StanzaLists.{part-four}
+
+-- In front of an edit the same one spoke last.
+pub front-same : (before lines : List LineState) (front behind : List StanzaOf) → All IsUtf8 (line_texts before) → length (line_texts before) ≤ line_count_limit → stanzas_of (line_texts before) ≡ front ++ behind
+    → ((place : ℕ) → place < stanza_lines_in front → line_state lines place ≡ line_state before place) → speaker_behind (line_texts lines) None (blocks_from 0 front) ≡ speaker_behind (line_texts before) None (blocks_from 0 front)
+front-same before lines front behind utf8 few is same =
+    let own = blocks_from 0 front in
+    let all : blocks_of (line_texts before) ≡ own ++ blocks_from (0 + stanza_lines_in front) behind = ap (blocks_from 0) is ∙ blocks-append 0 front behind in
+    let whole = All-front IsWhole own (blocks_from (0 + stanza_lines_in front) behind) (subst (All IsWhole) all (blocks-whole (line_texts before) utf8 few)) in
+    let stands = front-stands (line_texts before) front behind utf8 few is in
+    let stay : All (BlockStays 0 0 before lines) own = λ k d h. front-block before lines (stanza_lines_in front) _ same (whole k d h) (stands.ends k d h) in
+    ap (speaker_behind (line_texts lines) None) (sym (still-blocks own)) ∙ behind-stays 0 0 before lines None own stay
 
 -- `it` has all stanzas behind the window as laid out anew. Those from the first of `rest` on needn't be.
 module _ (before lines : List LineState) (front ahead gone come behind rest : List StanzaOf) (start was end : ℕ) (it : StanzasRelaid before lines front ahead gone come (behind ++ rest) [] start was end) where
@@ -86,19 +95,6 @@ module _ (before lines : List LineState) (front ahead gone come behind rest : Li
     whole : All IsWhole (early ++ (blocks_from start gone ++ late))
     whole = subst (All IsWhole) old-blocks (blocks-whole (line_texts before) utf8 few)
 
-    early-stay : All (BlockStays 0 0 before lines) early
-    early-stay =
-        let those = All-front IsWhole early (blocks_from start gone ++ late) whole in
-        let stands = front-stands (line_texts before) (front ++ ahead) (gone ++ (behind ++ rest)) utf8 few old-stanzas in
-        λ k d h. let ends = stands.ends k d h in record {
-          rise = (those k d h).lines;
-          some = (those k d h).some;
-          low = omega arith;
-          line = λ n above below.
-              let still : moved_place 0 0 ((get_or early k d).first + n) ≡ (get_or early k d).first + n = omega arith in
-              ap (line_state lines) still ∙ it.still ((get_or early k d).first + n) (omega (arith, below, ends, starts));
-        }
-
     late-stay : All (BlockStays was end before lines) late
     late-stay =
         let those = All-back IsWhole (blocks_from start gone) late (All-back IsWhole early (blocks_from start gone ++ late) whole) in
@@ -113,35 +109,33 @@ module _ (before lines : List LineState) (front ahead gone come behind rest : Li
     behind-stay : All (BlockStays was end before lines) (blocks_from was behind ++ blocks_from place rest)
     behind-stay = subst (All (BlockStays was end before lines)) late-is late-stay
 
-    -- Behind the part the same one spoke last.
-    speakers-same : list_any stanza_settles gone ≡ false → list_any stanza_settles come ≡ false
+    -- Behind the part the same one spoke last, where the same one did behind the window.
+    speakers-same : speaker_behind (line_texts lines) (speaker_behind (line_texts lines) None early) (blocks_from start come) ≡ speaker_behind (line_texts before) (speaker_behind (line_texts before) None early) (blocks_from start gone)
         → speaker_behind (line_texts lines) None (blocks_from 0 front ++ blocks_from f (ahead ++ (come ++ behind)))
         ≡ speaker_behind (line_texts before) None (blocks_from 0 front ++ blocks_from f (ahead ++ (gone ++ behind)))
-    speakers-same none_gone none_come =
+    speakers-same same =
         let olds = line_texts before in
         let news = line_texts lines in
         let past = blocks_from was behind in
         let first = speaker_behind olds None early in
+        let last = speaker_behind olds first (blocks_from start gone) in
         let old_at : start + stanza_lines_in gone ≡ was = sym it.was_is in
         let new_at : start + stanza_lines_in come ≡ moved_place was end was = let is = it.end_is in omega (arith, is) in
         let stay = All-front (BlockStays was end before lines) past (blocks_from place rest) behind-stay in
-        let new_first : speaker_behind news None early ≡ first = ap (speaker_behind news None) (sym (still-blocks early)) ∙ behind-stays 0 0 before lines None early early-stay in
-        let new_window : speaker_behind news (speaker_behind news None early) (blocks_from start come) ≡ first =
-        behind-quiet news (speaker_behind news None early) (blocks_from start come) (any-blocks start come ∙ none_come) ∙ new_first in
-        let old_window : speaker_behind olds first (blocks_from start gone) ≡ first = behind-quiet olds first (blocks_from start gone) (any-blocks start gone ∙ none_gone) in
         ap (speaker_behind news None) (window-parts come)
         ∙ behind-append news None early (blocks_from start come ++ blocks_from (start + stanza_lines_in come) behind)
         ∙ behind-append news (speaker_behind news None early) (blocks_from start come) (blocks_from (start + stanza_lines_in come) behind)
-        ∙ ap₂ (λ last (bs : List PlacedBlock). speaker_behind news last bs) new_window (ap (λ n. blocks_from n behind) new_at ∙ blocks-moved was end was behind (omega arith))
-        ∙ behind-stays was end before lines first past stay
+        ∙ ap₂ (λ who (bs : List PlacedBlock). speaker_behind news who bs) same (ap (λ n. blocks_from n behind) new_at ∙ blocks-moved was end was behind (omega arith))
+        ∙ behind-stays was end before lines last past stay
         ∙ sym (ap (speaker_behind olds None) (window-parts gone)
         ∙ behind-append olds None early (blocks_from start gone ++ blocks_from (start + stanza_lines_in gone) behind)
         ∙ behind-append olds first (blocks_from start gone) (blocks_from (start + stanza_lines_in gone) behind)
-        ∙ ap₂ (λ last n. speaker_behind olds last (blocks_from n behind)) old_window old_at)
+        ∙ ap (λ n. speaker_behind olds last (blocks_from n behind)) old_at)
 
-    pub quiet-relaid : (on : Bool) → OpensApart rest → list_any stanza_settles gone ≡ false → list_any stanza_settles come ≡ false
+    pub quiet-relaid : (on : Bool) → OpensApart rest
+        → (on ≡ false) ⊎ (speaker_behind (line_texts lines) (speaker_behind (line_texts lines) None early) (blocks_from start come) ≡ speaker_behind (line_texts before) (speaker_behind (line_texts before) None early) (blocks_from start gone))
         → AreRelaid on before lines was end (blocks_from 0 front) (blocks_from f (ahead ++ (gone ++ behind))) (blocks_from f (ahead ++ (come ++ behind))) (blocks_from place rest)
-    quiet-relaid on opens none_gone none_come =
+    quiet-relaid on opens stays =
         let all = stanzas-relaid before lines front ahead gone come (behind ++ rest) [] start was end it utf8 few on in
         record {
           old = all.old ∙ ap (λ (bs : List PlacedBlock). blocks_from 0 front ++ bs) old-part;
@@ -156,5 +150,8 @@ module _ (before lines : List LineState) (front ahead gone come behind rest : Li
           front_rise = all.front_rise;
           place = place;
           rest_rise = places-rise place place rest (omega arith);
-          speakers = inr (inr (speakers-same none_gone none_come));
+          speakers = elim stays [
+            | inl off ↦ inr (inl off)
+            | inr same ↦ inr (inr (speakers-same same))
+          ];
         }

@@ -8,7 +8,7 @@ use Rattle.std.proofs.lemmas.List.Folds.{list_any-append}
 use Rattle.std.proofs.lemmas.Option.{slice_get_within, get_or_from_slice_get}
 use Rattle.spec_script.specs.BlockValues.{StanzaOf}
 use Rattle.spec_relay.specs.RelaidStanzas.{first_apart, OpensApart, stanza_settles}
-use Rattle.sp_relay.specs.Edges.{settled_by}
+use Rattle.sp_relay.specs.Edges.{opens_first, settled_by}
 
 pub take-split : {X : Type 0} (xs : List X) (i j : ℕ) → i ≤ j → take j xs ≡ take i xs ++ slice_range xs i j
 take-split xs i j order =
@@ -44,6 +44,15 @@ opens-at stanzas i s at is = subst OpensApart (sym (drop-at stanzas i s at)) is
 
 pub opens-first : (stanzas : List StanzaOf) (i : ℕ) (s : StanzaOf) → slice_get stanzas i ≡ Some s → OpensApart (drop i stanzas) → first_apart s.blocks ≡ true
 opens-first stanzas i s at is = subst OpensApart (drop-at stanzas i s at) is
+
+-- Whether those from one place to before another begin so.
+pub opens-window : (stanzas : List StanzaOf) (at stands : ℕ) (s : StanzaOf) → slice_get stanzas at ≡ Some s → 0 < stands → opens_first (slice_range stanzas at (at + stands)) ≡ first_apart s.blocks
+opens-window stanzas at stands s is some =
+    let count : at + stands - at ≡ suc (stands - 1) = omega (arith, some) in
+    ap₂ (λ n (ss : List StanzaOf). opens_first (take n ss)) count (drop-at stanzas at s is)
+
+pub opens-none : (stanzas : List StanzaOf) (at stands : ℕ) → stands ≤ 0 → opens_first (slice_range stanzas at (at + stands)) ≡ false
+opens-none stanzas at stands none = let count : at + stands - at ≡ 0 = omega (arith, none) in ap (λ n. opens_first (take n (drop at stanzas))) count
 
 -- Whether one of them has a heading or a speech, up to a place and with the next one.
 pub settles-none : (stanzas : List StanzaOf) (i : ℕ) → list_any stanza_settles (slice_range stanzas i i) ≡ false

@@ -1,12 +1,13 @@
 -- Where a part of a layout that is laid out anew begins and ends (docs/RULES.md, "Windows").
-use Rattle.std.specs.Prelude.{◌≡◌, ◌⊎◌, ℕ, ◌<◌, ◌≤◌, true, Bool, ◌||◌, List, length, take, drop, slice_range, slice_index, AllPairs}
+use Rattle.std.specs.Prelude.{◌≡◌, ◌⊎◌, ℕ, ◌+◌, ◌<◌, ◌≤◌, true, false, Bool, ◌||◌, ◌&&◌, List, [], ◌∷◌, ◌++◌, length, take, drop, slice_range, slice_index, AllPairs}
 use Rattle.std.specs.List.{list_any}
 use Rattle.spec_script.specs.BlockValues.{StanzaOf}
 use Rattle.spec_reread.specs.Windows.{stanza_lines_in}
 use Rattle.spec_relay.specs.Moved.{moved_place}
-use Rattle.spec_relay.specs.RelaidStanzas.{OpensApart, stanza_settles}
+use Rattle.spec_relay.specs.RelaidStanzas.{OpensApart, first_apart, stanza_settles}
 use Rattle.sp_elements.specs.Places.{ArePartedAt, CountsBefore, CountsBelow}
 use Rattle.sp_layout.specs.LaidOut.{LayoutOf}
+use Rattle.sp_reread.specs.Cache.{SwappedState}
 use Rattle.sp_relay.specs.declared.edges.PartEdge.{PartEdge}
 use Rattle.sp_relay.specs.declared.kept.PartPlaces.{PartPlaces}
 use Rattle.sp_relay.specs.Kept.{rows_to}
@@ -55,8 +56,25 @@ pub record IsPartStart (stanzas : List StanzaOf) (at : ℕ) (layout : LayoutOf) 
   pub within : edge.stanza ≤ at
   pub is : (edge ≡ first_edge) ⊎ (OpensApart (slice_range stanzas edge.stanza at) × IsEdge layout (stanza_lines_in (take edge.stanza stanzas)) edge)
 
+-- The first of these stanzas begins with a block without a caret.
+abbrev pub opens_first : List StanzaOf → Bool
+opens_first [] = false
+opens_first (stanza ∷ stanzas) = first_apart stanza.blocks
+
+-- The part begins with the window of an edit, where that begins with such a block in both texts, or else in front of it.
+pub record IsPartBegin (stanzas : List StanzaOf) (swapped : SwappedState) (layout : LayoutOf) (edge : PartEdge) : Type 0 where
+  pub within : edge.stanza ≤ swapped.at
+  pub is : (edge ≡ first_edge)
+      ⊎ ((OpensApart (slice_range stanzas edge.stanza swapped.at ++ swapped.stanzas)
+      × OpensApart (slice_range stanzas edge.stanza swapped.at ++ slice_range stanzas swapped.at (swapped.at + swapped.stands)))
+      × IsEdge layout (stanza_lines_in (take edge.stanza stanzas)) edge)
+
+-- Both windows begin with such a block.
+abbrev pub windows_open : List StanzaOf → SwappedState → Bool
+windows_open stanzas swapped = opens_first (slice_range stanzas swapped.at (swapped.at + swapped.stands)) && opens_first swapped.stanzas
+
 -- Who spoke last before a stanza behind the window is the same in both texts: a heading or a speech stands between, or, as `quiet`
--- tells, neither window has one.
+-- tells, the same one spoke last behind the window.
 abbrev pub settled_by : List StanzaOf → ℕ → Bool → ℕ → Bool
 settled_by stanzas to quiet place = quiet || list_any stanza_settles (slice_range stanzas to place)
 

@@ -1,15 +1,15 @@
 -- A layout of the text before an edit, told by what the edit displaced of its stanzas (docs/RULES.md, "Windows").
-use Rattle.std.specs.Prelude.{◌≡◌, ℕ, ◌+◌, Bool, ◌||◌, List, take, drop, slice_range}
+use Rattle.std.specs.Prelude.{◌≡◌, ℕ, ◌+◌, Bool, ◌||◌, List, ◌++◌, take, drop, slice_range}
 use Rattle.std.specs.List.{list_any}
 use Rattle.spec_text.specs.Lines.{LineState, TextState, IsText, line_texts}
 use Rattle.spec_script.specs.BlockValues.{StanzaOf}
-use Rattle.spec_script.specs.Stanzas.{PlacedBlock, stanzas_of}
+use Rattle.spec_script.specs.Stanzas.{PlacedBlock, blocks_from, stanzas_of}
 use Rattle.spec_layout.specs.Speakers.{spoken_elements}
 use Rattle.spec_layout.specs.Layout.{layout_of}
 use Rattle.spec_reread.specs.Windows.{stanza_lines_in}
 use Rattle.spec_relay.specs.RelaidStanzas.{stanza_settles}
 use Rattle.sp_layout.specs.LaidOut.{LayoutOf, keyed}
-use Rattle.sp_layout.specs.Speaking.{SpeakersOf}
+use Rattle.sp_layout.specs.Speaking.{SpeakersOf, speakers_after}
 use Rattle.sp_reread.specs.Cache.{GivesBack, SwappedState}
 
 -- The line with which the window of an edit begins, and the line behind it in the text after the edit and in that before it.
@@ -31,10 +31,29 @@ pub record WasLaidOf (before : TextState) (lines : List LineState) (stanzas : Li
   pub front : take (window_start stanzas swapped) before.lines ≡ take (window_start stanzas swapped) lines
   pub rest : drop (window_was stanzas swapped) before.lines ≡ drop (window_end stanzas swapped) lines
 
--- The layout is that of a text before an edit.
-pub record WasLaid (lines : List LineState) (stanzas : List StanzaOf) (swapped : SwappedState) (speakers : Bool) (layout : LayoutOf) : Type 0 where
+-- The layout is that of a text before an edit, which had these lines.
+pub record WasLaid (olds lines : List LineState) (stanzas : List StanzaOf) (swapped : SwappedState) (speakers : Bool) (layout : LayoutOf) : Type 0 where
   pub before : TextState
+  pub is : before.lines ≡ olds
   pub of : WasLaidOf before lines stanzas swapped speakers layout
+
+-- An edit made a text of these lines one of others: what it displaced leads back to the stanzas of the former, and in front of the
+-- window both have the same lines.
+pub record IsEdited (olds lines : List LineState) (stanzas : List StanzaOf) (swapped : SwappedState) : Type 0 where
+  pub before : TextState
+  pub is : before.lines ≡ olds
+  pub keeps : IsText before
+  pub back : GivesBack swapped stanzas (stanzas_of (line_texts olds))
+  pub front : take (window_start stanzas swapped) olds ≡ take (window_start stanzas swapped) lines
+
+-- Who spoke last behind the window of an edit, in the text before it.
+abbrev pub old_speakers : List (List ℕ) → List StanzaOf → SwappedState → Bool → SpeakersOf
+old_speakers olds stanzas swapped on = speakers_after olds on (blocks_from 0 (take swapped.at stanzas ++ swapped.stanzas))
+
+-- It is the one who spoke last there in the text after it.
+abbrev pub LastStays : List LineState → List LineState → List StanzaOf → SwappedState → Bool → Type 0
+LastStays olds lines stanzas swapped on =
+    speakers_after (line_texts lines) on (blocks_from 0 (take (swapped.at + swapped.stands) stanzas)) ≡ old_speakers (line_texts olds) stanzas swapped on
 
 -- A stanza of the window, or one that stood there before the edit, has a heading or a speech.
 abbrev pub windows_settle : List StanzaOf → SwappedState → Bool

@@ -1,14 +1,14 @@
 //! Where the part of a layout that an edit changes begins and ends.
 ghost use Rattle.std.specs.Prelude.{◌≡◌, ◌<◌, ◌≤◌, ◌+◌, length, take, IfNone, IfSome};
 ghost use Rattle.spec_reread.specs.Windows.{stanza_lines_in};
-ghost use Rattle.spec_relay.specs.RelaidStanzas.{block_settles, first_apart, stanza_settles};
-ghost use Rattle.sp_relay.specs.Edges.{BreaksAt, CanBegin, CanEnd, CanPart, IsEdge, IsNearestEnd, IsNearestStart, IsPartEnd, IsPartStart};
+ghost use Rattle.spec_relay.specs.RelaidStanzas.{OpensApart, block_settles, first_apart, stanza_settles};
+ghost use Rattle.sp_relay.specs.Edges.{BreaksAt, CanBegin, CanEnd, CanPart, IsEdge, IsNearestEnd, IsNearestStart, IsPartBegin, IsPartEnd, IsPartStart, opens_first, windows_open};
 ghost use Rattle.sp_relay.specs.Kept.{laid_of};
 
 use crate::KeptLayout;
 use sp_block_values::{Block, Stanza};
 use sp_elements::{count_below, elements_before};
-use sp_reread::Stanzas;
+use sp_reread::{Stanzas, Swapped};
 use spec_script::Kind;
 
 /// Where a part of a layout begins or ends: before which stanza, before which element of the title page and which of the
@@ -72,8 +72,44 @@ fn edge_at(kept: &KeptLayout, stanza: usize, line: usize) -> Option<PartEdge>
     })
 }
 
-/// Where the part begins, in front of the window that begins before the stanza `at`.
-pub fn part_start(stanzas: &Stanzas, at: usize, kept: &KeptLayout) -> PartEdge
+/// The same of the first of these stanzas; not where there is none.
+fn first_opens_apart(stanzas: &[Stanza]) -> bool
+    ensures { result ≡ opens_first stanzas.now }
+{
+    match stanzas.first() {
+        Some(stanza) => opens_apart(stanza),
+        None => false,
+    }
+}
+
+/// Whether the window of an edit begins with a block without a caret in the text after the edit, and in that before.
+fn windows_open(stanzas: &Stanzas, swapped: &Swapped) -> bool
+    requires { swapped.now.at + swapped.now.stands ≤ length stanzas.now.stanzas }
+    ensures { result ≡ windows_open stanzas.now.stanzas swapped.now }
+{
+    swapped.stands() > 0
+        && opens_apart(stanzas.stanza(swapped.at()))
+        && first_opens_apart(swapped.stanzas())
+}
+
+/// Where the part begins: with the window, where that begins with a block without a caret in both texts, and else in front of it.
+pub fn part_begin(stanzas: &Stanzas, swapped: &Swapped, kept: &KeptLayout) -> PartEdge
+    requires within { swapped.now.at + swapped.now.stands ≤ length stanzas.now.stanzas }
+    requires can { CanBegin stanzas.now.stanzas swapped.now.at (laid_of kept.now) }
+    requires window { OpensApart swapped.now.stanzas → CanPart (laid_of kept.now) (stanza_lines_in (take swapped.now.at stanzas.now.stanzas)) }
+    ensures { IsPartBegin stanzas.now.stanzas swapped.now (laid_of kept.now) result }
+{
+    let at = swapped.at();
+    if windows_open(stanzas, swapped) {
+        if let Some(edge) = edge_at(kept, at, stanzas.lines_before(at)) {
+            return edge;
+        }
+    }
+    part_start(stanzas, at, kept)
+}
+
+/// Where the part begins in front of the window that begins before the stanza `at`.
+fn part_start(stanzas: &Stanzas, at: usize, kept: &KeptLayout) -> PartEdge
     requires within { at ≤ length stanzas.now.stanzas }
     requires can { CanBegin stanzas.now.stanzas at (laid_of kept.now) }
     ensures is { IsPartStart stanzas.now.stanzas at (laid_of kept.now) result }
@@ -97,7 +133,7 @@ pub fn part_start(stanzas: &Stanzas, at: usize, kept: &KeptLayout) -> PartEdge
 }
 
 /// Where the part ends, behind the window that ends before the stanza `to`: with the line `end`, which was the line `was`.
-/// `quiet` tells that neither window has a heading or a speech.
+/// `quiet` tells that the same one spoke last behind the window in both texts.
 pub fn part_end(
     stanzas: &Stanzas,
     to: usize,

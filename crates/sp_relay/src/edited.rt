@@ -1,7 +1,7 @@
 //! A layout kept through an edit.
-ghost use Rattle.std.specs.Prelude.{◌≡◌, ◌⊎◌, ◌≤◌, ◌+◌, ◌-◌, true, false, length, take, slice_range, IfOk, OnErr, OnOk};
+ghost use Rattle.std.specs.Prelude.{◌≡◌, ◌⊎◌, ◌≤◌, ◌+◌, ◌-◌, ◌↔◌, IsTrue, true, false, length, take, slice_range, IfOk, OnErr, OnOk};
 ghost use Rattle.std.specs.List.{list_any};
-ghost use Rattle.spec_text.specs.Lines.{TextState, line_texts};
+ghost use Rattle.spec_text.specs.Lines.{line_texts};
 ghost use Rattle.spec_script.specs.Stanzas.{blocks_from, stanzas_of};
 ghost use Rattle.spec_script.specs.Elements.{is_speech_block};
 ghost use Rattle.spec_layout.specs.Layout.{layout_of};
@@ -10,16 +10,16 @@ ghost use Rattle.sp_layout.specs.LaidOut.{keyed};
 ghost use Rattle.sp_layout.specs.Speaking.{speakers_after};
 ghost use Rattle.spec_relay.specs.RelaidStanzas.{stanza_settles};
 ghost use Rattle.sp_relay.specs.Edges.{edge_places};
-ghost use Rattle.sp_relay.specs.Edited.{AreAlike, WasLaid, WasLaidOf, windows_settle};
+ghost use Rattle.sp_relay.specs.Edited.{AreAlike, IsEdited, LastStays, WasLaid, old_speakers, windows_settle};
 ghost use Rattle.sp_relay.specs.Kept.{CanSwap, HasPartRoom, KeepsRoom, laid_of, with_part};
 ghost use Rattle.sp_relay.specs.Outside.{StaysOutside};
 
-use crate::edges::{PartEdge, part_end, part_start, stanza_settles};
+use crate::edges::{PartEdge, part_begin, part_end, stanza_settles};
 use crate::{KeptLayout, LayoutPart, PartPlaces, relay};
 use sp_block_values::{PlacedBlock, Stanza, is_speech_block};
 use sp_layout::Speakers;
-use sp_reread::{Stanzas, Swapped, placed_blocks_between};
-use sp_text::Lines;
+use sp_reread::{Stanzas, Swapped, placed_blocks_between, placed_blocks_of};
+use sp_text::{Lines, OldLines};
 use std::alloc::{AllocError, Global};
 
 /// How many lines stanzas have.
@@ -101,6 +101,55 @@ fn speakers_before(
     Speakers::behind(alloc, lines, &blocks, speakers)
 }
 
+/// Who spoke last behind the window of an edit in the text before it. The error is want of memory alone.
+fn old_speakers(
+    alloc: Global,
+    lines: &Lines,
+    old: &OldLines<'_>,
+    stanzas: &Stanzas,
+    swapped: &Swapped,
+    speakers: bool,
+) -> Result<Speakers, AllocError>
+    requires list { stanzas.now.stanzas ≡ stanzas_of (line_texts lines.now.lines) }
+    requires edit { IsEdited old.now lines.now.lines stanzas.now.stanzas swapped.now }
+    ensures { IfOk result (λ it. it ≡ old_speakers (line_texts old.now) stanzas.now.stanzas swapped.now speakers) }
+{
+    let _len = stanzas.len();
+    let at = swapped.at();
+    if any_settles(swapped.stanzas()) {
+        let first = stanzas.lines_before(at);
+        let blocks = placed_blocks_of(alloc, first, swapped.stanzas())?;
+        Speakers::behind_old(alloc, old, &blocks, speakers)
+    } else {
+        speakers_before(alloc, lines, stanzas, at, speakers)
+    }
+}
+
+/// Whether the same one spoke last behind the window of an edit in the texts before and after it; where speakers who go on aren't
+/// told, it isn't asked. Only the last heading or speech of each window is looked at, and the last one before it where a window has
+/// none. The error is want of memory alone.
+fn last_stays(
+    alloc: Global,
+    lines: &Lines,
+    old: &OldLines<'_>,
+    stanzas: &Stanzas,
+    swapped: &Swapped,
+    speakers: bool,
+) -> Result<bool, AllocError>
+    requires list { stanzas.now.stanzas ≡ stanzas_of (line_texts lines.now.lines) }
+    requires edit { IsEdited old.now lines.now.lines stanzas.now.stanzas swapped.now }
+    ensures { IfOk result (λ stays. IsTrue stays ↔ LastStays old.now lines.now.lines stanzas.now.stanzas swapped.now speakers) }
+{
+    let _len = stanzas.len();
+    if !speakers || !windows_settle(stanzas, swapped) {
+        return Ok(true);
+    }
+    let was = old_speakers(alloc, lines, old, stanzas, swapped, speakers)?;
+    let to = swapped.at() + swapped.stands();
+    let now = speakers_before(alloc, lines, stanzas, to, speakers)?;
+    Ok(now.are_same(&was))
+}
+
 fn has_speech(blocks: &[PlacedBlock<'_>]) -> bool
     ensures { result ≡ list_any is_speech_block blocks.now }
 {
@@ -144,23 +193,24 @@ fn places_between(start: PartEdge, stop: PartEdge, was: usize, end: usize) -> Pa
     }
 }
 
-/// Makes a kept layout that of the text after an edit (docs/RULES.md, "Windows"), by the text's stanzas and what their
-/// update displaced. It lays out the stanzas of the edit's window, and those round it that may be joined with them or whose
-/// speakers may go on otherwise, and moves what stands behind. Each row outside this part stands on the lines, with their ids
-/// and marks, that it stood on before the edit. What it answers leads back when it is swapped in its turn. The error is want
-/// of memory alone; the layout is then as it was.
+/// Makes a kept layout that of the text after an edit (docs/RULES.md, "Windows"), by the text's stanzas, what their update
+/// displaced, and the lines of the text before. It lays out the stanzas of the edit's window, those round it that may be joined with
+/// them, and, where another one spoke last behind the window than before, those up to the next heading or speech; it moves what
+/// stands behind. Each row outside this part stands on the lines, with their ids and marks, that it stood on before the edit. What it
+/// answers leads back when it is swapped in its turn. The error is want of memory alone; the layout is then as it was.
 pub fn relay_edit(
     alloc: Global,
     lines: &Lines,
+    old: &OldLines<'_>,
     stanzas: &Stanzas,
     swapped: &Swapped,
     speakers: bool,
     kept: &mut KeptLayout,
 ) -> Result<LayoutPart, AllocError>
     requires list { stanzas.now.stanzas ≡ stanzas_of (line_texts lines.now.lines) }
-    requires was { WasLaid lines.now.lines stanzas.now.stanzas swapped.now speakers (laid_of kept.old) }
+    requires was { WasLaid old.now lines.now.lines stanzas.now.stanzas swapped.now speakers (laid_of kept.old) }
     ensures layout { OnOk result (laid_of kept.new ≡ keyed lines.now.lines (layout_of speakers lines.now.lines)) }
-    ensures outside { (before : TextState) → WasLaidOf before lines.now.lines stanzas.now.stanzas swapped.now speakers (laid_of kept.old) → IfOk result (λ it. StaysOutside before.lines lines.now.lines (laid_of kept.new).body.elements it.places) }
+    ensures outside { IfOk result (λ it. StaysOutside old.now lines.now.lines (laid_of kept.new).body.elements it.places) }
     ensures back { IfOk result (λ it. with_part (laid_of kept.new) it.places (laid_of it.kept) ≡ laid_of kept.old) }
     ensures again { IfOk result (λ it. CanSwap (laid_of kept.new) it.places (laid_of it.kept)) }
     ensures returns { IfOk result (λ it. HasPartRoom kept.new it.places it.kept) }
@@ -173,8 +223,8 @@ pub fn relay_edit(
     let to = at + swapped.stands();
     let end = stanzas.lines_before(to);
     let was = stanzas.lines_before(at) + lines_in(swapped.stanzas());
-    let start = part_start(stanzas, at, kept);
-    let quiet = !windows_settle(stanzas, swapped);
+    let start = part_begin(stanzas, swapped, kept);
+    let quiet = last_stays(alloc, lines, old, stanzas, swapped, speakers)?;
     let stop = part_end(stanzas, to, was, end, quiet, kept);
     let blocks = placed_blocks_between(alloc, stanzas, start.stanza, stop.stanza)?;
     let last = speakers_for(alloc, lines, stanzas, start.stanza, &blocks, speakers)?;

@@ -1,5 +1,5 @@
 //! The blocks of stanzas, lent.
-ghost use Rattle.std.specs.Prelude.{◌≡◌, ◌≤◌, ◌++◌, length, map, take, slice_range, IfOk, OnOk};
+ghost use Rattle.std.specs.Prelude.{◌≡◌, ◌≤◌, ◌+◌, ◌++◌, length, map, take, slice_range, IfOk, OnOk};
 ghost use Rattle.spec_script.specs.Elements.{placed_at};
 ghost use Rattle.spec_script.specs.Stanzas.{blocks_from};
 ghost use Rattle.spec_reread.specs.Windows.{stanza_lines_in};
@@ -37,6 +37,25 @@ pub fn placed_blocks_between(
     let mut placed = Vec::new(alloc);
     for i in from..to {
         add_stanza(&mut placed, stanzas.lines_before(i), stanzas.stanza(i))?;
+    }
+    Ok(placed)
+}
+
+/// The blocks of stanzas of which the first begins at a place, each with the place at which its stanza begins. The error is want of
+/// memory alone.
+pub fn placed_blocks_of(
+    alloc: Global,
+    first: usize,
+    stanzas: &[Stanza],
+) -> Result<Vec<PlacedBlock<'_>>, AllocError>
+    requires { first + stanza_lines_in stanzas.now ≤ 18446744073709551615 }
+    ensures { IfOk result (λ placed. placed.items ≡ blocks_from first stanzas.now) }
+{
+    let mut placed = Vec::new(alloc);
+    let mut place = first;
+    for stanza in stanzas {
+        add_stanza(&mut placed, place, stanza)?;
+        place += stanza.lines as usize;
     }
     Ok(placed)
 }

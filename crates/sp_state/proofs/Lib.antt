@@ -4,3 +4,4 @@ pub mod FillLaws
 mod RefilledLaws
 mod LabelLaws
 mod SheetLaws
+mod TitleLaws

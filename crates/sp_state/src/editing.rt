@@ -4,6 +4,7 @@ ghost use Rattle.spec_text.specs.Edits.{refusal_of, replacement_of};
 ghost use Rattle.spec_text.specs.Ranges.{range_of};
 ghost use Rattle.spec_state.specs.Changes.{edited_state};
 ghost use Rattle.spec_state.specs.Keeping.{IsWhole, state_of};
+ghost use Rattle.spec_state.specs.StateSheets.{title_starts};
 ghost use Rattle.spec_locked_pages.specs.Segments.{pages_of};
 ghost use Rattle.sp_text.specs.Changing.{Refuses, edit_of};
 ghost use Rattle.sp_text.specs.Gap.{text_of};
@@ -22,7 +23,7 @@ ghost use Rattle.sp_state.specs.Fills.{EditFills, EditFillsAtMost};
 use crate::entry::{Entry, Unturned};
 use crate::turning::{Turned, UnturnedPages, refilled, turn_made};
 use sp_kit::Steps;
-use sp_made::{keeps_headings, lay, make, number};
+use sp_made::{keeps_headings, lay, leaves_titles, make, number};
 use sp_made_parts::{Made, Numbered, laid_firsts};
 use sp_records::Records;
 use sp_reflow::Pages;
@@ -36,7 +37,7 @@ use spec_pages::Paper;
 use std::alloc::{AllocError, Global};
 use std::mem;
 
-/// The labels and the sheets of a state, by its layout and the first rows of its pages.
+/// The labels and the sheets of a state, by its layout and the first rows of its pages and of its title sheets.
 fn numbered_by(
     alloc: Global,
     lines: &Lines,
@@ -44,33 +45,40 @@ fn numbered_by(
     records: &Records,
     layout: &KeptLayout,
     pages: &Pages,
+    titles: &[usize],
 ) -> Result<Numbered, AllocError>
     requires whole { IsWhole (state_of (text_of lines.now) records.now) }
     requires stanzas { stanzas.now.stanzas ≡ text_stanzas (text_of lines.now) }
     requires laid { IsLaidOf (state_of (text_of lines.now) records.now) (laid_of layout.now) }
     requires pages { pages.now.starts ≡ pages_of (state_of (text_of lines.now) records.now) }
+    requires titles { titles.now ≡ title_starts (state_of (text_of lines.now) records.now) }
     ensures { IfOk result (IsNumberedOf (state_of (text_of lines.now) records.now)) }
 {
     let none: &[usize] = &[];
     let firsts = laid_firsts(alloc, lines, records, layout, none)?;
-    number(alloc, lines, stanzas, records, layout, &firsts, pages)
+    let titles = Vec::from_slice(alloc, titles)?;
+    number(
+        alloc, lines, stanzas, records, layout, &firsts, pages, titles,
+    )
 }
 
-/// What is made of a state, with the first rows of its pages.
+/// What is made of a state, with the first rows of its pages and of its title sheets.
 fn remade(
     alloc: Global,
     lines: &Lines,
     stanzas: &Stanzas,
     records: &Records,
     pages: &Pages,
+    titles: &[usize],
 ) -> Result<Made, AllocError>
     requires whole { IsWhole (state_of (text_of lines.now) records.now) }
     requires stanzas { stanzas.now.stanzas ≡ text_stanzas (text_of lines.now) }
     requires pages { pages.now.starts ≡ pages_of (state_of (text_of lines.now) records.now) }
+    requires titles { titles.now ≡ title_starts (state_of (text_of lines.now) records.now) }
     ensures { IfOk result (IsMadeOf (state_of (text_of lines.now) records.now)) }
 {
     let layout = lay(alloc, lines, stanzas, records)?;
-    let numbered = numbered_by(alloc, lines, stanzas, records, &layout, pages)?;
+    let numbered = numbered_by(alloc, lines, stanzas, records, &layout, pages, titles)?;
     Ok(Made { layout, numbered })
 }
 
@@ -83,18 +91,20 @@ pub(crate) fn put_made(made: &mut Made, firsts: &mut Option<Vec<usize>>, other: 
     *firsts = None;
 }
 
-/// Sets whether a cue says that its speaker goes on. It fills no page.
+/// Sets whether a cue says that its speaker goes on. It fills no page and cuts no title sheet: the first rows of both stay.
 pub(crate) fn made_with_speakers(
     alloc: Global,
     lines: &Lines,
     stanzas: &Stanzas,
     records: &mut Records,
     pages: &Pages,
+    titles: &[usize],
     on: bool,
 ) -> Result<Made, AllocError>
     requires whole { IsWhole (state_of (text_of lines.now) records.old) }
     requires stanzas { stanzas.now.stanzas ≡ text_stanzas (text_of lines.now) }
     requires pages { pages.now.starts ≡ pages_of (state_of (text_of lines.now) records.old) }
+    requires titles { titles.now ≡ title_starts (state_of (text_of lines.now) records.old) }
     ensures records { OnOk result (records.new ≡ record records.old { speakers = on }) }
     ensures whole { OnOk result (IsWhole (state_of (text_of lines.now) records.new)) }
     ensures made { IfOk result (IsMadeOf (state_of (text_of lines.now) records.new)) }
@@ -102,7 +112,7 @@ pub(crate) fn made_with_speakers(
     ensures same { OnErr result (records.new ≡ records.old) }
 {
     let before = records.set_speakers(on);
-    match remade(alloc, lines, stanzas, records, pages) {
+    match remade(alloc, lines, stanzas, records, pages, titles) {
         Ok(made) => Ok(made),
         Err(error) => {
             records.speakers = before;
@@ -225,8 +235,9 @@ fn firsts_before(
 }
 
 /// Makes an edit. The part of the layout that it changes is laid out anew, the pages of its page window are filled again, and
-/// sheets are made those of the new state; so are labels where a heading comes or goes. The first rows of page records are found
-/// once, and once more where those before the edit aren't known. A fault forgets them, and changes nothing else.
+/// sheets are made those of the new state; so are labels where a heading comes or goes, and title sheets where an element of a
+/// title page does. The first rows of page records are found once, and once more where those before the edit aren't known. A fault
+/// forgets them, and changes nothing else.
 pub(crate) fn edit_made<S: Steps>(
     alloc: Global,
     lines: &mut Lines,
@@ -271,6 +282,7 @@ pub(crate) fn edit_made<S: Steps>(
         firsts: after,
     } = edit_entry(alloc, lines, stanzas, records, layout, &before, edit, steps)?;
     let keeps_labels = keeps_headings(layout, &part);
+    let keeps_titles = leaves_titles(&part);
     let keeps_firsts = before.as_slice() == after.as_slice();
     match refilled(
         alloc,
@@ -282,6 +294,7 @@ pub(crate) fn edit_made<S: Steps>(
         pages,
         numbered,
         keeps_labels,
+        keeps_titles,
         keeps_firsts,
         rows.first,
         rows.old,
@@ -304,8 +317,8 @@ pub(crate) fn edit_made<S: Steps>(
 }
 
 /// Undoes an edit. Nothing is laid out and no page filled; sheets are made those of the new state, and so are labels where a
-/// heading comes or goes. The first rows of page records are looked for once. On an error there was no memory, nothing is changed,
-/// and an entry that can be undone is handed back.
+/// heading comes or goes, and title sheets where an element of a title page does. The first rows of page records are looked for
+/// once. On an error there was no memory, nothing is changed, and an entry that can be undone is handed back.
 pub(crate) fn undo_made(
     alloc: Global,
     lines: &mut Lines,
@@ -392,8 +405,8 @@ pub(crate) fn undo_made(
 }
 
 /// Does an edit again. Nothing is laid out and no page filled; sheets are made those of the new state, and so are labels where a
-/// heading comes or goes. The first rows of page records are looked for once. On an error there was no memory, nothing is changed,
-/// and an entry that can be done again is handed back.
+/// heading comes or goes, and title sheets where an element of a title page does. The first rows of page records are looked for
+/// once. On an error there was no memory, nothing is changed, and an entry that can be done again is handed back.
 pub(crate) fn redo_made(
     alloc: Global,
     lines: &mut Lines,

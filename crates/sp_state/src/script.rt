@@ -300,8 +300,8 @@ impl Script {
         Ok(other)
     }
 
-    /// Sets whether a cue says that its speaker goes on. No stanza is read and no page filled; rows and sheets are made anew.
-    /// On an error there was no memory, and nothing is changed (docs/RULES.md, "The desk").
+    /// Sets whether a cue says that its speaker goes on. No stanza is read and no page filled, and title sheets stay; rows and the
+    /// sheets of the body are made anew. On an error there was no memory, and nothing is changed (docs/RULES.md, "The desk").
     pub fn set_speakers(&mut self, alloc: Global, on: bool) -> Result<(), AllocError>
         ensures state { OnOk result (self.new ≡ record self.old { speakers = on }) }
         ensures same { OnErr result (self.new ≡ self.old) }
@@ -312,6 +312,7 @@ impl Script {
             &self.stanzas,
             &mut self.records,
             &self.pages,
+            &self.made.numbered.title_starts,
             on,
         )?;
         put_made(&mut self.made, &mut self.firsts, made);

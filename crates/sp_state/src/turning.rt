@@ -5,7 +5,7 @@ ghost use Rattle.spec_pages.specs.Pages.{rows_on};
 ghost use Rattle.spec_layout.specs.Shown.{shape_of};
 ghost use Rattle.spec_state.specs.Headings.{heading_labels};
 ghost use Rattle.spec_state.specs.Keeping.{IsWhole, state_of};
-ghost use Rattle.spec_state.specs.StateSheets.{rows_in};
+ghost use Rattle.spec_state.specs.StateSheets.{rows_in, title_starts};
 ghost use Rattle.spec_locked_pages.specs.Segments.{pages_of};
 ghost use Rattle.spec_reflow.specs.Windows.{page_window};
 ghost use Rattle.sp_text.specs.Gap.{text_of};
@@ -20,9 +20,10 @@ ghost use Rattle.sp_numbers.specs.Numbered.{AreUnmarked};
 ghost use Rattle.sp_made_parts.specs.Firsts.{IsLaidOf, first_rows};
 ghost use Rattle.sp_made_parts.specs.Made.{IsNumberedOf};
 ghost use Rattle.sp_made.specs.Pages.{AreStopsOf};
+ghost use Rattle.sp_made.specs.Titles.{laid_titles};
 
 use sp_kit::Steps;
-use sp_made::{keeps_headings, laid_stops, renumber, rows_on};
+use sp_made::{keeps_headings, laid_stops, leaves_titles, renumber, rows_on};
 use sp_made_parts::{Numbered, laid_firsts};
 use sp_numbers::firsts_stay;
 use sp_records::Records;
@@ -98,8 +99,8 @@ fn pages_stay(keeps_firsts: bool, pages: &Pages, swapped: &SwappedPages) -> bool
 
 /// Makes page starts, labels and sheets those of a state after an edit, whose text is laid out, by the first rows of its page
 /// records: the pages of the page window are filled again, where `old` rows from `first` on were exchanged for `new` ones. Labels
-/// that are those of the state already may be kept, and where the first rows stayed, the sheets of locked pages but for their rounds, if
-/// pages stay too. On an error there was no memory, and nothing is changed.
+/// and title sheets that are those of the state already may be kept, and where the first rows stayed, the sheets of locked pages
+/// but for their rounds, if pages stay too. On an error there was no memory, and nothing is changed.
 pub(crate) fn refilled<S: Steps>(
     alloc: Global,
     lines: &Lines,
@@ -110,6 +111,7 @@ pub(crate) fn refilled<S: Steps>(
     pages: &mut Pages,
     numbered: &mut Numbered,
     keeps_labels: bool,
+    keeps_titles: bool,
     keeps_firsts: bool,
     first: usize,
     old: usize,
@@ -122,6 +124,7 @@ pub(crate) fn refilled<S: Steps>(
     requires firsts { firsts.now ≡ first_rows (state_of (text_of lines.now) records.now) }
     requires stale { (stops : List ℕ) → AreStopsOf (state_of (text_of lines.now) records.now) stops → AreStale (rows_on (records.now).paper) (record { first = first; old = old; new = new }) pages.old.starts (map shape_of (rows_in (state_of (text_of lines.now) records.now))) stops }
     requires labels { IsTrue keeps_labels → numbered.old.labels ≡ heading_labels lines.now.lines records.now.scenes }
+    requires titles { IsTrue keeps_titles → numbered.old.title_starts ≡ title_starts (state_of (text_of lines.now) records.now) }
     requires sheets { (records.now).pages ≡ None → (records.now).round ≡ 0 → AreUnmarked numbered.old.sheets pages.old.starts }
     requires kept { IsTrue keeps_firsts → IfSome (records.now).pages (λ those. AreSheetsBefore those firsts.now pages.old.starts numbered.old.sheets) }
     ensures pages { OnOk result (pages.new.starts ≡ pages_of (state_of (text_of lines.now) records.now)) }
@@ -148,6 +151,7 @@ pub(crate) fn refilled<S: Steps>(
         pages,
         &swapped,
         keeps_labels,
+        keeps_titles,
         keeps_pages,
         numbered,
     ) {
@@ -168,9 +172,9 @@ struct TurnedPages {
 
 /// Makes page starts, labels and sheets those of a state after an edit was undone or done again, whose text is laid out, by the
 /// page starts that it displaced. The first rows of page records are looked for first as far apart as those that are known, which
-/// are those before. It fills no page. Labels that are those of the state already may be kept, and so are the sheets of locked
-/// pages but for their rounds, where first rows and page starts stay. On an error there was no memory, and page starts, labels and
-/// sheets are as they were.
+/// are those before. It fills no page. Labels and title sheets that are those of the state already may be kept, and so are the
+/// sheets of locked pages but for their rounds, where first rows and page starts stay. On an error there was no memory, and page
+/// starts, labels and sheets are as they were.
 fn turned_pages(
     alloc: Global,
     lines: &Lines,
@@ -182,6 +186,7 @@ fn turned_pages(
     back: SwappedPages,
     numbered: &mut Numbered,
     keeps_labels: bool,
+    keeps_titles: bool,
 ) -> Result<TurnedPages, UnswappedPages>
     requires whole { IsWhole (state_of (text_of lines.now) records.now) }
     requires stanzas { stanzas.now.stanzas ≡ text_stanzas (text_of lines.now) }
@@ -189,6 +194,7 @@ fn turned_pages(
     requires can { CanPutBack pages.old.starts back }
     requires leads { with_taken pages.old.starts back ≡ pages_of (state_of (text_of lines.now) records.now) }
     requires labels { IsTrue keeps_labels → numbered.old.labels ≡ heading_labels lines.now.lines records.now.scenes }
+    requires titles { IsTrue keeps_titles → numbered.old.title_starts ≡ title_starts (state_of (text_of lines.now) records.now) }
     requires sheets { (records.now).pages ≡ None → (records.now).round ≡ 0 → AreUnmarked numbered.old.sheets pages.old.starts }
     requires kept { IfSome known.now (λ those. IfSome (records.now).pages (λ them. AreSheetsBefore them those.items pages.old.starts numbered.old.sheets)) }
     ensures pages { OnOk result (pages.new.starts ≡ pages_of (state_of (text_of lines.now) records.now)) }
@@ -221,6 +227,7 @@ fn turned_pages(
         pages,
         &other,
         keeps_labels,
+        keeps_titles,
         keeps_pages,
         numbered,
     ) {
@@ -250,11 +257,11 @@ pub(crate) struct UnturnedPages {
     pub pages: SwappedPages,
 }
 
-/// Makes layout, page starts, labels and sheets those of a state after an edit was undone or done again, by what the edit
-/// displaced of layout and page starts, and finds the first rows of page records, first as far apart as those that are known. It
-/// lays out nothing and fills no page, and keeps the labels where no heading comes or goes. Where known first rows and page starts
-/// stay, the sheets of locked pages may be kept but for their rounds. On an error there was no memory, all four are as they were,
-/// and what is handed back leads where what was to be put back led.
+/// Makes layout, page starts, labels and sheets those of a state after an edit was undone or done again, by what the edit displaced
+/// of layout and page starts, and finds the first rows of page records, first as far apart as those that are known. It lays out
+/// nothing and fills no page, and keeps the labels where no heading comes or goes, and the title sheets where no element of a title
+/// page does. Where known first rows and page starts stay, the sheets of locked pages may be kept but for their rounds. On an error
+/// there was no memory, all four are as they were, and what is handed back leads where what was to be put back led.
 pub(crate) fn turn_made(
     alloc: Global,
     lines: &Lines,
@@ -274,6 +281,7 @@ pub(crate) fn turn_made(
     requires can { CanPutBack pages.old.starts back }
     requires leads { with_taken pages.old.starts back ≡ pages_of (state_of (text_of lines.now) records.now) }
     requires labels { numbered.old.labels ≡ laid_labels (laid_of layout.old) (records.now).scenes }
+    requires titles { numbered.old.title_starts ≡ laid_titles (laid_of layout.old) (records.now).paper }
     requires sheets { (records.now).pages ≡ None → (records.now).round ≡ 0 → AreUnmarked numbered.old.sheets pages.old.starts }
     requires kept { IfSome known.now (λ those. IfSome (records.now).pages (λ them. AreSheetsBefore them those.items pages.old.starts numbered.old.sheets)) }
     ensures laid { OnOk result (IsLaidOf (state_of (text_of lines.now) records.now) (laid_of layout.new)) }
@@ -294,6 +302,7 @@ pub(crate) fn turn_made(
     match layout.swap(part) {
         Ok(other) => {
             let keeps_labels = keeps_headings(layout, &other);
+            let keeps_titles = leaves_titles(&other);
             match turned_pages(
                 alloc,
                 lines,
@@ -305,6 +314,7 @@ pub(crate) fn turn_made(
                 back,
                 numbered,
                 keeps_labels,
+                keeps_titles,
             ) {
                 Ok(
                     TurnedPages {

@@ -2,6 +2,7 @@
 #![tactic(auto)]
 
 mod files;
+mod known;
 mod streams;
 
 pub use files::FileShelf;

@@ -19,12 +19,12 @@ ghost use Rattle.sp_text_entry.specs.TextEntries.{had_by};
 ghost use Rattle.sp_text_entry.specs.Raised.{AreCarried, FitPages, put_back_in, raises_in, records_carried, records_raised, state_before};
 ghost use Rattle.sp_text_entry.specs.Relaid.{body_before};
 
-use sp_compare::{BothTexts, OldLines, raises};
+use sp_compare::{BothTexts, raises};
 use sp_locks::{carry, put_back};
 use sp_made_parts::laid_firsts;
 use sp_records::Records;
 use sp_relay::{KeptLayout, LayoutPart};
-use sp_text::{Displaced, Lines};
+use sp_text::{Displaced, Lines, OldLines};
 use spec_labels::Moved;
 use std::alloc::{AllocError, Global};
 

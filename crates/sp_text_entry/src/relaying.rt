@@ -17,7 +17,7 @@ use sp_records::Records;
 use sp_refill::{ExchangedRows, exchanged_rows, rows_ahead};
 use sp_relay::{KeptLayout, LayoutPart, relay_edit};
 use sp_reread::{Stanzas, Swapped};
-use sp_text::{Displaced, Lines};
+use sp_text::{Displaced, Lines, OldLines};
 use spec_labels::Moved;
 use std::alloc::{AllocError, Global};
 
@@ -80,7 +80,16 @@ pub(crate) fn relay_and_raise(
 {
     let _count = lines.len();
     let ahead = rows_ahead(lines, stanzas, swapped, &layout.body);
-    let part = relay_edit(alloc, lines, stanzas, swapped, records.speakers, layout)?;
+    let old = OldLines::new(lines, displaced);
+    let part = relay_edit(
+        alloc,
+        lines,
+        &old,
+        stanzas,
+        swapped,
+        records.speakers,
+        layout,
+    )?;
     match carry_and_raise(alloc, lines, displaced, records, before, layout, &part) {
         Ok(
             Carried {

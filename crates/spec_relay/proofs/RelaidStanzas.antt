@@ -1,5 +1,5 @@
 -- The blocks of a text before and after an edit, by its stanzas.
-use Rattle.std.proofs.Common.{◌≡◌, ℕ, ◌+◌, ◌<◌, ◌≤◌, true, Bool, List, [], ◌∷◌, ◌++◌, length, map, Option, None, inl, inr, sym, ap, ap₂, subst, ◌∙◌, arith}
+use Rattle.std.proofs.Common.{◌≡◌, ℕ, ◌+◌, ◌<◌, ◌≤◌, true, Bool, List, [], ◌∷◌, ◌++◌, length, map, Option, None, inl, inr, sym, ap, ap₂, subst, ◌∙◌, arith, append_assoc}
 use Rattle.std.specs.Prelude.{All}
 use Rattle.std.specs.List.{list_any}
 use Rattle.std.specs.Str.{IsUtf8}
@@ -17,7 +17,7 @@ use Rattle.spec_reread.proofs.Places.{at_place, front-between, has-all}
 use Rattle.spec_relayout.proofs.WindowSides.{EndsBy, StandsIn, between-in, front-ends}
 use Rattle.spec_relay.specs.Moved.{moved_place, moved_block, BlockStays, speaker_behind, BeginsApart}
 use Rattle.spec_relay.specs.RelaidBlocks.{AreRelaid}
-use Rattle.spec_relay.specs.RelaidStanzas.{StanzasRelaid, stanza_settles}
+use Rattle.spec_relay.specs.RelaidStanzas.{OpensApart, StanzasRelaid, stanza_settles}
 use Rattle.spec_relay.proofs.Parts.{behind-append}
 use Rattle.spec_relay.proofs.StayingBlocks.{speakers-settled}
 use Rattle.spec_relay.proofs.StanzaBlocks.{lines-append, blocks-three, blocks-moved, blocks-past, places-rise, any-blocks, opens-begin, opens-apart, opens-more}
@@ -54,7 +54,7 @@ front-stands texts front behind utf8 few is =
     }
 
 -- A block that stands before a place stays where the lines up to it do, and one behind a place where the lines from it on do.
-front-block : (before lines : List LineState) (end : ℕ) (block : PlacedBlock) → ((place : ℕ) → place < end → line_state lines place ≡ line_state before place) → IsWhole block → placed_to block ≤ end
+pub front-block : (before lines : List LineState) (end : ℕ) (block : PlacedBlock) → ((place : ℕ) → place < end → line_state lines place ≡ line_state before place) → IsWhole block → placed_to block ≤ end
     → BlockStays 0 0 before lines block
 front-block before lines end block same whole ends = record {
   rise = whole.lines;
@@ -179,8 +179,8 @@ module _ (before lines : List LineState) (front ahead gone come behind rest : Li
       front_apart = elim it.front_apart [
         | inl none ↦ inl (ap (blocks_from 0) none)
         | inr opens ↦ inr (
-          opens-begin f (ahead ++ (gone ++ behind)) (blocks_from place rest) (opens-more ahead (gone ++ behind) opens),
-          opens-begin f (ahead ++ (come ++ behind)) (map moved (blocks_from place rest)) (opens-more ahead (come ++ behind) opens),
+          opens-begin f (ahead ++ (gone ++ behind)) (blocks_from place rest) (subst OpensApart (append_assoc ahead gone behind) (opens-more (ahead ++ gone) behind opens.0)),
+          opens-begin f (ahead ++ (come ++ behind)) (map moved (blocks_from place rest)) (subst OpensApart (append_assoc ahead come behind) (opens-more (ahead ++ come) behind opens.1)),
         )
       ];
       rest_apart = elim it.rest_apart [

@@ -34,7 +34,7 @@ pub record StanzasRelaid (before lines : List LineState) (front ahead gone come 
   pub start_is : start ≡ stanza_lines_in front + stanza_lines_in ahead
   pub was_is : was ≡ start + stanza_lines_in gone
   pub end_is : end ≡ start + stanza_lines_in come
-  pub front_apart : (front ≡ []) ⊎ OpensApart ahead
+  pub front_apart : (front ≡ []) ⊎ (OpensApart (ahead ++ gone) × OpensApart (ahead ++ come))
   pub rest_apart : (rest ≡ []) ⊎ (OpensApart rest × (list_any stanza_settles behind ≡ true))
   pub still : (place : ℕ) → place < start → line_state lines place ≡ line_state before place
   pub moved : (place : ℕ) → was ≤ place → line_state lines (moved_place was end place) ≡ line_state before place

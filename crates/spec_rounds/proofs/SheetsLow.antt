@@ -1,25 +1,23 @@
 -- No sheet of a state is higher than its paper, and title sheets end as late as their height allows.
-use Rattle.std.proofs.Common.{◌≡◌, ℕ, ◌+◌, ◌-◌, ◌<◌, ◌≤◌, Bool, true, false, cond, Option, Some, None, List, [], ◌∷◌, ◌++◌, map, length, get_or, slice_get, inl, inr, refl, sym, ap, ap₂, subst, ◌∙◌, arith, append_assoc}
+use Rattle.std.proofs.Common.{◌≡◌, ℕ, ◌+◌, ◌<◌, ◌≤◌, Bool, true, false, cond, Option, Some, None, List, [], ◌∷◌, ◌++◌, map, length, get_or, inl, inr, refl, sym, ap, subst, ◌∙◌, arith, append_assoc}
 use Rattle.std.specs.Prelude.{All, filter, slice_range, slice_index_or}
-use Rattle.std.proofs.lemmas.Bool.{cases_lt, cases_eq}
-use Rattle.std.proofs.lemmas.List.{length-map, get_or-map}
+use Rattle.std.proofs.lemmas.Bool.{cases_eq}
+use Rattle.std.proofs.lemmas.List.{length-map}
 use Rattle.std.proofs.lemmas.List.Elements.{All-nil, All-cons, All-head, All-tail, All-append, All-map}
-use Rattle.std.proofs.lemmas.Option.{slice_get-get_or, slice_get_past}
 use Rattle.spec_text.specs.Lines.{IsText}
 use Rattle.spec_pages.specs.declared.Paper.{Paper}
 use Rattle.spec_pages.specs.declared.Paper.TheVariants.{Letter, A4}
 use Rattle.spec_pages.specs.declared.Shape.{Shape}
-use Rattle.spec_pages.specs.Pages.{may_part_at, is_legal, height_of, text_heights, stop_above, next_page, page_starts, rows_on}
+use Rattle.spec_pages.specs.Pages.{height_of, text_heights, stop_above, next_page, page_starts, rows_on}
 use Rattle.spec_pages.specs.OwnPages.{lies_in, AreJoined}
-use Rattle.spec_pages.specs.Rows.{Row, title_shape}
 use Rattle.spec_pages.proofs.CellLaws.{All-flat_map}
-use Rattle.spec_pages.proofs.PageLaws.{height_of-rises, Fits, page_end-IsPageEnd, stop_above-above}
+use Rattle.spec_pages.proofs.PageLaws.{height_of-rises, page_end-IsPageEnd, stop_above-above}
 use Rattle.spec_pages.proofs.StartLists.{AreAbove, ArePagesOf, starts-are, one-page-ends}
+use Rattle.spec_pages.proofs.TitleEnds.{AreTitleShapes, EndsLate, title-ends-late}
 use Rattle.spec_labels.specs.PageRecords.{PageRecordOf, SegmentOf, SheetOf, segments, is_empty, owner_of, omitted_sheet, page_sheets, segment_pages, runs_of, run_sheets, record_starts, sheets_of_records}
-use Rattle.spec_layout.specs.Layout.{placed_in}
-use Rattle.spec_layout.specs.Shown.{Shown, shape_of, no_row}
+use Rattle.spec_layout.specs.Shown.{Shown, shape_of}
 use Rattle.spec_layout.proofs.ShownLaws.{shown_rows-shapes}
-use Rattle.spec_layout.proofs.TitleRows.{layout_of-titles}
+use Rattle.spec_layout.proofs.TitleRows.{layout_of-title_shapes}
 use Rattle.spec_print.specs.PageRows.{page_body, omitted_rows}
 use Rattle.spec_print.specs.Sheets.{Sheet}
 use Rattle.spec_print.proofs.PageHeights.{page_body-height}
@@ -176,58 +174,13 @@ sheets-low state whole =
 
 -- ---- title sheets end late
 
--- The page from row p ends at the greatest place where it fits.
-pub record EndsLate (limit : ℕ) (shapes : List Shape) (p end : ℕ) : Type 0 where
-  pub fits : Fits limit shapes p (length shapes) end
-  pub latest : (q : ℕ) → p < q → q ≤ length shapes → height_of shapes p q ≤ limit → q ≤ end
-
--- No page ends between rows of title pages.
-never-legal : (shapes : List Shape) → ((k : ℕ) (d : Shape) → k < length shapes → get_or shapes k d ≡ title_shape (get_or shapes k d)) → (q : ℕ) → is_legal shapes q ≡ false
-never-legal shapes are q = elim (cases_lt q (length shapes)) [
-  | inl inside ↦
-      let d = no_row.shape in
-      let at : (k : ℕ) → k < length shapes → slice_get shapes k ≡ Some (title_shape (get_or shapes k d)) = λ k h. slice_get-get_or shapes k d h ∙ ap Some (are k d h) in
-      ap₂ may_part_at (at (q - 1) (omega (arith, inside))) (at q inside)
-  | inr past ↦ ap (may_part_at (slice_get shapes (q - 1))) (slice_get_past shapes q past) ∙ none (slice_get shapes (q - 1))
-]
-  where
-    none : (above : Option Shape) → may_part_at above None ≡ false
-    none None = refl
-    none (Some above) = refl
-
-late : (limit : ℕ) → 3 ≤ limit → (shapes : List Shape) (p : ℕ) → ((q : ℕ) → is_legal shapes q ≡ false) → p < length shapes → EndsLate limit shapes p (next_page limit shapes [] p)
-late limit most shapes p never inside =
-    let it = page_end-IsPageEnd limit most shapes p (length shapes) inside in
-    let end = next_page limit shapes [] p in
-    record {
-      fits = it.fits;
-      latest = λ q some within low.
-          let other : Fits limit shapes p (length shapes) q = record { above = some; within = within; low = low } in
-          elim it.kind [
-            | inl good ↦ elim good.ends [
-              | inl legal ↦ absurd (let bad : true ≡ false = sym legal ∙ never end in let no_more : ⊥ = cc in no_more)
-              | inr last ↦ omega (arith, last, within)
-            ]
-            | inr rest ↦ rest.1 q other
-          ];
-    }
-
 -- Each title sheet ends at the latest place where it isn't too high.
 pub titles-late : (state : State) → IsText (text_of state) → (p : ℕ) → p < length (titles_in state)
     → EndsLate (rows_on state.paper) (map shape_of (titles_in state)) p (next_page (rows_on state.paper) (map shape_of (titles_in state)) [] p)
 titles-late state is p inside =
     let shapes = map shape_of (titles_in state) in
     let size = length-map (titles_in state) shape_of in
-    late (rows_on state.paper) (room state.paper) shapes p (never-legal shapes titled) (omega (arith, inside, size))
+    title-ends-late (rows_on state.paper) (room state.paper) shapes p titled (omega (arith, inside, size))
   where
-    rows : List Row
-    rows = placed_in (layout_in state).titles
-
-    titled : (k : ℕ) (d : Shape) → k < length (map shape_of (titles_in state)) → get_or (map shape_of (titles_in state)) k d ≡ title_shape (get_or (map shape_of (titles_in state)) k d)
-    titled =
-        subst (λ (shapes : List Shape). (k : ℕ) (d : Shape) → k < length shapes → get_or shapes k d ≡ title_shape (get_or shapes k d)) (sym (shown_rows-shapes state.lines None (layout_in state).titles))
-        (λ k d h.
-        let many = length-map rows (λ (row : Row). row.shape) in
-        let low : k < length rows = omega (arith, h, many) in
-        let at = get_or-map (λ (row : Row). row.shape) rows k no_row d low in
-        at ∙ (layout_of-titles state.speakers (text_of state) is k no_row low).shape ∙ sym (ap title_shape at))
+    titled : AreTitleShapes (map shape_of (titles_in state))
+    titled = subst AreTitleShapes (sym (shown_rows-shapes state.lines None (layout_in state).titles)) (layout_of-title_shapes state.speakers (text_of state) is)

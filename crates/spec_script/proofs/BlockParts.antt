@@ -15,17 +15,20 @@ use Rattle.spec_script.specs.Letters.{begins}
 use Rattle.spec_script.specs.Forms.{is_natural_heading, is_forced_heading, is_natural_transition, is_page_break, is_synopsis, is_parenthetical}
 use Rattle.spec_script.specs.Title.{title_opens, opens_centred, value_cut}
 use Rattle.spec_script.specs.LongestRuns.{Group, members, longest_runs}
+use Rattle.spec_script.specs.Runs.{RunParts}
+use Rattle.spec_script.specs.Emphasis.{runs_of}
 use Rattle.spec_script.specs.Visible.{window, clip_spans}
 use Rattle.spec_script.specs.BlockValues.{LineOf, BlockOf}
 use Rattle.spec_script.specs.Left.{Left, trimmed, inner, line_of, plain_line, last_place, block_of, text_block, left_lines}
 use Rattle.spec_script.specs.Headings.{heading_skip, number_len, numbered_heading, heading_of}
 use Rattle.spec_script.specs.Speeches.{is_speech, cue_skip, has_caret, cue_line, spoken, speech_of}
 use Rattle.spec_script.specs.Divisions.{ends_part, section_depth, section_of, ending_blocks, listed_kind, listed_cut, listed_line, one_block, one_part, group_block, run_blocks, part_blocks, piece_blocks, pieces_blocks}
-use Rattle.spec_script.specs.TitlePages.{one_key, title_part, value_of, values_of, opened, title_lines, title_of}
+use Rattle.spec_script.specs.TitlePages.{one_key, title_part, value_parts, value_line, value_of, values_of, opened, title_lines, title_of}
 use Rattle.spec_script.specs.Blocks.{left_blocks}
 use Rattle.spec_script.specs.Stanzas.{stanza_lines, cleaned_at, stanza_at}
 use Rattle.spec_script.specs.BlockParts.{Rise, line_at, line_from, line_to, block_from, block_to, LineParts, BlockParts, StanzaParts}
 use Rattle.spec_script.proofs.SpanLaws.{IsUtf8-text_in}
+use Rattle.spec_script.proofs.RunLaws.{RunParts-runs_of}
 use Rattle.spec_script.proofs.LongestRuns.{longest_runs-exist}
 use Rattle.spec_script.proofs.CutEnds.{EndsFit, EndsIn, number_len-ends}
 use Rattle.spec_script.proofs.WindowParts.{window-ends, clip_spans-Parts, clip_runs-RunParts, plain_runs-RunParts}
@@ -377,12 +380,18 @@ module _ (texts : List (List ℕ)) (first count : ℕ) where
     rise = rise-append line_from line_to low mid high xs ys p.rise q.rise;
   }
 
+  of_value : (line : Left) (part : Part) → Here line → LineParts texts first count (value_line line part)
+  of_value line part h =
+      let written = line_at texts first line.place in
+      let runs = RunParts-runs_of written (value_parts line) h.line.utf8 (clipped line (value_cut line.text) h (value-fit line.text (utf8 line h))) in
+      record { within = h.within; runs = subst (λ t. RunParts written (runs_of t (value_parts line))) (sym h.line.same) runs }
+
   value : (centred : Bool) (low : ℕ) (line : Left) → Here line → low ≤ line.place → Lined low (line.place + 1) (value_of centred line)
   value centred low line h a =
-      let made = line_of line (title_part centred) (value_cut line.text) in
+      let made = value_line line (title_part centred) in
       cond_both (nat_lt (value_cut line.text).from (value_cut line.text).to) (made ∷ []) [] (Lined low (line.place + 1))
       (λ _. record {
-        all = All-cons (LineParts texts first count) made [] (of_line line (title_part centred) (value_cut line.text) h (value-fit line.text (utf8 line h))) (All-nil (LineParts texts first count));
+        all = All-cons (LineParts texts first count) made [] (of_value line (title_part centred) h) (All-nil (LineParts texts first count));
         rise = (a, omega arith, omega arith);
       })
       (λ _. no_lines low (line.place + 1) (omega arith))

@@ -372,9 +372,9 @@ marks_stay : seen (codes "# *A*" ∷ codes "= _b_ **c**" ∷ codes "*d* _e_" ∷
 unfolding chars is_lowercase in_ranges lowercase_ranges is_alphabetic alphabetic_ranges general_category value_in general_category_rows
 marks_stay = refl
 
--- A mark in a title page's key pairs with one in its value: emphasis looks at the whole line.
+-- A mark in a title page's key doesn't pair with one in its value, which is read as a line of its own.
 mark_in_key : seen (codes "Title: x" ∷ codes "K*y: a*b" ∷ [])
-    ≡ block Title 0 1 (codes "x" ∷ codes "ab" ∷ [])
+    ≡ block Title 0 1 (codes "x" ∷ codes "a*b" ∷ [])
     ∷ []
 unfolding chars is_lowercase in_ranges lowercase_ranges is_alphabetic alphabetic_ranges general_category value_in general_category_rows
 mark_in_key = refl
@@ -433,6 +433,18 @@ whole_title : stanza_at (codes "Title:" ∷ codes "Credit: *x*" ∷ codes "  y" 
     ∷ []) ∷ [])
 unfolding chars is_lowercase in_ranges lowercase_ranges is_alphabetic alphabetic_ranges general_category value_in general_category_rows
 whole_title = refl
+
+-- The marks of a value pair among themselves, in further values too, and the text of a value keeps those without a pair.
+whole_values : stanza_at (codes "Title: **a" ∷ codes "E_mail: a_b" ∷ codes "_c:_ _d_" ∷ codes "   \\*g[[n]]*h*" ∷ codes "C: *" ∷ []) 0
+    ≡ stanza 5 (made Title 0 4
+    (line 0 parts.TitleCentred false (run 7 10 0 ∷ [])
+    ∷ line 1 parts.TitleLeft true (run 8 11 0 ∷ [])
+    ∷ line 2 parts.TitleLeft true (run 3 5 0 ∷ run 6 7 4 ∷ [])
+    ∷ line 3 parts.TitleLeft false (run 4 6 0 ∷ run 12 13 1 ∷ [])
+    ∷ line 4 parts.TitleLeft true (run 3 4 0 ∷ [])
+    ∷ []) ∷ [])
+unfolding chars is_lowercase in_ranges lowercase_ranges is_alphabetic alphabetic_ranges general_category value_in general_category_rows
+whole_values = refl
 
 -- A page break has no line, and a stanza of held lines no block.
 no_lines : stanza_at (codes "===" ∷ []) 0 ≡ stanza 1 (made PageBreak 0 0 [] ∷ [])

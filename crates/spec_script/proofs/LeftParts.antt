@@ -27,6 +27,7 @@ use Rattle.spec_script.proofs.StanzaLines.{HasParts, kept_by_line, stanza_lines-
 -- What is left of a line.
 pub record IsLine (line : List ℕ) (left : Left) : Type 0 where
   pub utf8 : IsUtf8 line
+  pub same : left.line ≡ line
   pub parts : Parts line 0 left.spans
   pub text : left.text ≡ text_in line left.spans
   pub runs : RunParts line left.runs
@@ -49,6 +50,7 @@ cleaned-line k flags place held u p f =
     let parts = cut_spans-Parts k.line k.spans 0 flags u p f.same f.edges in
     record {
       utf8 = u;
+      same = refl;
       parts = parts;
       text = sym (text_in-cut k.line k.spans 0 flags p f.same);
       runs = RunParts-runs_of k.line (cut_spans k.spans flags) u parts;

@@ -34,3 +34,4 @@ pub mod RunPlaces
 pub mod ElementLaws
 pub mod RunSteps
 pub mod SpeechParts
+mod ValueLaws

@@ -22,7 +22,7 @@ no_space Bold h = cc
 no_space BoldItalic h = cc
 no_space Underline h = cc
 
-mark-markup : (layer : Layer) → is_markup (mark_of layer) ≡ true
+pub mark-markup : (layer : Layer) → is_markup (mark_of layer) ≡ true
 mark-markup Italic = refl
 mark-markup Bold = refl
 mark-markup BoldItalic = refl

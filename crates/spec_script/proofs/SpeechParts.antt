@@ -12,8 +12,8 @@ use Rattle.spec_script.specs.Left.{Left, left_lines, trimmed, inner, line_of, pl
 use Rattle.spec_script.specs.Trim.{trim_all}
 use Rattle.spec_script.specs.Letters.{begins}
 use Rattle.spec_script.specs.Forms.{is_parenthetical, is_natural_heading, is_natural_transition, is_forced_heading, is_page_break, is_synopsis}
-use Rattle.spec_script.specs.Title.{opens_centred, value_cut, title_opens}
-use Rattle.spec_script.specs.TitlePages.{one_key, title_part, value_of, values_of, opened, title_lines, title_of}
+use Rattle.spec_script.specs.Title.{opens_centred, title_opens}
+use Rattle.spec_script.specs.TitlePages.{one_key, title_part, value_line, value_of, values_of, opened, title_lines, title_of}
 use Rattle.spec_script.specs.Headings.{heading_skip, number_len, numbered_heading, heading_of}
 use Rattle.spec_script.specs.Speeches.{is_speech, cue_line, spoken, speech_of}
 use Rattle.spec_script.specs.Divisions.{ends_part, section_of, ending_blocks, one_block, listed_line, group_block, run_blocks, part_blocks, piece_blocks, one_part, pieces_blocks}
@@ -64,9 +64,9 @@ if-block false x y one other = other
 value-silent : (centred : Bool) (line : Left) → Silent (value_of centred line)
 value-silent centred line = by _ centred
   where
-    by : (b centred : Bool) → Silent (cond b (line_of line (title_part centred) (value_cut line.text) ∷ []) [])
-    by true true = one-line false (line_of line parts.TitleCentred (value_cut line.text)) refl
-    by true false = one-line false (line_of line parts.TitleLeft (value_cut line.text)) refl
+    by : (b centred : Bool) → Silent (cond b (value_line line (title_part centred) ∷ []) [])
+    by true true = one-line false (value_line line parts.TitleCentred) refl
+    by true false = one-line false (value_line line parts.TitleLeft) refl
     by false centred = All-nil (IsSpoken false)
 
 values-silent : (centred : Bool) (lines : List Left) → Silent (flat_map (value_of centred) lines)

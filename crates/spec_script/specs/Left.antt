@@ -14,9 +14,11 @@ use Rattle.spec_script.specs.LongestRuns.{last_of}
 use Rattle.spec_script.specs.Visible.{plain_runs, window, clip_spans, clip_runs}
 use Rattle.spec_script.specs.BlockValues.{LineOf, BlockOf}
 
--- A line without boneyards and notes: its sort, its text, the parts of the line that the text is made of, and its runs.
+-- A line without boneyards and notes: its sort, the line as it is written, its text, the parts of the line that the text is
+-- made of, and its runs.
 pub record Cleaned : Type 0 where
   pub sort : Sort
+  pub line : List ℕ
   pub text : List ℕ
   pub spans : List SpanOf
   pub runs : List Run
@@ -25,6 +27,7 @@ pub record Cleaned : Type 0 where
 pub record Left : Type 0 where
   pub place : ℕ
   pub held : Bool
+  pub line : List ℕ
   pub text : List ℕ
   pub spans : List SpanOf
   pub runs : List Run
@@ -32,7 +35,7 @@ pub record Left : Type 0 where
 -- The line as one that is left.
 abbrev pub left_line : ℕ → Bool → Cleaned → Left
 left_line place held line =
-    record { place = place; held = held; text = line.text; spans = line.spans; runs = line.runs }
+    record { place = place; held = held; line = line.line; text = line.text; spans = line.spans; runs = line.runs }
 
 -- The line, if it is left, before the others: empty and absent lines are passed over.
 abbrev pub left_before : ℕ → Sort → Cleaned → List Left → List Left

@@ -67,6 +67,7 @@ kept_text line = text_in line.line line.spans
 abbrev pub cleaned_line : Kept → List Bool → Cleaned
 cleaned_line line noted = record {
   sort = sort_without line.sort (kept_text line) noted;
+  line = line.line;
   text = bytes_left (kept_text line) noted;
   spans = cut_spans line.spans noted;
   runs = line_runs line.line (cut_spans line.spans noted);

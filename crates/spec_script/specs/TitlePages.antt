@@ -1,10 +1,12 @@
 -- Title pages (docs/RULES.md, "Title page").
 use Rattle.std.specs.Prelude.{◌≡◌, Bool, true, not, nat_lt, List, [], ◌∷◌, ◌++◌, map, flat_map, if◌then◌else◌}
+use Rattle.spec_text.specs.Parts.{SpanOf}
 use Rattle.spec_script.specs.declared.Kind.TheVariants as kinds
 use Rattle.spec_script.specs.declared.Part.{Part}
 use Rattle.spec_script.specs.declared.Part.TheVariants as parts
 use Rattle.spec_script.specs.LongestRuns.{Group, members, AreRuns}
 use Rattle.spec_script.specs.Title.{has_key, opens_centred, value_cut}
+use Rattle.spec_script.specs.Visible.{line_runs, window, clip_spans}
 use Rattle.spec_script.specs.BlockValues.{LineOf, BlockOf}
 use Rattle.spec_script.specs.Left.{Left, line_of, last_place, block_of}
 
@@ -16,11 +18,18 @@ one_key a b = not (has_key b.text)
 abbrev pub title_part : Bool → Part
 title_part centred = if centred then parts.TitleCentred else parts.TitleLeft
 
+-- The parts of the line that its value is made of.
+abbrev pub value_parts : Left → List SpanOf
+value_parts line = clip_spans (window line.spans (value_cut line.text)) line.spans
+
+-- The line with its value, which is read as a line of its own: no mark of the key has a say in it.
+abbrev pub value_line : Left → Part → LineOf
+value_line line part = record (line_of line part (value_cut line.text)) { runs = line_runs line.line (value_parts line) }
+
 -- The line's value, if it has one.
 abbrev pub value_of : Bool → Left → List LineOf
 value_of centred line =
-    if nat_lt (value_cut line.text).from (value_cut line.text).to then line_of line (title_part centred) (value_cut line.text) ∷ []
-    else []
+    if nat_lt (value_cut line.text).from (value_cut line.text).to then value_line line (title_part centred) ∷ [] else []
 
 -- The values of a key: its own, and those of the lines until the next key.
 abbrev pub values_of : Group Left → List LineOf

@@ -25,7 +25,7 @@ returns-clause-whole c =
     } in
     let numbered : NumberedOf = record {
       labels = option_map (λ those. those.items) c.numbered.inside.labels;
-      title_starts = c.numbered.inside.title_pages.starts;
+      title_starts = c.numbered.inside.title_starts.items;
       sheets = c.numbered.inside.sheets.items;
     } in
     let it : MadeOf = record { layout = laid_of c.made.inside.layout; numbered = numbered } in
@@ -48,7 +48,7 @@ returns-clause-made c =
     } in
     let numbered : NumberedOf = record {
       labels = option_map (λ those. those.items) c.numbered.inside.labels;
-      title_starts = c.numbered.inside.title_pages.starts;
+      title_starts = c.numbered.inside.title_starts.items;
       sheets = c.numbered.inside.sheets.items;
     } in
     let it : MadeOf = record { layout = laid_of c.made.inside.layout; numbered = numbered } in

@@ -20,6 +20,7 @@ use Rattle.sp_state.specs.Fills.{EditFills, EditFillsAtMost}
 use Rattle.sp_state.proofs.FillLaws.{fills-edited, fills-within, none-filled}
 use Rattle.sp_state.proofs.LabelLaws.{labels-after}
 use Rattle.sp_state.proofs.RefilledLaws.{can-edit, stale-edited}
+use Rattle.sp_state.proofs.TitleLaws.{titles-after, titles-were}
 use Rattle.sp_state.proofs.SheetLaws.{edited-unlocked, locked-before, sheets-before}
 use Rattle.std.proofs.lemmas.Result.{err_from_is_err_and}
 use Rattle.sp_text_entry.specs.Reads.{EditReads, EditReadsAtMost}
@@ -49,6 +50,17 @@ refilled-requires-clause-labels g c keeps =
     let part = c.in_ok-text.field-0.layout in
     labels-after old new layout (with_part layout part.places (laid_of part.kept)) c.args.numbered.now.labels c.requires.whole.text c.in_ok-text.ensures.whole c.in_ok-text.ensures.laid
     (c.in_ok-text.ensures.layout_back ∙ c.requires.laid) (ap (λ (s : State). s.scenes) c.in_ok-text.ensures.state) c.requires.numbered.labels (c.keeps_headings-keeps_labels.ensures.0 keeps)
+
+pub refilled-requires-clause-titles : goal.refilled-requires-clause-titles
+refilled-requires-clause-titles g c keeps =
+    let old : State = state_of (text_of c.args.lines.now) c.args.records.now in
+    let new : State = state_of (text_of c.edit_entry.new.lines) c.edit_entry.new.records in
+    let layout = laid_of c.edit_entry.new.layout in
+    let part = c.in_ok-text.field-0.layout in
+    let starts = c.args.numbered.now.title_starts in
+    let were =
+    titles-were old (with_part layout part.places (laid_of part.kept)) new.paper starts (c.in_ok-text.ensures.layout_back ∙ c.requires.laid) (ap (λ (s : State). s.paper) c.in_ok-text.ensures.state) c.requires.numbered.title_starts in
+    titles-after new layout (laid_of part.kept) part.places starts c.in_ok-text.ensures.laid were (c.leaves_titles-keeps_titles.ensures.0 keeps)
 
 pub refilled-requires-clause-sheets : goal.refilled-requires-clause-sheets
 refilled-requires-clause-sheets g c none first =

@@ -11,6 +11,7 @@ use Rattle.sp_text_entry.specs.TextEntries.{IsSameTextEntry, IsTextUndone}
 use Rattle.sp_state.specs.Entries.{EntryState, CanRedo, undone_range, redone_state}
 use Rattle.sp_state.proofs.EntryLaws.{redo-again, leads-back}
 use Rattle.sp_state.proofs.LabelLaws.{labels-were}
+use Rattle.sp_state.proofs.TitleLaws.{titles-were}
 use Rattle.sp_state.proofs.SheetLaws.{none-mapped, sheets-before, turned-before}
 use Rattle.sp_text_entry.proofs.TextEntryLaws.{redone-undone}
 use Rattle.spec_locked_pages.specs.Segments.{pages_of}
@@ -20,6 +21,11 @@ pub turn_made-requires-clause-labels : goal.turn_made-requires-clause-labels
 turn_made-requires-clause-labels c =
     let state : State = state_of (text_of c.args.lines.now) c.args.records.now in
     labels-were state (laid_of c.args.layout.now) c.args.numbered.now.labels c.redo_entry.new.records.scenes c.len-count.ensures.keeps c.requires.laid (ap (λ (s : State). s.scenes) c.in-Ok.ensures.state) c.requires.numbered.labels
+
+pub turn_made-requires-clause-titles : goal.turn_made-requires-clause-titles
+turn_made-requires-clause-titles c =
+    let state : State = state_of (text_of c.args.lines.now) c.args.records.now in
+    titles-were state (laid_of c.args.layout.now) c.redo_entry.new.records.paper c.args.numbered.now.title_starts c.requires.laid (ap (λ (s : State). s.paper) c.in-Ok.ensures.state) c.requires.numbered.title_starts
 
 pub turn_made-requires-clause-sheets : goal.turn_made-requires-clause-sheets
 turn_made-requires-clause-sheets c none first =

@@ -7,6 +7,8 @@ use Rattle.sp_layout.specs.LaidOut.{LayoutOf}
 use Rattle.sp_relay.specs.Kept.{CanSwap, laid_of, with_part}
 use Rattle.sp_numbers.specs.HeadingIds.{laid_labels}
 use Rattle.sp_made.proofs.LaidHeadings.{labels-stay}
+use Rattle.sp_made.specs.Titles.{laid_titles}
+use Rattle.sp_state.proofs.TitleLaws.{titles-after}
 use Rattle.sp_state.proofs.turning.turn_made.Goals as goal
 
 pub turned_pages-requires-clause-labels : goal.turned_pages-requires-clause-labels
@@ -16,6 +18,14 @@ turned_pages-requires-clause-labels c keeps =
     let other = c.in-Ok.other in
     labels-stay state layout (with_part layout other.places (laid_of other.kept)) c.args.numbered.now.labels c.requires.whole.text (c.in-Ok.ensures.layout ∙ c.requires.laid)
     (c.requires.labels ∙ ap (λ (l : LayoutOf). laid_labels l state.scenes) (sym c.in-Ok.ensures.back)) (c.keeps_headings-keeps_labels.ensures.0 keeps)
+
+pub turned_pages-requires-clause-titles : goal.turned_pages-requires-clause-titles
+turned_pages-requires-clause-titles c keeps =
+    let state : State = state_of (text_of c.args.lines.now) c.args.records.now in
+    let layout = laid_of c.swap.new.self in
+    let other = c.in-Ok.other in
+    titles-after state layout (laid_of other.kept) other.places c.args.numbered.now.title_starts (c.in-Ok.ensures.layout ∙ c.requires.laid)
+    (c.requires.titles ∙ ap (λ (l : LayoutOf). laid_titles l state.paper) (sym c.in-Ok.ensures.back)) (c.leaves_titles-keeps_titles.ensures.0 keeps)
 
 pub returns-in-Ok-turned_pages : goal.returns-in-Ok-turned_pages
 returns-in-Ok-turned_pages c =

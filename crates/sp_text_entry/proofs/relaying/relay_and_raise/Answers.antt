@@ -1,6 +1,7 @@
 use Rattle.std.proofs.Common.{List, refl, ap, sym, subst, ◌∙◌}
 use Rattle.std.proofs.lemmas.Result.{err_from_is_err_and}
 use Rattle.spec_text.specs.Edits.{restored}
+use Rattle.spec_text.specs.Lines.{LineState}
 use Rattle.spec_pages.specs.Rows.{ElementOf}
 use Rattle.spec_records.specs.Kept.{RecordsOf}
 use Rattle.spec_state.specs.State.{State}
@@ -11,6 +12,7 @@ use Rattle.sp_text.specs.Gap.{text_of}
 use Rattle.sp_layout.specs.LaidOut.{LayoutOf, keyed}
 use Rattle.sp_relay.specs.Edited.{WasLaidOf}
 use Rattle.sp_relay.specs.Kept.{laid_of}
+use Rattle.sp_relay.specs.Outside.{StaysOutside}
 use Rattle.sp_refill.specs.Edits.{AreAhead}
 use Rattle.sp_made_parts.specs.Firsts.{IsLaidOf}
 use Rattle.sp_text_entry.specs.Raised.{state_before}
@@ -31,6 +33,7 @@ rows_ahead-ahead-requires c =
 pub relay_edit-requires-clause-was : goal.relay_edit-requires-clause-was
 relay_edit-requires-clause-was c = record {
   before = restored (text_of c.args.lines.now) (displaced_of c.args.displaced.now);
+  is = sym c.new-old.ensures;
   of = subst (λ (r : RecordsOf). WasLaidOf (restored (text_of c.args.lines.now) (displaced_of c.args.displaced.now)) c.args.lines.now.lines c.args.stanzas.now.stanzas c.args.swapped.now r.speakers (laid_of c.args.layout.now)) (sym c.records.view_is) c.requires.was;
 }
 
@@ -43,8 +46,7 @@ carry_and_raise-requires-clause-was c = c.in_ok-part.ensures.back ∙ c.requires
 
 pub carry_and_raise-requires-clause-outside : goal.carry_and_raise-requires-clause-outside
 carry_and_raise-requires-clause-outside c =
-    c.in_ok-part.ensures.outside (restored (text_of c.args.lines.now) (displaced_of c.args.displaced.now))
-    (subst (λ (r : RecordsOf). WasLaidOf (restored (text_of c.args.lines.now) (displaced_of c.args.displaced.now)) c.args.lines.now.lines c.args.stanzas.now.stanzas c.args.swapped.now r.speakers (laid_of c.args.layout.now)) (sym c.records.view_is) c.requires.was)
+    subst (λ (olds : List LineState). StaysOutside olds c.args.lines.now.lines (laid_of c.relay_edit.new.kept).body.elements c.in_ok-part.part.places) c.new-old.ensures c.in_ok-part.ensures.outside
 
 pub exchanged_rows-rows-requires : goal.exchanged_rows-rows-requires
 exchanged_rows-rows-requires c =
