@@ -6,7 +6,7 @@ ghost use Rattle.spec_script.specs.Spans.{text_in};
 ghost use Rattle.spec_script.specs.Forms.{opens_with, is_natural_heading, is_forced_heading, is_natural_transition, is_natural_cue, without_caret, cue_name};
 
 use crate::letters::{begins_alphanumeric, begins_with_one, begins_with_word, ends, is_uppercase};
-use crate::parts::{LINE_LIMIT, joined_text};
+use crate::parts::{LINE_LIMIT, joined_text, whole_text};
 use crate::spaces::trim;
 use spec_text::Span;
 
@@ -17,8 +17,13 @@ pub fn is_heading(text: &str, kept: &[Span]) -> bool
     requires kept { Parts text.now 0 kept.now }
     ensures { result ≡ is_natural_heading (trim (text_in text.now kept.now)) }
 {
-    let mut buffer = [0; LINE_LIMIT];
-    is_natural_heading(trim(joined_text(text, kept, &mut buffer)))
+    match whole_text(text, kept) {
+        Some(whole) => is_natural_heading(trim(whole)),
+        None => {
+            let mut buffer = [0; LINE_LIMIT];
+            is_natural_heading(trim(joined_text(text, kept, &mut buffer)))
+        }
+    }
 }
 
 /// Whether the kept text of a line is a natural transition. It takes no memory. (docs/RULES.md, "Letter tests")
@@ -27,8 +32,13 @@ pub fn is_transition(text: &str, kept: &[Span]) -> bool
     requires kept { Parts text.now 0 kept.now }
     ensures { result ≡ is_natural_transition (text_in text.now kept.now) }
 {
-    let mut buffer = [0; LINE_LIMIT];
-    is_natural_transition(joined_text(text, kept, &mut buffer))
+    match whole_text(text, kept) {
+        Some(whole) => is_natural_transition(whole),
+        None => {
+            let mut buffer = [0; LINE_LIMIT];
+            is_natural_transition(joined_text(text, kept, &mut buffer))
+        }
+    }
 }
 
 /// Whether the kept text of a line, trimmed, is a natural cue. It takes no memory. (docs/RULES.md, "Letter tests")
@@ -37,8 +47,13 @@ pub fn is_cue(text: &str, kept: &[Span]) -> bool
     requires kept { Parts text.now 0 kept.now }
     ensures { result ≡ is_natural_cue (trim (text_in text.now kept.now)) }
 {
-    let mut buffer = [0; LINE_LIMIT];
-    is_natural_cue(trim(joined_text(text, kept, &mut buffer)))
+    match whole_text(text, kept) {
+        Some(whole) => is_natural_cue(trim(whole)),
+        None => {
+            let mut buffer = [0; LINE_LIMIT];
+            is_natural_cue(trim(joined_text(text, kept, &mut buffer)))
+        }
+    }
 }
 
 fn is_natural_heading(text: &str) -> bool

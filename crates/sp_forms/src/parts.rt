@@ -1,5 +1,5 @@
 //! Parts of a line, by places of bytes (docs/RULES.md, "Places and parts").
-ghost use Rattle.std.specs.Prelude.{◌≡◌, ◌≤◌, ◌++◌, length, take, slice_range, OnOk};
+ghost use Rattle.std.specs.Prelude.{◌≡◌, ◌≤◌, ◌++◌, length, take, slice_range, IfSome, OnOk};
 ghost use Rattle.spec_text.specs.Parts.{Lies, Parts};
 ghost use Rattle.spec_script.specs.Spans.{part, place_in, text_in};
 
@@ -43,6 +43,18 @@ pub fn place_of(kept: &[Span], byte: usize) -> Option<u32>
         left -= len;
     }
     None
+}
+
+/// The kept text of a line whose parts are one or none.
+pub fn whole_text<'a>(text: &'a str, kept: &[Span]) -> Option<&'a str>
+    requires { Parts text.now 0 kept.now }
+    ensures { IfSome result (λ whole. whole.now ≡ text_in text.now kept.now) }
+{
+    match kept {
+        [] => Some(""),
+        [span] => Some(part_of(text, *span)),
+        _ => None,
+    }
 }
 
 /// The kept text of a line: a part of the line where the parts are one, and otherwise a copy in the buffer. It takes
