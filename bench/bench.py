@@ -325,6 +325,7 @@ def time_edits(folder, options):
         ("random places, locked", scenes, LOCKS, anywhere(200_000, EDITED)),
         ("typed into a heading", ".H\n\n" + "!a\n\n" * 99_000, [], typed(0, 1, "BH")),
         ("typed into a speech", "BOB\nHi.\n\n" + "!a\n\n" * 99_000, [], typed(1, 0, "JH")),
+        ("typed into a name", "ANNA\nx\n\n" + "!a\n\n" * 90_000 + "ANNA\ny\n", [], typed(0, 3, "EA")),
     ):
         path = folder / "edits"
         commands = folder / "edits.commands"

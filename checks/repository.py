@@ -127,9 +127,13 @@ def clauses():
 
 
 def dependencies():
-    """Each crate names in crates.txt those that its files name, and no others."""
-    for line in (TOP / "crates.txt").read_text().splitlines():
-        crate, _, named = line.split("#")[0].partition(":")
+    """Each crate names in crates.txt those that its files name, and no others, and stands behind them."""
+    lines = [line.split("#")[0].partition(":") for line in (TOP / "crates.txt").read_text().splitlines()]
+    above = {crate for crate, colon, _ in lines if colon}
+    for crate, _, named in lines:
+        above.discard(crate)
+        for name in above.intersection(named.split()):
+            yield f"crates.txt has {crate} before {name}, which it stands on"
         written = " ".join(path.read_text() for path in sources(".rt", ".antt", below=CRATES / crate)) if named else ""
         known = {name for found in re.finditer(r"\bRattle\.(\w+)\.|\b(\w+)::", written) for name in found.groups()}
         for name in named.split():
