@@ -1,0 +1,96 @@
+"""Measures a first run: `./run print FILE` in a fresh clone of what is committed, over a copy of the toolchain beside which nothing is kept.
+
+`python3 bench/first_run.py` takes all processors, `--processors 2` the first two; `taskset` does the same. The lines of ./run go to standard
+error. A row of a table comes at the end: when it began, on which machine, with which load before, how many processors and crates there
+were, minutes by the clock until the sheets came, minutes of the processors, and when a third and two thirds of the crates were proved.
+`--crates NAME ..` takes these crates and those below them alone, with a small program of the toolchain above them: that tries the
+script and ./run, and measures no first run.
+"""
+
+import argparse
+import os
+import pathlib
+import re
+import resource
+import shutil
+import subprocess
+import sys
+import tempfile
+import time
+
+from gate import crates_below
+
+TOP = pathlib.Path(__file__).resolve().parent.parent
+KIT = pathlib.Path(shutil.which("rt") or sys.exit("first_run: there is no rt on the path")).resolve().parent.parent
+
+
+def copy_of_toolchain(folder):
+    """A toolchain of the same files: rt keeps what it proves beside the one that it is part of."""
+    (folder / "kit").mkdir(parents=True)
+    for part in KIT.iterdir():
+        if part.name == "bin":
+            shutil.copytree(part, folder / "kit/bin")
+        else:
+            (folder / "kit" / part.name).symlink_to(part)
+    return folder / "kit/bin"
+
+
+def cut_down(clone, names):
+    """Leaves these crates and those below them, and a program above them."""
+    below = {name: [it for it in others if it in crates_below()] for name, others in crates_below().items()}
+    kept = set(names)
+    while len(kept) < len(kept := kept | {it for name in kept for it in below[name]}):
+        pass
+    lines = (clone / "crates.txt").read_text().splitlines()
+    lines = [line for line in lines if re.split("[ :]", line)[0] in kept]
+    (clone / "crates.txt").write_text("\n".join([*lines, f"fountain_cli: {' '.join(sorted(kept))}", ""]))
+    shutil.rmtree(clone / "crates/fountain_cli")
+    shutil.copytree(KIT / "rattle/examples/start_io", clone / "crates/fountain_cli", ignore=shutil.ignore_patterns("BUILD.bazel", "*.md", "out"))
+
+
+def machine():
+    """The processor's name, where the system tells it, and the memory."""
+    names = re.findall(r"^model name\s*: (.*)", pathlib.Path("/proc/cpuinfo").read_text(), re.M)
+    memory = os.sysconf("SC_PAGE_SIZE") * os.sysconf("SC_PHYS_PAGES") / 2**30
+    return f"{names[0] if names else os.uname().machine}, {memory:.0f} GiB"
+
+
+def measure(folder, names):
+    clone = folder / "clone"
+    subprocess.run(["git", "clone", "-q", TOP, clone], check=True)
+    if names:
+        cut_down(clone, names)
+    env = {**os.environ, "PATH": f"{copy_of_toolchain(folder / 'toolchain')}:{os.environ['PATH']}"}
+    load, hour, begun = os.getloadavg()[0], time.strftime("%Y-%m-%d %H:%M UTC", time.gmtime()), time.monotonic()
+    words = [clone / "run", "print", clone / "examples/hello.fountain"]
+    proved = []
+    with subprocess.Popen(words, env=env, stdin=subprocess.DEVNULL, stdout=subprocess.PIPE, stderr=subprocess.PIPE, text=True) as run:
+        for line in run.stderr:
+            sys.stderr.write(line)
+            if re.search(r" is proved \(\d+ of \d+ crates", line):
+                proved.append((time.monotonic() - begun) / 60)
+        sheets = run.stdout.read()
+    minutes = (time.monotonic() - begun) / 60
+    used = resource.getrusage(resource.RUSAGE_CHILDREN)
+    if run.returncode or not sheets:
+        sys.exit(f"first_run: ./run ended with {run.returncode} after {minutes:.1f} minutes")
+    at = [proved[len(proved) * part // 3 - 1] for part in (1, 2)]
+    row = [hour, machine(), f"{load:.1f}", len(os.sched_getaffinity(0)), len(proved), f"{minutes:.1f}", f"{(used.ru_utime + used.ru_stime) / 60:.1f}"]
+    print("| began | machine | load before | processors | crates | minutes | processor minutes | a third | two thirds |")
+    print("|" + "---|" * 9)
+    print("| " + " | ".join(map(str, [*row, *(f"{minutes:.1f}" for minutes in at)])) + " |")
+
+
+def main():
+    words = argparse.ArgumentParser(description="Measures a first run from nothing.")
+    words.add_argument("--processors", type=int, metavar="N", help="the first N processors alone")
+    words.add_argument("--crates", nargs="+", default=[], metavar="NAME", help="these crates and those below them alone")
+    given = words.parse_args()
+    if given.processors:
+        os.sched_setaffinity(0, sorted(os.sched_getaffinity(0))[: given.processors])
+    with tempfile.TemporaryDirectory() as folder:
+        measure(pathlib.Path(folder), given.crates)
+
+
+if __name__ == "__main__":
+    main()
