@@ -1,10 +1,10 @@
-"""Measures a first run: `./run print FILE` in a fresh clone of what is committed, over a copy of the toolchain beside which nothing is kept.
+"""Measures a first run: `./run print FILE` in a fresh clone of what is committed, by a copy of the toolchain beside which nothing is kept.
 
-`python3 bench/first_run.py` takes all processors, `--processors 2` the first two; `taskset` does the same. The lines of ./run go to standard
-error. A row of a table comes at the end: when it began, on which machine, with which load before, how many processors and crates there
-were, minutes by the clock until the sheets came, minutes of the processors, and when a third and two thirds of the crates were proved.
-`--crates NAME ..` takes these crates and those below them alone, with a small program above them: that tries the
-script and ./run, and measures no first run.
+`python3 bench/first_run.py` takes all processors, and `taskset -c 0,1 python3 bench/first_run.py` two of them. The lines of ./run go to
+standard error. A row of a table comes at the end: when it began, on which machine, on how many processors, with which load before, how many
+crates there were, minutes by the clock until the sheets came, minutes of the processors, and when a third and two thirds were proved.
+`--crates NAME ..` takes these crates and those below them alone, with a small program above them: that tries this and ./run, and measures
+no first run.
 """
 
 import argparse
@@ -18,7 +18,7 @@ import sys
 import tempfile
 import time
 
-from gate import crates_below
+from gate import surroundings, with_those_below
 
 TOP = pathlib.Path(__file__).resolve().parent.parent
 KIT = pathlib.Path(shutil.which("rt") or sys.exit("first_run: there is no rt on the path")).resolve().parent.parent
@@ -47,25 +47,14 @@ def copy_of_toolchain(folder):
 
 def cut_down(clone, names):
     """Leaves these crates and those below them, and a program above them."""
-    below = {name: [it for it in others if it in crates_below()] for name, others in crates_below().items()}
-    kept = set(names)
-    while len(kept) < len(kept := kept | {it for name in kept for it in below[name]}):
-        pass
-    lines = (clone / "crates.txt").read_text().splitlines()
-    lines = [line for line in lines if re.split("[ :]", line)[0] in kept]
-    (clone / "crates.txt").write_text("\n".join([*lines, f"fountain_cli: {' '.join(sorted(kept))}", ""]))
+    kept = with_those_below(names)
+    lines = [line for line in (clone / "crates.txt").read_text().splitlines() if re.split("[ :]", line)[0] in kept]
+    (clone / "crates.txt").write_text("\n".join([*lines, f"fountain_cli: {' '.join(kept)}", ""]))
     program = clone / "crates/fountain_cli"
     shutil.rmtree(program)
     (program / "src").mkdir(parents=True)
     (program / "src/main.rt").write_text(PROGRAM)
     (program / "stdout").write_text("proved\n")
-
-
-def machine():
-    """The processor's name, where the system tells it, and the memory."""
-    names = re.findall(r"^model name\s*: (.*)", pathlib.Path("/proc/cpuinfo").read_text(), re.M)
-    memory = os.sysconf("SC_PAGE_SIZE") * os.sysconf("SC_PHYS_PAGES") / 2**30
-    return f"{names[0] if names else os.uname().machine}, {memory:.0f} GiB"
 
 
 def measure(folder, names):
@@ -74,7 +63,7 @@ def measure(folder, names):
     if names:
         cut_down(clone, names)
     env = {**os.environ, "PATH": f"{copy_of_toolchain(folder / 'toolchain')}:{os.environ['PATH']}"}
-    load, hour, begun = os.getloadavg()[0], time.strftime("%Y-%m-%d %H:%M UTC", time.gmtime()), time.monotonic()
+    where, begun = surroundings(), time.monotonic()
     words = [clone / "run", "print", clone / "examples/hello.fountain"]
     proved = []
     with subprocess.Popen(words, env=env, stdin=subprocess.DEVNULL, stdout=subprocess.PIPE, stderr=subprocess.PIPE, text=True) as run:
@@ -88,19 +77,16 @@ def measure(folder, names):
     if run.returncode or not sheets:
         sys.exit(f"first_run: ./run ended with {run.returncode} after {minutes:.1f} minutes")
     at = [proved[len(proved) * part // 3 - 1] for part in (1, 2)]
-    row = [hour, machine(), f"{load:.1f}", len(os.sched_getaffinity(0)), len(proved), f"{minutes:.1f}", f"{(used.ru_utime + used.ru_stime) / 60:.1f}"]
-    print("| began | machine | load before | processors | crates | minutes | processor minutes | a third | two thirds |")
+    row = [*where, len(proved), f"{minutes:.1f}", f"{(used.ru_utime + used.ru_stime) / 60:.1f}"]
+    print("| began | machine | processors | load before | crates | minutes | processor minutes | a third | two thirds |")
     print("|" + "---|" * 9)
     print("| " + " | ".join(map(str, [*row, *(f"{minutes:.1f}" for minutes in at)])) + " |")
 
 
 def main():
     words = argparse.ArgumentParser(description="Measures a first run from nothing.")
-    words.add_argument("--processors", type=int, metavar="N", help="the first N processors alone")
     words.add_argument("--crates", nargs="+", default=[], metavar="NAME", help="these crates and those below them alone")
     given = words.parse_args()
-    if given.processors:
-        os.sched_setaffinity(0, sorted(os.sched_getaffinity(0))[: given.processors])
     with tempfile.TemporaryDirectory() as folder:
         measure(pathlib.Path(folder), given.crates)
 
