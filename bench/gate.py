@@ -1,16 +1,17 @@
 """Runs the proofs and edits of the gate and says how many processor seconds each crate took: for its proof, builds included, for the checks
 of the crate as it stands with which the toolchain begins and ends its edits, and for the edits that must fail; and how many checks there
 were, what those took that found nothing to prove, how long the longest edit took, and what the gate took with all that it does beside.
-A check is last looked at up to half a second before it ends.
+A check is last looked at up to half a second before it ends. A line above the table says where and when that was.
 
 `python3 bench/gate.py WORDS..` runs `rt ci WORDS..`, hands its lines on to standard error, and prints a table at the end, and the longest
 chain of crates one above the other, in processor time and by the clock. What an earlier run passed isn't proved again, so the table is whole
-only with `--anew` or on a machine without one.
+only with `--anew` or on a machine without one. `taskset -c 0,1 python3 bench/gate.py --anew` measures it on two processors.
 """
 
 import functools
 import os
 import pathlib
+import re
 import resource
 import subprocess
 import sys
@@ -19,6 +20,14 @@ import time
 
 TICKS = os.sysconf("SC_CLK_TCK")
 PHASES = ["proof", "around edits", "edits"]
+
+
+def surroundings():
+    """The hour, the machine, how many of its processors may be used, and the load so far."""
+    names = re.findall(r"^model name\s*: (.*)", pathlib.Path("/proc/cpuinfo").read_text(), re.M)
+    memory = os.sysconf("SC_PAGE_SIZE") * os.sysconf("SC_PHYS_PAGES") / 2**30
+    machine = f"{names[0] if names else os.uname().machine}, {memory:.0f} GiB"
+    return [time.strftime("%Y-%m-%d %H:%M UTC", time.gmtime()), machine, f"{len(os.sched_getaffinity(0))} of {os.cpu_count()}", f"{os.getloadavg()[0]:.1f}"]
 
 
 def parent(number):
@@ -115,6 +124,14 @@ def crates_below():
     return {name.strip(): below.split() for name, _, below in parts}
 
 
+def with_those_below(names):
+    """These crates and all that they stand on."""
+    below, found = crates_below(), list(names)
+    for name in found:
+        found += [it for it in below[name] if it in below and it not in found]
+    return found
+
+
 def print_chain(taken, measure):
     """The crates one above the other whose proofs took longest together, by the seconds that each took."""
     below = crates_below()
@@ -154,8 +171,9 @@ def print_whole():
 
 def main():
     meter = Meter()
-    begun = time.monotonic()
+    where, begun = surroundings(), time.monotonic()
     status = run_gate(sys.argv[1:], meter)
+    print("began {}, {}, processors {}, load before {}\n".format(*where))
     print_table(meter.table(), (time.monotonic() - begun) / 60)
     print_readings(meter)
     print_longest_edit(meter)

@@ -17,6 +17,7 @@ import tempfile
 from hostile import BESIDE, FORMS, LINES, REFUSED, Place, differs, digest, insert, opens
 from program import LABELS, PROGRAM, SAVE, UNDO, lines_of
 from report import found_by, tell
+from tools import lacks
 
 # The calls of one function for one stream or file are counted from 1 on. The one with the number `at` fails with an error, or moves nothing
 # where there is none, and each other moves `most` bytes at most. The plan stands in a file that whoever starts the program shares.
@@ -321,17 +322,13 @@ def prepare(folder):
 
 
 def main():
-    if not shutil.which("cc"):
-        print("calls: skipped: cc is missing, of the Debian package gcc")
+    if lacks("calls", "no call is changed", "cc", "/usr/include/dlfcn.h"):
         return 0
     if not PROGRAM.exists():
         return tell("calls", "none was changed", ["the program isn't built"])
     with tempfile.TemporaryDirectory() as name:
         folder = pathlib.Path(name)
-        try:
-            prepare(folder)
-        except subprocess.CalledProcessError:
-            return tell("calls", "none was changed", ["the library isn't built, which needs the Debian package libc6-dev too"])
+        prepare(folder)
         return tell("calls", f"{len(CHECKS)} kinds of calls", [fault for check in CHECKS for fault in found_by(check, Calls(folder))])
 
 

@@ -13,12 +13,12 @@ import time
 
 from program import PROGRAM, TOP, lines_of
 from report import faults_by, tell
+from tools import lacks
 
 CHECKER = TOP / "scripts/fountain-check-script"
 RUNS = 150
 # What a script of 200,000 lines may take, on a machine that does other work too.
 SECONDS = 60
-PACKAGES = {"vim": "vim", "emacs": "emacs-nox"}
 # Has Emacs read the lines as those of a compiler, and write the file and the line of the first.
 EMACS = """(progn (require 'compile) (insert-file-contents "told") (compilation-mode) (compilation--ensure-parse (point-max))
 (goto-char (point-min)) (let ((at (compilation--message->loc (get-text-property (point) 'compilation-message))))
@@ -187,8 +187,7 @@ def editors(folder):
     asked = {"vim": ["-Nu", "NONE", "-es", "-c", "cgetfile told", "-c", "redir! > seen", "-c", "silent clist", "-c", "redir END", "-c", "qa!"]}
     asked["emacs"] = ["--batch", "--eval", EMACS]
     for editor, words in asked.items():
-        if not shutil.which(editor):
-            print(f"check_script: skipped: {editor} reads no lines, since the Debian package {PACKAGES[editor]} isn't installed")
+        if lacks("check_script", f"{editor} reads no lines", editor):
             continue
         (folder / "seen").unlink(missing_ok=True)
         subprocess.run([editor, *words], cwd=folder, capture_output=True, timeout=SECONDS)

@@ -11,6 +11,7 @@ import sys
 
 from program import PROGRAM, SAVE, TOP, lines_of
 from report import faults_by, tell
+from tools import has, lacks
 
 CLIENTS = {"fountain_client.py": sys.executable, "fountain_client.js": "node"}
 PLACE = "examples/clients"
@@ -116,7 +117,7 @@ def ended(folder):
 
 
 def present():
-    return [client for client, reader in CLIENTS.items() if shutil.which(reader)]
+    return [client for client, reader in CLIENTS.items() if has(reader)]
 
 
 def place_of(name):
@@ -131,8 +132,7 @@ def place_of(name):
 def main():
     if not PROGRAM.exists():
         return tell("clients", "none was run", ["the program isn't built"])
-    if len(present()) < len(CLIENTS):
-        print("clients: skipped: fountain_client.js isn't run, since the Debian package nodejs isn't installed")
+    lacks("clients", "fountain_client.js isn't run", "node")
     faults = faults_by((sessions, refused, unread, ended), place_of)
     return tell("clients", f"{len(present())} clients with {SESSIONS} sessions of {COMMANDS} commands each", faults)
 

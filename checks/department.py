@@ -15,6 +15,7 @@ import time
 from installed import Place, crash, differs, ended_anywhere, of_guide, refuses, shell, surroundings, text_by_rules
 from program import PROGRAM, SAVE, TOP, Session
 from report import found_by, tell
+from tools import has, lacks
 from screenplay import COLOURS, NAMES, Line, Maker, Paragraph, Screenplay, label_key, put_in, sheets_of, unstarred
 
 SEEDS, SCENES, PARAGRAPHS = range(4), 30, 8
@@ -23,7 +24,7 @@ MILL, BOOK = "the-mill.fountain", "book.txt"
 KINDS = ("rewords", "rewords", "adds", "adds", "cuts", "heads", "comes", "goes", "notes")
 # How the editors of the writers leave a text.
 EDITORS = {"anna": lambda text: text.replace("\n", "\r\n").encode(), "bert": lambda text: f"\ufeff{text}".encode()}
-HAS_PAPER = all(map(shutil.which, ("gs", "pdftotext")))
+HAS_PAPER = all(map(has, ("gs", "pdftotext")))
 
 
 class Installed(Place):
@@ -499,8 +500,7 @@ def faults():
 def main():
     if not PROGRAM.exists():
         return tell("department", "nothing was played", ["the program isn't built"])
-    if not HAS_PAPER:
-        print("department: skipped: no PDF is made, since the Debian packages ghostscript and poppler-utils aren't both installed")
+    lacks("department", "no PDF is made", "gs", "pdftotext")
     return tell("department", f"two weeks of {len(SEEDS)} departments", list(faults()))
 
 

@@ -20,6 +20,7 @@ import time
 
 from program import LOCKS, PROGRAM, SAVE, SECONDS, TOP, lines_of, scripts_in, sheets_of
 from report import faults_by, tell
+from tools import lacks
 
 SCRIPTS = 2
 ASKED = 10
@@ -335,29 +336,22 @@ def help_of(folder, name):
     return call(folder, name, "--help").stdout.split("\n")[0]
 
 
-# Checks by what they need beside the program, as its command and its Debian package.
+# Checks by what they need beside the program.
 CHECKS = {
-    sheet_of_lines: {},
-    vim: {"tmux": "tmux", "vim": "vim"},
-    emacs: {"tmux": "tmux", "emacs": "emacs-nox"},
-    watching: {"tmux": "tmux"},
-    watching_beside: {},
-    matched: {"node": "nodejs"},
-    words: {},
+    sheet_of_lines: [],
+    vim: ["tmux", "vim"],
+    emacs: ["tmux", "emacs"],
+    watching: ["tmux"],
+    watching_beside: [],
+    matched: ["node"],
+    words: [],
 }
-
-
-def lacking(check):
-    return [package for command, package in CHECKS[check].items() if not shutil.which(command)]
 
 
 def main():
     if not PROGRAM.exists():
         return tell("editors", "none was tried", ["the program isn't built"])
-    tried = [check for check in CHECKS if not lacking(check)]
-    for check in CHECKS:
-        for package in lacking(check):
-            print(f"editors: skipped: {check.__name__} isn't tried, since the Debian package {package} isn't installed")
+    tried = [check for check, tools in CHECKS.items() if not lacks("editors", f"{check.__name__} isn't tried", *tools)]
     return tell("editors", f"{len(tried)} checks", faults_by(tried))
 
 

@@ -4,7 +4,6 @@ a picture of one has the size that was asked for, and ink in just the columns wh
 import json
 import pathlib
 import re
-import shutil
 import subprocess
 import sys
 import tempfile
@@ -13,6 +12,7 @@ import zlib
 
 from program import PROGRAM, TOP, output_of, sheets_of
 from report import tell
+from tools import lacks
 
 BROWSER = ["chromium", "--headless", "--no-sandbox", "--disable-gpu", "--hide-scrollbars"]
 # A script whose first sheet of the body is drawn, and the size of the picture.
@@ -119,8 +119,7 @@ def ink_faults(folder):
 
 
 def main():
-    if not shutil.which("chromium"):
-        print("html: skipped: chromium is missing, of the Debian package chromium")
+    if lacks("html", "no page is opened", "chromium"):
         return 0
     if not PROGRAM.exists():
         return tell("html", "no page was opened", ["the program isn't built"])

@@ -3,21 +3,18 @@ with the usage that these tell. It has man and mandoc read the pages, where they
 
 import pathlib
 import re
-import shutil
 import subprocess
 import sys
 
 from report import tell
+from tools import lacks
 
 TOP = pathlib.Path(__file__).resolve().parent.parent
 PAGE = TOP / "docs/fountain.1"
 # Where the completions for each shell have the words of the forms.
 COMPLETED = {"fountain.bash": r'-eq 1 \]; then\n +words="(.*)"', "_fountain": r"^    '(\w+):", "fountain.fish": r"__fish_use_subcommand -a (\w+)"}
-# A reader of the page, the Debian package that has it, and how it is called.
-READERS = {
-    "mandoc": ("mandoc", ["mandoc", "-T", "lint", "-W", "style"]),
-    "man": ("man-db", ["man", "--warnings", "-E", "UTF-8", "-Tutf8", "-Z", "-l"]),
-}
+# How each reader of the page is called.
+READERS = {"mandoc": ["-T", "lint", "-W", "style"], "man": ["--warnings", "-E", "UTF-8", "-Tutf8", "-Z", "-l"]}
 
 
 def part(text, heading, mark):
@@ -93,9 +90,9 @@ def faults():
     for row in re.findall(r"^(.*)\t(.*)$", part(page, "LIMITS", ".SH"), re.M):
         if row not in limits:
             yield f"docs/fountain.1 has the limit {row}, which docs/RULES.md lacks"
-    for reader, (_, words) in READERS.items():
-        for path in sorted((TOP / "docs").glob("*.1")) if shutil.which(reader) else ():
-            yield from (f"{reader}: {it}" for it in told([*words, path]))
+    for reader, words in READERS.items():
+        for path in () if lacks("manual", f"{reader} doesn't read the pages", reader) else sorted((TOP / "docs").glob("*.1")):
+            yield from (f"{reader}: {it}" for it in told([reader, *words, path]))
     yield from script_faults()
     yield from status_faults()
 
@@ -112,9 +109,6 @@ def status_faults():
 
 
 def main():
-    for reader, (package, _) in READERS.items():
-        if not shutil.which(reader):
-            print(f"manual: skipped: {reader} doesn't read the page, since the Debian package {package} isn't installed")
     return tell("manual", "forms, statuses, commands and limits", list(faults()))
 
 

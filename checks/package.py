@@ -9,7 +9,6 @@ import pathlib
 import pty
 import re
 import select
-import shutil
 import subprocess
 import sys
 import tempfile
@@ -18,6 +17,7 @@ import time
 from install import below, call, works
 from program import PROGRAM, SECONDS, TOP
 from report import tell
+from tools import lacks
 
 DOC = "usr/share/doc/fountain"
 # What ldd tells of a program that needs the C library alone.
@@ -27,12 +27,12 @@ NAMED = re.compile(r"(?<![\w/.-])(?:(?:docs|examples|checks|bench|crates|scripts
 SHOWN = re.compile(r"\]\((?!https:)(.*?)\)")
 IN_REPOSITORY = re.compile(r"\./(?:run|try|check|install|package)\b|<!--")
 MARKS = ("<!-- in the repository -->", "<!-- everywhere -->")
-# How each shell is started so that it finds the completions of the package alone, and the Debian package that has it.
+# How each shell is started so that it finds the completions of the package alone.
 BASH = """. /usr/share/bash-completion/bash_completion 2>/dev/null || for file in "$SHARE"/bash-completion/completions/*; do . "$file"; done"""
 SHELLS = {
-    "bash": ("bash", ["--norc", "--noprofile", "-i"], f"bind 'set bell-style none'; {BASH}"),
-    "zsh": ("zsh", ["-f", "-i"], "fpath=($SHARE/zsh/vendor-completions $fpath); autoload -U compinit; compinit -u -D; unsetopt beep"),
-    "fish": ("fish", ["-i"], "true"),
+    "bash": (["--norc", "--noprofile", "-i"], f"bind 'set bell-style none'; {BASH}"),
+    "zsh": (["-f", "-i"], "fpath=($SHARE/zsh/vendor-completions $fpath); autoload -U compinit; compinit -u -D; unsetopt beep"),
+    "fish": (["-i"], "true"),
 }
 # Stands for each command, and writes down its words; what completions ask of the program it passes on.
 WRITES = """#!/bin/sh
@@ -157,7 +157,7 @@ def runs(package):
 
 
 def lintian(package):
-    if shutil.which("lintian"):
+    if not lacks("package", "nobody looks for errors of the package", "lintian"):
         said = call("lintian", "--allow-root", package.deb, env={**os.environ, "LC_ALL": "C.UTF-8"})
         yield from (line for line in (said.stdout + said.stderr).splitlines() if line.startswith(("E:", "lintian:", "internal error")))
 
@@ -212,7 +212,7 @@ class Terminal:
 
 def completed_by(shell, package):
     """What a shell runs for what is typed, by stand-ins for all commands."""
-    _, words, settle = SHELLS[shell]
+    words, settle = SHELLS[shell]
     home, record = package.folder / shell, package.folder / f"{shell}.record"
     commands = home / "bin"
     commands.mkdir(parents=True)
@@ -241,24 +241,15 @@ def completed_by(shell, package):
 
 def completions(package):
     for shell in SHELLS:
-        if shutil.which(shell):
+        if not lacks("package", f"{shell} completes nothing", shell):
             yield from completed_by(shell, package)
-
-
-def skipped():
-    for name, what in (("lintian", "nobody looks for errors of the package"), *((shell, f"{shell} completes nothing") for shell in SHELLS)):
-        if not shutil.which(name):
-            print(f"package: skipped: {what}, since the Debian package {SHELLS.get(name, [name])[0]} isn't installed")
 
 
 def main():
     if not PROGRAM.exists():
         return tell("package", "nothing was packaged", ["the program isn't built"])
-    for tool, debian in (("dpkg-deb", "dpkg"), ("strip", "binutils")):
-        if not shutil.which(tool):
-            print(f"package: skipped: no package is made, since the Debian package {debian} isn't installed")
-            return 0
-    skipped()
+    if lacks("package", "no package is made", "dpkg-deb", "strip"):
+        return 0
     checks = [versions, fields, sums, modes, compressed, symbols, copyright_of, documents, runs, lintian, completions]
     with tempfile.TemporaryDirectory() as place:
         folder = pathlib.Path(place) / "a folder ü"

@@ -12,12 +12,9 @@ import unicodedata
 
 from program import PROGRAM, TOP, lines_of
 from report import found_by, tell
+from tools import lacks
 
 MAKER = TOP / "scripts/fountain-pdf"
-PACKAGES = {
-    "gs": "ghostscript", "chromium": "chromium", "pdftotext": "poppler-utils", "pdftoppm": "poppler-utils", "pdfinfo": "poppler-utils",
-    "fc-list": "fontconfig",
-}
 # Pixels an inch, and those of a cell, at ten columns and six rows an inch; the first row begins half an inch below the edge.
 INCH = 120
 WIDTH, HEIGHT, TOP_EDGE = INCH // 10, INCH // 6, INCH // 2
@@ -387,7 +384,7 @@ def tools(folder, without_gs, without_chromium):
     ran = call(folder / "script", folder / "out.pdf", path=without(folder, "gs", "chromium", "chromium-browser", "google-chrome", "google-chrome-stable"))
     if not is_refused(ran, "neither gs nor chromium"):
         yield f"without both tools it ends with {ran.returncode}: {ran.stderr.decode()}"
-    if without_gs and shutil.which("fc-list"):
+    if without_gs and not lacks("paper", "no character that no font has is printed", "fc-list"):
         ran = call(folder / "script", folder / "out.pdf", path=without_gs)
         if ran.returncode or ran.stderr.decode() != "fountain-pdf: no font of this machine has U+E123\n":
             yield f"a character that no font has ends with {ran.returncode}: {ran.stderr.decode()}"
@@ -396,12 +393,9 @@ def tools(folder, without_gs, without_chromium):
 def main():
     if not PROGRAM.exists():
         return tell("paper", "no page was made", ["the program isn't built"])
-    missing = [tool for tool in PACKAGES if not shutil.which(tool)]
-    for tool in missing:
-        print(f"paper: skipped: {tool} is missing, of the Debian package {PACKAGES[tool]}")
-    if {"pdftotext", "pdftoppm", "pdfinfo"} & {*missing}:
-        return tell("paper", "no page was looked at", [])
-    faults, ways = [], [tool for tool in ("gs", "chromium") if tool not in missing]
+    if lacks("paper", "no page is looked at", "pdftotext", "pdftoppm", "pdfinfo"):
+        return 0
+    faults, ways = [], [tool for tool in ("gs", "chromium") if not lacks("paper", f"no page is made by {tool}", tool)]
     with tempfile.TemporaryDirectory() as name:
         folder = pathlib.Path(name)
         paths = {tool: without(folder, *({"gs", "chromium"} - {tool})) for tool in ways}

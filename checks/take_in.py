@@ -13,6 +13,7 @@ import time
 from installed import MOST_SECONDS, Place, Scene, differs, digest, ended_anywhere, omitted, refuses, script_of, seconds_of_children, sheet, text_by_rules
 from program import PROGRAM
 from report import faults_by, tell
+from tools import lacks
 
 TAKE_IN = "fountain-take-in"
 MILL = script_of([Scene(f"INT. ROOM {at} - DAY", [f"The lamp in room {at} is lit."]) for at in range(1, 6)])
@@ -355,8 +356,7 @@ def recovery(place):
 
 
 def from_git(place):
-    if not shutil.which("git"):
-        print("take_in: skipped: nothing is looked for in git, since the Debian package git isn't installed")
+    if lacks("take_in", "nothing is looked for in git", "git"):
         return
     who = ["-c", "user.name=a", "-c", "user.email=a@b.invalid"]
     for depth in (0, 2):
