@@ -333,14 +333,17 @@ def sockets(folder):
         if share.end() or share.place.exists():
             yield f"behind a socket that was taken over it ends with {share.process.returncode}"
     (folder / "file").write_text("kept")
+    (folder / "long").write_text("a\n\n" + "b" * 5000)
     (folder / "link").symlink_to("nowhere")
     for words, expected in (
         (("script", "file"), (1, "fountain-share-room: file is there, and is no socket\n")),
         (("script", "link"), (1, "fountain-share-room: link is there, and is no socket\n")),
         (("script", "nowhere/socket"), (1, "fountain-share-room: nowhere/socket: No such file or directory\n")),
         (("script", "x" * 200), (1, f"fountain-share-room: {'x' * 200}: AF_UNIX path too long\n")),
-        (("script",), (2, "fountain-share-room: usage: fountain-share-room FILE SOCKET\n")),
-        (("nothing", "socket"), (3, "fountain: no file nothing\n")),
+        (("script",), (2, "fountain-share-room: usage: fountain-share-room FILE SOCKET (--help tells more)\n")),
+        (("script", ""), (2, "fountain-share-room: a socket wants a name\n")),
+        (("nothing", "socket"), (3, "fountain-share-room: no file nothing\n")),
+        (("long", "socket"), (4, "fountain-share-room: long: line 3 is too long\n")),
     ):
         if (found := ended(folder, *words)) != expected:
             yield f"fountain-share-room {' '.join(words)} ends with {found}"
@@ -360,7 +363,7 @@ def kept_lines(folder):
     room = module.Room(str(folder / "script"))
     edit = {"do": "replace", "first": 0, "count": 0, "lines": ["!b"], "seat": "a", "seen": 0}
     replies = [json.loads(room.reply_to(line)) for line in lines_of(edit, edit, edit, {"do": "save", "seat": "a"}, {"do": "text"}).splitlines(True)]
-    status = room.end()
+    status, _ = room.end()
     if ["ok" in reply for reply in replies] != [True, True, False, True, True] or replies[2] != {"no": "InputFull"} or status:
         yield f"with two lines left, and then saves alone, it tells {replies}"
     if (folder / "script").read_text() != "!b\n!b\n!a\n":

@@ -7,6 +7,7 @@ import json
 import os
 import pathlib
 import re
+import shlex
 import shutil
 import signal
 import subprocess
@@ -29,16 +30,16 @@ def stop(why, status=1):
     sys.exit(status)
 
 
-def end_on_signals():
-    """Ends where it is interrupted as where it stops, so that nothing is left behind. Signals that are ignored, as by nohup, stay so."""
+def on_signals(handler):
+    """Has a handler take the signals that end a script. Those that are ignored, as by nohup, stay so."""
     for number in (signal.SIGINT, signal.SIGTERM, signal.SIGHUP):
         if signal.getsignal(number) != signal.SIG_IGN:
-            signal.signal(number, lambda number, _: sys.exit(128 + number))
+            signal.signal(number, handler)
 
 
 def run(main):
-    """Calls a script's main with its words, and ends as it says."""
-    end_on_signals()
+    """Calls a script's main with its words, and ends as it says. Interrupted it ends as where it stops, so that nothing is left behind."""
+    on_signals(lambda number, _: sys.exit(128 + number))
     try:
         # UTF-8, as the program writes.
         sys.stdout.reconfigure(encoding="utf-8")
@@ -131,11 +132,22 @@ def fault_of(errors):
     return re.sub(r"^line (\d+) ", lambda found: f"line {int(found[1]) + 1} ", said_by(errors))
 
 
-def output_of(*words, status=1, **how):
-    """What the program writes; where it refuses, its line is told, with lines counted from 1."""
+def refusal_of(name, status, errors):
+    """Why the program ended over a script, in words for people."""
+    said = fault_of(errors)
+    if status == 8:
+        what = f"{name} was changed by another program since it was saved"
+        if said.startswith("bad records"):
+            what = f"{name}.desk is no record file ({said.removeprefix('bad records, ')})"
+        return f"{what}; fountain-take-in --recover {shlex.quote(str(name))} mends that"
+    return said if status == 3 else f"{name}: {said or 'the program ended'}"
+
+
+def output_of(*words, told="fountain", **how):
+    """What the program writes; where it refuses, that is told of a name."""
     ran = subprocess.run([find_program(2), *words], capture_output=True, **how)
     if ran.returncode:
-        stop(fault_of(ran.stderr) or f"fountain ends with {ran.returncode}", status)
+        stop(refusal_of(told, ran.returncode, ran.stderr))
     return ran.stdout
 
 
@@ -158,7 +170,8 @@ def round_name(number):
 def read(path):
     """The bytes of a file; none where there is no such file."""
     try:
-        return pathlib.Path(path).read_bytes()
+        with open(path, "rb") as file:
+            return file.read()
     except FileNotFoundError:
         return None
 
@@ -173,8 +186,8 @@ def read_input(name, status=1):
 
 
 def file_of(name, work, status=1):
-    """A script by its name; for `-` a file in a folder, with what standard input has."""
-    if name != "-":
+    """A script by its name; for standard input and pipes, which can be read but once, a file in a folder with what they have."""
+    if name != "-" and not name.startswith("/dev/") and not pathlib.Path(name).is_fifo():
         return name
     file = work / "script"
     file.write_bytes(read_input(name, status))
