@@ -9,7 +9,7 @@ import subprocess
 import tempfile
 import unicodedata
 
-from fountain_common import say, stop
+from fountain_common import read, say, stop
 from fountain_sheets import clusters_of, sheet_of, widths_of
 
 # Of each paper its name, how wide and high it is, in points too, its columns, and the rows below a header.
@@ -59,8 +59,8 @@ u span { text-decoration: underline }
 """
 
 
-def run_tool(*words):
-    ran = subprocess.run(words, capture_output=True, env={**os.environ, "LC_ALL": "C.UTF-8"})
+def run_tool(*words, **how):
+    ran = subprocess.run(words, capture_output=True, env={**os.environ, "LC_ALL": "C.UTF-8"}, **how)
     if ran.returncode:
         stop(f"{words[0]} fails: {(ran.stderr.decode(errors='replace').splitlines() or ['it tells nothing'])[-1]}")
     return ran.stdout
@@ -141,7 +141,8 @@ def print_by_ghostscript(sheets, tints, widths, title, paper, work):
             lines += typeset(row, height - 45 - 12 * at, widths)
         lines.append("showpage")
     (work / "sheets.ps").write_text("\n".join(lines) + "\n")
-    run_tool("gs", "-q", "-dBATCH", "-dNOPAUSE", "-sDEVICE=pdfwrite", f"-sOutputFile={work / 'pdf'}", work / "sheets.ps")
+    # In the folder itself, since a % in the name of a file stands for a page.
+    run_tool("gs", "-q", "-dBATCH", "-dNOPAUSE", "-sDEVICE=pdfwrite", "-sOutputFile=pdf", "sheets.ps", cwd=work)
 
 
 def typeset(row, height, widths):
@@ -175,6 +176,9 @@ def print_by_browser(browser, sheets, tints, widths, title, paper, work):
     how = ["--headless", "--no-sandbox", "--disable-gpu", "--no-first-run", "--no-pdf-header-footer", f"--print-to-pdf={work / 'pdf'}"]
     with tempfile.TemporaryDirectory(prefix="fountain-pdf.", ignore_cleanup_errors=True) as profile:
         run_tool(browser, *how, f"--user-data-dir={profile}", work / "page.html")
+    # It ends so on a full disk too.
+    if not (read(work / "pdf") or b"").endswith(b"%%EOF\n"):
+        stop(f"{browser} wrote no whole PDF, as where a disk is full")
 
 
 def boxed(markup, widths):
