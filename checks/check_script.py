@@ -181,20 +181,21 @@ def refusals(folder):
 
 
 def editors(folder):
-    """What vim and Emacs make of the lines, where they are installed."""
-    (folder / "script").write_text("Rain.\n\nANNA\n(softly\nHello.\n")
-    (folder / "told").write_text(told("script", place=folder)[1])
+    """What vim and Emacs make of the lines, where they are installed, also of names with blanks."""
     asked = {"vim": ["-Nu", "NONE", "-es", "-c", "cgetfile told", "-c", "redir! > seen", "-c", "silent clist", "-c", "redir END", "-c", "qa!"]}
-    asked["emacs"] = ["--batch", "--eval", EMACS]
+    asked["emacs"] = ["--batch", "--load", TOP / "examples/editors/fountain.el", "--eval", EMACS]
     for editor, words in asked.items():
         if not shutil.which(editor):
             print(f"check_script: skipped: {editor} reads no lines, since the Debian package {PACKAGES[editor]} isn't installed")
             continue
-        (folder / "seen").unlink(missing_ok=True)
-        subprocess.run([editor, *words], cwd=folder, capture_output=True, timeout=SECONDS)
-        seen = (folder / "seen").read_text().split() if (folder / "seen").exists() else []
-        if seen[:2] not in (["1", "script:4:"], ["script", "4"]):
-            yield f"{editor} sees {seen}"
+        for name in ("script", "the mill - draft 2.fountain", "a:3 (b).fountain"):
+            (folder / name).write_text("Rain.\n\nANNA\n(softly\nHello.\n")
+            (folder / "told").write_text(told(name, place=folder)[1])
+            (folder / "seen").unlink(missing_ok=True)
+            subprocess.run([editor, *words], cwd=folder, capture_output=True, timeout=SECONDS)
+            seen = (folder / "seen").read_text().strip() if (folder / "seen").exists() else ""
+            if not seen.startswith(f"1 {name}:4:") and seen != f"{name} 4":
+                yield f"{editor} sees {seen!r} of {name}"
 
 
 def large(folder):

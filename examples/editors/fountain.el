@@ -103,6 +103,11 @@
     (remove-hook 'post-command-hook #'fountain-sheet--follow t)
     (kill-local-variable 'compile-command)))
 
+;; Emacs itself takes no names with " -" in them.
+(with-eval-after-load 'compile
+  (add-to-list 'compilation-error-regexp-alist-alist '(fountain "^\\(.+?\\.fountain\\):\\([1-9][0-9]*\\): " 1 2 nil 1))
+  (add-to-list 'compilation-error-regexp-alist 'fountain))
+
 (defun fountain-sheet--find-file ()
   (when (string-suffix-p ".fountain" buffer-file-name)
     (fountain-sheet-mode 1)))
