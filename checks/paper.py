@@ -379,8 +379,8 @@ def refusals(way):
     before = {it.name: it.is_file() and it.read_bytes() for it in folder.iterdir()}
     out = folder / "old.pdf"
     for words, why in (
-        ((), "usage"), ((folder / "script",), "usage"), ((folder / "script", out, out), "usage"), (("--a5", folder / "script", out), "--a5"),
-        ((folder / "script", "-"), "usage"),
+        ((), "usage"), ((folder / "script",), "usage"), ((folder / "script", out, out), "usage"), (("--a5", folder / "script", out), "usage"),
+        ((folder / "script", "-"), "wants a name"), ((folder / "script", ""), "wants a name"),
         ((folder / "nobody", out), "no file"), ((folder / "folder", out), ""), ((folder / "latin", out), "UTF-8"),
         ((folder / "script", folder / "latin"), "is no PDF"), ((folder / "script", folder / "script"), "is no PDF"),
         ((folder / "script", folder / "folder"), "is no PDF"), ((folder / "script", folder / "pipe"), "is no PDF"),

@@ -37,22 +37,23 @@ def on_signals(handler):
             signal.signal(number, handler)
 
 
-def run(main):
-    """Calls a script's main with its words, and ends as it says. Interrupted it ends as where it stops, so that nothing is left behind."""
+def run(main, status=1):
+    """Calls a script's main with its words, and ends as it says; by this status where a file fails. Interrupted it ends as where it stops,
+    so that nothing is left behind."""
     on_signals(lambda number, _: sys.exit(128 + number))
     try:
         # UTF-8, as the program writes.
         sys.stdout.reconfigure(encoding="utf-8")
         sys.stderr.reconfigure(encoding="utf-8", errors="backslashreplace")
-        status = main(sys.argv[1:])
+        ended = main(sys.argv[1:])
         sys.stdout.flush()
-        sys.exit(status)
+        sys.exit(ended)
     except BrokenPipeError:
         # Nobody reads what is told; what was done is done.
         close_output()
-        sys.exit(1)
+        sys.exit(status)
     except OSError as fault:
-        stop(f"{fault.filename or 'standard output'}: {fault.strerror}")
+        stop(f"{fault.filename or 'standard output'}: {fault.strerror}", status)
 
 
 def close_output():
@@ -84,9 +85,14 @@ def is_utf8(word):
         return False
 
 
+def is_option(word):
+    return word.startswith("-") and word != "-"
+
+
 def parse(about, words, count):
-    """The options of a script, each with its value, and its other words, of which there are as many as `count` says for these options.
-    Tells what a script does where it is asked for help, and its usage where its words are none. `about` begins with the usage."""
+    """The options of a script, each with its value, and its other words, of which there are as many as `count` says for these options;
+    `-` is such a word. Tells what a script does where it is asked for help, and its usage where its words are none. `about` begins with the
+    usage."""
     if "--help" in words:
         print(about)
         sys.exit()
@@ -97,13 +103,11 @@ def parse(about, words, count):
     options, others = {}, []
     for word in words:
         name, sign, value = word.partition("=")
-        if word.startswith("-") and known.get(name) != sign:
-            stop(f"usage: {usage} (--help tells more)", 2)
-        if word.startswith("-"):
+        if known.get(name) == sign:
             options[name] = value
         else:
             others.append(word)
-    if len(others) != count(options):
+    if len(others) != count(options) or any(map(is_option, others)):
         stop(f"usage: {usage} (--help tells more)", 2)
     return options, others
 
