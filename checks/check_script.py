@@ -3,6 +3,7 @@ random scripts against the program: numbers that can't be locked, boneyards that
 can't be read."""
 
 import json
+import os
 import pathlib
 import random
 import re
@@ -100,9 +101,16 @@ def whole_scripts(folder):
             yield f"{script.name} ends with {status}: {out}"
         if (folder / script.name).read_bytes() != script.read_bytes():
             yield f"{script.name} is changed"
-    status, out, _ = told(folder / "the-mill.fountain", "-", given=b"ANNA\n(softly\nHello.\n")
+    slip = b"ANNA\n(softly\nHello.\n"
+    status, out, _ = told(folder / "the-mill.fountain", "-", given=slip)
     if status != 1 or not out.startswith("-:2: "):
         yield f"two scripts end with {status}: {out}"
+    (folder / "slip").write_bytes(slip)
+    os.mkfifo(folder / "pipe")
+    with subprocess.Popen(["sh", "-c", 'cat "$1" >"$2"', "sh", folder / "slip", folder / "pipe"]):
+        status, out, said = told(folder / "pipe")
+    if status != 1 or not out.startswith(f"{folder / 'pipe'}:2: "):
+        yield f"a pipe, which is read but once, ends with {status}: {out} {said}"
 
 
 def records(folder):

@@ -189,12 +189,12 @@ def read_input(name, status=1):
     return data if data is not None else stop(f"no file {name}", status)
 
 
-def file_of(name, work, status=1):
+def file_of(name, work):
     """A script by its name; for standard input and pipes, which can be read but once, a file in a folder with what they have."""
     if name != "-" and not name.startswith("/dev/") and not pathlib.Path(name).is_fifo():
         return name
     file = work / "script"
-    file.write_bytes(read_input(name, status))
+    file.write_bytes(read_input(name))
     return file
 
 
