@@ -112,9 +112,9 @@ def soon(is_so):
 class Terminal:
     """A program in a terminal of tmux, with keys that are pressed and what is seen."""
 
-    def __init__(self, folder, *words):
+    def __init__(self, folder, *words, kind="screen"):
         self.tmux = ["tmux", "-S", tempfile.mktemp(prefix="tmux", dir=folder), "-f", "/dev/null"]
-        environment = {"PATH": f"{folder / 'bin'}:{scripts_in(folder)}:{os.environ['PATH']}", "LC_ALL": "C.UTF-8", "HOME": str(folder), "TERM": "screen"}
+        environment = {"PATH": f"{folder / 'bin'}:{scripts_in(folder)}:{os.environ['PATH']}", "LC_ALL": "C.UTF-8", "HOME": str(folder), "TERM": kind}
         command = shlex.join(["env", *(f"{name}={value}" for name, value in environment.items()), *map(str, words)])
         self.call("new-session", "-d", "-x", str(WIDTH), "-y", str(HEIGHT), "-c", str(folder), command)
         if not self.call("list-sessions"):
@@ -285,6 +285,10 @@ def watching(folder):
         terminal.press("q")
         if not terminal.is_gone():
             yield "q doesn't end it"
+    records.unlink()
+    with Terminal(folder, "fountain-watch-sheets", "s.fountain", kind="vt220") as terminal:
+        if not terminal.sees("s.fountain: no sheet"):
+            yield f"in a terminal without colours there isn't what it shows but {''.join(terminal.rows())[:300]!r}"
 
 
 def watching_beside(folder):

@@ -162,7 +162,9 @@ def is_open(place):
 
 
 def begin(folder, *words):
-    return subprocess.Popen([scripts_in(folder) / "fountain-share-room", *words], cwd=folder, stderr=subprocess.PIPE, text=True)
+    # Where a shell began this beside others interrupts are ignored, and would be by the relay too.
+    how = {"stderr": subprocess.PIPE, "text": True, "preexec_fn": lambda: signal.signal(signal.SIGINT, signal.SIG_DFL)}
+    return subprocess.Popen([scripts_in(folder) / "fountain-share-room", *words], cwd=folder, **how)
 
 
 def at_once(*writers):
@@ -351,6 +353,18 @@ def sockets(folder):
         yield "a relay that refuses to begin leaves other files than it found"
 
 
+def signals(folder):
+    """Interrupted, ended, or left by its terminal it takes its socket away and leaves the script as it was saved."""
+    for number in (signal.SIGINT, signal.SIGTERM, signal.SIGHUP):
+        with Share(folder) as share:
+            before = share.script.read_bytes()
+            share.seat().ask({"do": "replace", "first": 0, "count": 1, "lines": ["lost"], "seen": 0})
+            share.process.send_signal(number)
+            _, said = share.process.communicate(timeout=SECONDS)
+            if share.process.returncode or said or share.place.exists() or share.script.read_bytes() != before:
+                yield f"by signal {number} it ends with {share.process.returncode} and tells {said!r}"
+
+
 def kept_lines(folder):
     """The last lines that a room takes are kept for saves."""
     scripts = str(scripts_in(folder))
@@ -373,7 +387,7 @@ def kept_lines(folder):
 def main():
     if not PROGRAM.exists():
         return tell("room", "no room was shared", ["the program isn't built"])
-    checks = (two_writers, three_writers, told_changes, bad_writers, sockets, kept_lines)
+    checks = (two_writers, three_writers, told_changes, bad_writers, sockets, signals, kept_lines)
     return tell("room", f"two and three writers with {EDITS} edits each, and {len(checks) - 2} checks more", faults_by(checks))
 
 
