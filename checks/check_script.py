@@ -181,8 +181,8 @@ def unreadable(folder):
 def refusals(folder):
     (folder / "folder").mkdir()
     for words, why in (
-        (["nobody"], "no file nobody"), ([folder / "folder"], "folder: Is a directory"), ([], "usage"), (["--what"], "usage"), ([""], "no file"),
-        (["caf\udce9"], "isn't UTF-8"),
+        (["nobody"], "no file nobody"), ([folder / "folder"], "folder: Is a directory"), ([], "usage"), (["--what"], "usage"),
+        ([""], "no file"), (["caf\udce9"], "isn't UTF-8"),
     ):
         status, out, said = told(*words)
         if status != 2 or out or not said.startswith("fountain-check-script: ") or said.count("\n") != 1 or why not in said:

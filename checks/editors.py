@@ -114,7 +114,8 @@ class Terminal:
 
     def __init__(self, folder, *words, kind="screen"):
         self.tmux = ["tmux", "-S", tempfile.mktemp(prefix="tmux", dir=folder), "-f", "/dev/null"]
-        environment = {"PATH": f"{folder / 'bin'}:{scripts_in(folder)}:{os.environ['PATH']}", "LC_ALL": "C.UTF-8", "HOME": str(folder), "TERM": kind}
+        path = f"{folder / 'bin'}:{scripts_in(folder)}:{os.environ['PATH']}"
+        environment = {"PATH": path, "LC_ALL": "C.UTF-8", "HOME": str(folder), "TERM": kind}
         command = shlex.join(["env", *(f"{name}={value}" for name, value in environment.items()), *map(str, words)])
         self.call("new-session", "-d", "-x", str(WIDTH), "-y", str(HEIGHT), "-c", str(folder), command)
         if not self.call("list-sessions"):
@@ -308,7 +309,8 @@ def watching_beside(folder):
     status = watch.wait(SECONDS)
     watch.stdout.close()
     watch.stderr.close()
-    if told != sheets[0] + b"\f" + sheets[2].replace(b"Word 61", b"Word 161") + b"\f" or fault != b"fountain-watch-sheets: no file s.fountain\n" or status:
+    shown = sheets[0] + b"\f" + sheets[2].replace(b"Word 61", b"Word 161") + b"\f"
+    if told != shown or fault != b"fountain-watch-sheets: no file s.fountain\n" or status:
         yield f"beside a terminal it writes {told}, tells {fault} and ends with {status}"
 
 
@@ -338,14 +340,14 @@ def words(folder):
                 yield f"{name} {wrong} ends with {ran.returncode} and tells {ran.stdout!r} {ran.stderr!r}"
     (folder / "empty").touch()
     (folder / "long").write_text("a\n\n" + "b" * 5000)
-    (folder / "changed").touch()
-    (folder / "changed.desk").write_text("{}")
+    (folder / "none").touch()
+    (folder / "none.desk").write_text("{}")
     for wrong, status, said in (
         (("empty", "1"), 1, "fountain-sheet-at: no sheet shows a line of empty\n"),
         (("nothing", "1"), 3, "fountain-sheet-at: no file nothing\n"),
         (("long", "1"), 4, "fountain-sheet-at: long: line 3 is too long\n"),
         ((".", "1"), 7, "fountain-sheet-at: .: a file failed\n"),
-        (("changed", "1"), 8, "fountain-sheet-at: changed.desk is no record file (rule 2); fountain-take-in --recover changed mends that\n"),
+        (("none", "1"), 8, "fountain-sheet-at: none.desk is no record file (rule 2); fountain-take-in --recover none mends that\n"),
         (("caf\udce9", "1"), 2, "fountain-sheet-at: a word isn't UTF-8\n"),
         (("empty", "0"), 2, "fountain-sheet-at: 0 is no line: lines count from 1\n"),
         (("empty", "²"), 2, "fountain-sheet-at: ² is no line: lines count from 1\n"),

@@ -337,7 +337,9 @@ def names(way):
     os.mkfifo(pipe)
     (folder / "link.pdf").symlink_to("behind.pdf")
     sheets = sheets_of("print", script)
-    for words, given, made in ((("-", pdf), text, pdf), ((script, pdf), b"", pdf), ((script, folder / "link.pdf"), b"", folder / "behind.pdf")):
+    for words, given, made in (
+        (("-", pdf), text, pdf), ((script, pdf), b"", pdf), ((script, folder / "link.pdf"), b"", folder / "behind.pdf"),
+    ):
         ran = way.call(*words, given=given)
         if ran.returncode or ran.stderr:
             yield f"{[str(it) for it in words]} end with {ran.returncode}: {ran.stderr.decode()}"
@@ -347,8 +349,9 @@ def names(way):
         ran = way.call(pipe, pdf)
     if ran.returncode or len(Pages(pdf).texts) != len(sheets):
         yield f"a pipe ends with {ran.returncode}: {ran.stderr.decode()}"
-    if sorted(it.name for it in folder.iterdir()) != ["%d out.pdf", "a script", "behind.pdf", "link.pdf", "pipe"] or not (folder / "link.pdf").is_symlink():
-        yield f"the folder has {sorted(it.name for it in folder.iterdir())}"
+    names = sorted(it.name for it in folder.iterdir())
+    if names != ["%d out.pdf", "a script", "behind.pdf", "link.pdf", "pipe"] or not (folder / "link.pdf").is_symlink():
+        yield f"the folder has {names}"
 
 
 def sizes(way):
@@ -379,12 +382,14 @@ def refusals(way):
     before = {it.name: it.is_file() and it.read_bytes() for it in folder.iterdir()}
     out = folder / "old.pdf"
     for words, why in (
-        ((), "usage"), ((folder / "script",), "usage"), ((folder / "script", out, out), "usage"), (("--a5", folder / "script", out), "usage"),
+        ((), "usage"), ((folder / "script",), "usage"), ((folder / "script", out, out), "usage"),
+        (("--a5", folder / "script", out), "usage"),
         ((folder / "script", "-"), "wants a name"), ((folder / "script", ""), "wants a name"),
         ((folder / "nobody", out), "no file"), ((folder / "folder", out), ""), ((folder / "latin", out), "UTF-8"),
         ((folder / "script", folder / "latin"), "is no PDF"), ((folder / "script", folder / "script"), "is no PDF"),
         ((folder / "script", folder / "folder"), "is no PDF"), ((folder / "script", folder / "pipe"), "is no PDF"),
-        ((folder / "script", "/dev/null"), "is no PDF"), ((folder / "long", out), "long: line 3 is too long"), (("", out), "no file"), ((folder / "script", folder / "nowhere/out.pdf"), "folder"),
+        ((folder / "script", "/dev/null"), "is no PDF"), ((folder / "long", out), "long: line 3 is too long"), (("", out), "no file"),
+        ((folder / "script", folder / "nowhere/out.pdf"), "folder"),
         (("--sheets", folder / "script", out), "no file of sheets"), (("--sheets", folder / "latin", out), "no file of sheets"),
         (("--sheets", folder / "high", out), "sheet 1 has 55 rows below its header, and Letter has 54: --a4 has 58"),
         (("--a4", "--sheets", folder / "higher", out), "sheet 1 has 59 rows below its header, and A4 has 58"),

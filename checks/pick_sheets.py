@@ -208,8 +208,9 @@ def refusals(folder):
     (folder / "long").write_text("a\n\n" + "b" * 5000)
     digits = "9" * 5000
     for words, why in (
-        ([folder / "long", "1"], "long: line 3 is too long"), ([folder, "1"], f"{folder}: a file failed"), (["caf\udce9", "1"], "isn't UTF-8"),
-        ([file, digits], "no label"), ([file, f"1({digits})"], "no label"), ([file, "4000000001"], "no label"), ([file, "1(16777217)"], "no label"),
+        ([folder / "long", "1"], "long: line 3 is too long"), ([folder, "1"], f"{folder}: a file failed"),
+        (["caf\udce9", "1"], "isn't UTF-8"), ([file, digits], "no label"), ([file, f"1({digits})"], "no label"),
+        ([file, "4000000001"], "no label"), ([file, "1(16777217)"], "no label"),
         ([file, "4000000000(16777216)"], "no sheet 4000000000(16777216)"), ([file, "--scene", digits], "no scene"),
         ([], "usage"), ([file], "usage"), ([file, "--scene"], "--scene"), (["--what", file, "1"], "--what"), ([file, "5"], "no sheet 5"),
         ([file, "1", "2A"], "no sheet 2A"), ([file, "3-2"], "sheet 3 comes behind 2"), ([file, "2-9"], "no sheet 9"), ([file, "title"], "no title sheet"),
