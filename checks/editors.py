@@ -246,6 +246,17 @@ def emacs(folder):
         yield from steps(terminal, "emacs", (("C-e", "!", "C-x", "C-s"), sheet(3, r"61\.!!")))
 
 
+def emacs_alone(folder):
+    """What Emacs shows without fountain-sheet-at, and how many buffers it keeps of it."""
+    (folder / "s.fountain").write_text("Rain.\n")
+    code = f"""(progn (load "{TOP}/examples/editors/fountain.el" nil t) (setq exec-path nil) (find-file "s.fountain")
+    (fountain-sheet-show) (fountain-sheet-show) (princ (with-current-buffer fountain-sheet-buffer (buffer-string)))
+    (princ (length (seq-filter (lambda (it) (string-prefix-p " *fountain" (buffer-name it))) (buffer-list)))))"""
+    ran = subprocess.run(["emacs", "--batch", "--eval", code], cwd=folder, capture_output=True, text=True, timeout=SECONDS)
+    if ran.stdout != "Searching for program: No such file or directory, fountain-sheet-at0":
+        yield f"without fountain-sheet-at emacs shows {ran.stdout!r} {ran.stderr!r}"
+
+
 def read_to(stream, end):
     """The bytes of a stream up to an end."""
     told = b""
@@ -368,6 +379,7 @@ CHECKS = {
     sheet_of_lines: {},
     vim: {"tmux": "tmux", "vim": "vim"},
     emacs: {"tmux": "tmux", "emacs": "emacs-nox"},
+    emacs_alone: {"emacs": "emacs-nox"},
     watching: {"tmux": "tmux"},
     watching_beside: {},
     matched: {"node": "nodejs"},

@@ -52,14 +52,17 @@
 
 (defun fountain-sheet--begin ()
   (let ((place fountain-sheet--place)
+        (told (generate-new-buffer " *fountain-sheet-at*"))
         (coding-system-for-read 'utf-8-unix)
         (default-directory (file-name-directory (car fountain-sheet--place))))
     (condition-case fault
         (setq fountain-sheet--process
-              (make-process :name "fountain-sheet-at" :buffer (generate-new-buffer " *fountain-sheet-at*") :noquery t :connection-type 'pipe
+              (make-process :name "fountain-sheet-at" :buffer told :noquery t :connection-type 'pipe
                             :command (list "fountain-sheet-at" "--json" (car place) (cadr place))
                             :sentinel (lambda (process _) (fountain-sheet--end process place))))
-      (file-missing (fountain-sheet--tell (list (error-message-string fault)) nil)))))
+      (file-missing
+       (kill-buffer told)
+       (fountain-sheet--tell (list (error-message-string fault)) nil)))))
 
 (defun fountain-sheet--end (process place)
   (unless (process-live-p process)
