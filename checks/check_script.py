@@ -7,6 +7,7 @@ import os
 import pathlib
 import random
 import re
+import resource
 import shutil
 import subprocess
 import sys
@@ -187,6 +188,12 @@ def refusals(folder):
         status, out, said = told(*words)
         if status != 2 or out or not said.startswith("fountain-check-script: ") or said.count("\n") != 1 or why not in said:
             yield f"{[str(it) for it in words]} ends with {status}: {said!r}"
+    (folder / "script").write_text("Rain.\n")
+    # No more than tempfile writes to try a folder.
+    limit = resource.RLIMIT_FSIZE, (4, 4)
+    ran = subprocess.run([CHECKER, folder / "script"], capture_output=True, preexec_fn=lambda: resource.setrlimit(*limit))
+    if (ran.returncode, ran.stdout, ran.stderr) != (2, b"", b"fountain-check-script: File too large\n"):
+        yield f"with no room for a copy it ends with {ran.returncode}: {ran.stderr}"
     if told("--help")[0] or not told("--help")[1].startswith("fountain-check-script FILE ..:"):
         yield "--help tells something else"
 

@@ -53,7 +53,7 @@ def run(main, status=1):
         close_output()
         sys.exit(status)
     except OSError as fault:
-        stop(f"{fault.filename or 'standard output'}: {fault.strerror}", status)
+        stop(f"{fault.filename}: {fault.strerror}" if fault.filename else fault.strerror, status)
 
 
 def close_output():
