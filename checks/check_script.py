@@ -3,9 +3,11 @@ random scripts against the program: numbers that can't be locked, boneyards that
 can't be read."""
 
 import json
+import os
 import pathlib
 import random
 import re
+import resource
 import shutil
 import subprocess
 import sys
@@ -100,9 +102,16 @@ def whole_scripts(folder):
             yield f"{script.name} ends with {status}: {out}"
         if (folder / script.name).read_bytes() != script.read_bytes():
             yield f"{script.name} is changed"
-    status, out, _ = told(folder / "the-mill.fountain", "-", given=b"ANNA\n(softly\nHello.\n")
+    slip = b"ANNA\n(softly\nHello.\n"
+    status, out, _ = told(folder / "the-mill.fountain", "-", given=slip)
     if status != 1 or not out.startswith("-:2: "):
         yield f"two scripts end with {status}: {out}"
+    (folder / "slip").write_bytes(slip)
+    os.mkfifo(folder / "pipe")
+    with subprocess.Popen(["sh", "-c", 'cat "$1" >"$2"', "sh", folder / "slip", folder / "pipe"]):
+        status, out, said = told(folder / "pipe")
+    if status != 1 or not out.startswith(f"{folder / 'pipe'}:2: "):
+        yield f"a pipe, which is read but once, ends with {status}: {out} {said}"
 
 
 def records(folder):
@@ -172,28 +181,38 @@ def unreadable(folder):
 
 def refusals(folder):
     (folder / "folder").mkdir()
-    for words, why in ((["nobody"], "no file nobody"), ([folder / "folder"], ""), ([], "usage"), (["--what"], "usage")):
+    for words, why in (
+        (["nobody"], "no file nobody"), ([folder / "folder"], "folder: Is a directory"), ([], "usage"), (["--what"], "usage"),
+        ([""], "no file"), (["caf\udce9"], "isn't UTF-8"),
+    ):
         status, out, said = told(*words)
         if status != 2 or out or not said.startswith("fountain-check-script: ") or said.count("\n") != 1 or why not in said:
             yield f"{[str(it) for it in words]} ends with {status}: {said!r}"
+    (folder / "script").write_text("Rain.\n")
+    # No more than tempfile writes to try a folder.
+    limit = resource.RLIMIT_FSIZE, (4, 4)
+    ran = subprocess.run([CHECKER, folder / "script"], capture_output=True, preexec_fn=lambda: resource.setrlimit(*limit))
+    if (ran.returncode, ran.stdout, ran.stderr) != (2, b"", b"fountain-check-script: File too large\n"):
+        yield f"with no room for a copy it ends with {ran.returncode}: {ran.stderr}"
     if told("--help")[0] or not told("--help")[1].startswith("fountain-check-script FILE ..:"):
         yield "--help tells something else"
 
 
 def editors(folder):
-    """What vim and Emacs make of the lines, where they are installed."""
-    (folder / "script").write_text("Rain.\n\nANNA\n(softly\nHello.\n")
-    (folder / "told").write_text(told("script", place=folder)[1])
+    """What vim and Emacs make of the lines, where they are installed, also of names with blanks."""
     asked = {"vim": ["-Nu", "NONE", "-es", "-c", "cgetfile told", "-c", "redir! > seen", "-c", "silent clist", "-c", "redir END", "-c", "qa!"]}
-    asked["emacs"] = ["--batch", "--eval", EMACS]
+    asked["emacs"] = ["--batch", "--load", TOP / "examples/editors/fountain.el", "--eval", EMACS]
     for editor, words in asked.items():
         if lacks("check_script", f"{editor} reads no lines", editor):
             continue
-        (folder / "seen").unlink(missing_ok=True)
-        subprocess.run([editor, *words], cwd=folder, capture_output=True, timeout=SECONDS)
-        seen = (folder / "seen").read_text().split() if (folder / "seen").exists() else []
-        if seen[:2] not in (["1", "script:4:"], ["script", "4"]):
-            yield f"{editor} sees {seen}"
+        for name in ("script", "the mill - draft 2.fountain", "a:3 (b).fountain"):
+            (folder / name).write_text("Rain.\n\nANNA\n(softly\nHello.\n")
+            (folder / "told").write_text(told(name, place=folder)[1])
+            (folder / "seen").unlink(missing_ok=True)
+            subprocess.run([editor, *words], cwd=folder, capture_output=True, timeout=SECONDS)
+            seen = (folder / "seen").read_text().strip() if (folder / "seen").exists() else ""
+            if not seen.startswith(f"1 {name}:4:") and seen != f"{name} 4":
+                yield f"{editor} sees {seen!r} of {name}"
 
 
 def large(folder):

@@ -105,6 +105,16 @@ def unread(folder):
                 yield f"{client} ends with {ran.returncode} and {ran.stderr} over {name}"
 
 
+def without_program(folder):
+    (folder / "bin/fountain").unlink()
+    (folder / "script").touch()
+    for client in present():
+        words = [shutil.which(CLIENTS[client]), folder / PLACE / client, "script", "copy"]
+        ran = subprocess.run(words, cwd=folder, env={**os.environ, "PATH": str(folder)}, input=lines_of(SAVE), capture_output=True)
+        if (ran.returncode, ran.stdout, ran.stderr.decode()) != (1, b"", f"{client}: fountain isn't on the path\n"):
+            yield f"{client} ends with {ran.returncode} and {ran.stderr} where there is no program"
+
+
 def ended(folder):
     """A command line that is too long ends the session; the text is kept as far as it came."""
     long = b'{"do":"undo"' + b" " * 1048576 + b"}"
@@ -133,7 +143,7 @@ def main():
     if not PROGRAM.exists():
         return tell("clients", "none was run", ["the program isn't built"])
     lacks("clients", "fountain_client.js isn't run", "node")
-    faults = faults_by((sessions, refused, unread, ended), place_of)
+    faults = faults_by((sessions, refused, unread, ended, without_program), place_of)
     return tell("clients", f"{len(present())} clients with {SESSIONS} sessions of {COMMANDS} commands each", faults)
 
 

@@ -27,6 +27,8 @@ ASKED = 10
 # The lines of a title page, which no other line is put before.
 TITLE = 5
 WIDTH, HEIGHT = 170, 70
+# What stands beside a script whose records are none.
+REFUSED = r"fountain-sheet-at: .*s\.fountain\.desk is no record.*mends that"
 
 
 def shown(rng, at, form):
@@ -111,9 +113,10 @@ def soon(is_so):
 class Terminal:
     """A program in a terminal of tmux, with keys that are pressed and what is seen."""
 
-    def __init__(self, folder, *words):
+    def __init__(self, folder, *words, kind="screen"):
         self.tmux = ["tmux", "-S", tempfile.mktemp(prefix="tmux", dir=folder), "-f", "/dev/null"]
-        environment = {"PATH": f"{folder / 'bin'}:{scripts_in(folder)}:{os.environ['PATH']}", "LC_ALL": "C.UTF-8", "HOME": str(folder), "TERM": "screen"}
+        path = f"{folder / 'bin'}:{scripts_in(folder)}:{os.environ['PATH']}"
+        environment = {"PATH": path, "LC_ALL": "C.UTF-8", "HOME": str(folder), "TERM": kind}
         command = shlex.join(["env", *(f"{name}={value}" for name, value in environment.items()), *map(str, words)])
         self.call("new-session", "-d", "-x", str(WIDTH), "-y", str(HEIGHT), "-c", str(folder), command)
         if not self.call("list-sessions"):
@@ -192,8 +195,14 @@ def vim(folder):
             (("1", "0", "G"), sheet(1, 5)),
             ((":silent make", "Enter", "C-l"), sheet(3, 61)),
         )
+        yield from steps(
+            terminal, "vim",
+            ((":81", "Enter", "5000Ax", "Escape", ":w", "Enter"), "fountain-sheet-at: .*s.fountain: line 81 is too long"),
+            (("u", ":w", "Enter"), sheet(2, r"41\. Changed")),
+            ((":121", "Enter"), sheet(3, 61)),
+        )
         records.write_text("{}")
-        yield from steps(terminal, "vim", ((":w", "Enter"), "\n *fountain: bad records, rule 2\n"))
+        yield from steps(terminal, "vim", ((":w", "Enter"), REFUSED))
         records.unlink()
         yield from steps(terminal, "vim", ((":w", "Enter"), sheet(3, 61)), ((":tab split", "Enter", ":FountainSheet", "Enter", "G"), sheet(4, 100)))
         terminal.press(":tabclose", "Enter")
@@ -226,11 +235,27 @@ def emacs(folder):
         terminal.press("M-x", "compile", "Enter", "Enter")
         if not terminal.sees("came out as action.*exited abnormally"):
             yield "emacs doesn't show what fountain-check-script tells"
-        yield from steps(terminal, "emacs", (("M-g", "n"), sheet(3, 61)))
+        yield from steps(
+            terminal, "emacs",
+            (("M-g", "n"), sheet(3, 61)),
+            (("C-u", "5000", "x", "C-x", "C-s"), "fountain-sheet-at: .*s.fountain: line 121 is too long"),
+            (("C-/", "C-x", "C-s"), sheet(3, 61)),
+        )
         records.write_text("{}")
-        yield from steps(terminal, "emacs", (("C-e", "!", "C-x", "C-s"), "\n *fountain: bad records, rule 2\n"))
+        yield from steps(terminal, "emacs", (("C-e", "!", "C-x", "C-s"), REFUSED))
         records.unlink()
         yield from steps(terminal, "emacs", (("C-e", "!", "C-x", "C-s"), sheet(3, r"61\.!!")))
+
+
+def emacs_alone(folder):
+    """What Emacs shows without fountain-sheet-at, and how many buffers it keeps of it."""
+    (folder / "s.fountain").write_text("Rain.\n")
+    code = f"""(progn (load "{TOP}/examples/editors/fountain.el" nil t) (setq exec-path nil) (find-file "s.fountain")
+    (fountain-sheet-show) (fountain-sheet-show) (princ (with-current-buffer fountain-sheet-buffer (buffer-string)))
+    (princ (length (seq-filter (lambda (it) (string-prefix-p " *fountain" (buffer-name it))) (buffer-list)))))"""
+    ran = subprocess.run(["emacs", "--batch", "--eval", code], cwd=folder, capture_output=True, text=True, timeout=SECONDS)
+    if ran.stdout != "Searching for program: No such file or directory, fountain-sheet-at0":
+        yield f"without fountain-sheet-at emacs shows {ran.stdout!r} {ran.stderr!r}"
 
 
 def read_to(stream, end):
@@ -254,7 +279,8 @@ def watching(folder):
             ((), text.replace("Word 41.", "Wörd 41.") + "[[a note]]\n", "Wörd 41.*: sheet 2 of 4"),
             (("G",), None, sheet(4, "100") + ".*: sheet 4 of 4"),
             ((), text.replace("Word 41.", "W\x00rd 41.\n!A row."), r"Wrd 41.*: sheet 2 of 4"),
-            ((), "\udcff", "^\n*fountain: not UTF-8 at byte 0\n*$"),
+            ((), "\udcff", "^\n*s.fountain: not UTF-8 at byte 0\n*$"),
+            ((), "a\n" + "b" * 5000, "^\n*s.fountain: line 2 is too long\n*$"),
             ((), text, r"Word 41\.\n.*: sheet 2 of 4"),
             ((), text * 2, r"Word 100\.\n.*: sheet 4 of 8"),
             ((), "", "^\n*s.fountain: no sheet\n*$"),
@@ -267,11 +293,15 @@ def watching(folder):
             if not terminal.sees(pattern):
                 yield f"after {keys} and a change there isn't {pattern} but {''.join(terminal.rows())[:300]!r}"
         records.write_text("{}")
-        if not terminal.sees("^\n*fountain: bad records, rule 2\n*$"):
+        if not terminal.sees("^\n*s.fountain.desk is no record file .rule 2.; fountain-take-in --recover s.fountain mends that\n*$"):
             yield "other records aren't read"
         terminal.press("q")
         if not terminal.is_gone():
             yield "q doesn't end it"
+    records.unlink()
+    with Terminal(folder, "fountain-watch-sheets", "s.fountain", kind="vt220") as terminal:
+        if not terminal.sees("s.fountain: no sheet"):
+            yield f"in a terminal without colours there isn't what it shows but {''.join(terminal.rows())[:300]!r}"
 
 
 def watching_beside(folder):
@@ -291,7 +321,8 @@ def watching_beside(folder):
     status = watch.wait(SECONDS)
     watch.stdout.close()
     watch.stderr.close()
-    if told != sheets[0] + b"\f" + sheets[2].replace(b"Word 61", b"Word 161") + b"\f" or fault != b"fountain: no file s.fountain\n" or status:
+    shown = sheets[0] + b"\f" + sheets[2].replace(b"Word 61", b"Word 161") + b"\f"
+    if told != shown or fault != b"fountain-watch-sheets: no file s.fountain\n" or status:
         yield f"beside a terminal it writes {told}, tells {fault} and ends with {status}"
 
 
@@ -317,23 +348,31 @@ def words(folder):
             yield f"{name} --help ends with {ran.returncode} and tells {ran.stdout[:50]!r} {ran.stderr!r}"
         for wrong in ((), ("-x",), ("a", "b", "c", "d")):
             ran = call(folder, name, *wrong)
-            if ran.returncode != 2 or ran.stdout or ran.stderr != f"{name}: usage: {help_of(folder, name)}\n":
+            if ran.returncode != 2 or ran.stdout or ran.stderr != f"{name}: usage: {usage_of(folder, name)} (--help tells more)\n":
                 yield f"{name} {wrong} ends with {ran.returncode} and tells {ran.stdout!r} {ran.stderr!r}"
     (folder / "empty").touch()
+    (folder / "long").write_text("a\n\n" + "b" * 5000)
+    (folder / "none").touch()
+    (folder / "none.desk").write_text("{}")
     for wrong, status, said in (
         (("empty", "1"), 1, "fountain-sheet-at: no sheet shows a line of empty\n"),
-        (("nothing", "1"), 3, "fountain: no file nothing\n"),
-        (("empty", "0"), 2, "fountain-sheet-at: usage: fountain-sheet-at [--json] FILE LINE\n"),
-        (("empty", "²"), 2, "fountain-sheet-at: usage: fountain-sheet-at [--json] FILE LINE\n"),
+        (("nothing", "1"), 3, "fountain-sheet-at: no file nothing\n"),
+        (("long", "1"), 4, "fountain-sheet-at: long: line 3 is too long\n"),
+        ((".", "1"), 7, "fountain-sheet-at: .: a file failed\n"),
+        (("none", "1"), 8, "fountain-sheet-at: none.desk is no record file (rule 2); fountain-take-in --recover none mends that\n"),
+        (("caf\udce9", "1"), 2, "fountain-sheet-at: a word isn't UTF-8\n"),
+        (("empty", "0"), 2, "fountain-sheet-at: 0 is no line: lines count from 1\n"),
+        (("empty", "²"), 2, "fountain-sheet-at: ² is no line: lines count from 1\n"),
+        (("empty", "9" * 5000), 1, "fountain-sheet-at: no sheet shows a line of empty\n"),
     ):
         ran = call(folder, "fountain-sheet-at", *wrong)
         if (ran.returncode, ran.stdout, ran.stderr) != (status, "", said):
             yield f"fountain-sheet-at {wrong} ends with {ran.returncode} and tells {ran.stdout!r} {ran.stderr!r}"
 
 
-def help_of(folder, name):
-    """The first line that a script tells for --help."""
-    return call(folder, name, "--help").stdout.split("\n")[0]
+def usage_of(folder, name):
+    """What a script tells for --help before it says what it does."""
+    return call(folder, name, "--help").stdout.split(": ")[0]
 
 
 # Checks by what they need beside the program.
@@ -341,6 +380,7 @@ CHECKS = {
     sheet_of_lines: [],
     vim: ["tmux", "vim"],
     emacs: ["tmux", "emacs"],
+    emacs_alone: ["emacs"],
     watching: ["tmux"],
     watching_beside: [],
     matched: ["node"],

@@ -2,6 +2,7 @@
 scene and name, where each row of a scene and of a speech has a word of its own, by which its sheets are found in what is printed."""
 
 import json
+import os
 import pathlib
 import random
 import re
@@ -204,7 +205,13 @@ def refusals(folder):
     if pick(titled, "title", "2") != (0, sheets[0] + sheets[2], ""):
         yield "the title sheet and sheet 2 aren't picked"
     (folder / "latin").write_bytes(b"caf\xe9\n")
+    (folder / "long").write_text("a\n\n" + "b" * 5000)
+    digits = "9" * 5000
     for words, why in (
+        ([folder / "long", "1"], "long: line 3 is too long"), ([folder, "1"], f"{folder}: a file failed"),
+        (["caf\udce9", "1"], "isn't UTF-8"), ([file, digits], "no label"), ([file, f"1({digits})"], "no label"),
+        ([file, "4000000001"], "no label"), ([file, "1(16777217)"], "no label"),
+        ([file, "4000000000(16777216)"], "no sheet 4000000000(16777216)"), ([file, "--scene", digits], "no scene"),
         ([], "usage"), ([file], "usage"), ([file, "--scene"], "--scene"), (["--what", file, "1"], "--what"), ([file, "5"], "no sheet 5"),
         ([file, "1", "2A"], "no sheet 2A"), ([file, "3-2"], "sheet 3 comes behind 2"), ([file, "2-9"], "no sheet 9"), ([file, "title"], "no title sheet"),
         ([file, "1-2-3"], "no label"), ([file, "02"], "no label"), ([file, "--scene", "7"], "no scene 7"), ([file, "--scene", "3-2"], "comes behind"),
@@ -222,6 +229,21 @@ def refusals(folder):
         yield f"with no room to write it ends with {ran.returncode}: {ran.stderr}"
 
 
+def pipes(folder):
+    """A script that can be read but once, as process substitution gives it; by standard input, and by a name."""
+    script = (TOP / "examples/the-mill.fountain").read_bytes()
+    (folder / "script").write_bytes(script)
+    sheets = printed(folder / "script")
+    os.mkfifo(folder / "pipe")
+    for word in ("--scene=2", "2"):
+        for name in ("-", "/dev/stdin"):
+            if pick(name, word, given=script) != (0, sheets[1], ""):
+                yield f"{word} of {name} isn't sheet 2: {pick(name, word, given=script)}"
+        with subprocess.Popen(["sh", "-c", 'cat "$1" >"$2"', "sh", folder / "script", folder / "pipe"]):
+            if (told := pick(folder / "pipe", word)) != (0, sheets[1], ""):
+                yield f"{word} of a pipe isn't sheet 2: {told}"
+
+
 def large(folder):
     """200,000 lines, from a pipe."""
     text = "".join(f"INT. ROOM {number}\n\nANNA\nw{number}w\n\n" for number in range(40_000)).encode()
@@ -236,7 +258,7 @@ def large(folder):
 def main():
     if not PROGRAM.exists():
         return tell("pick_sheets", "no sheet was picked", ["the program isn't built"])
-    faults = faults_by((random_scripts, last_round, omitted, refusals, large))
+    faults = faults_by((random_scripts, last_round, omitted, refusals, pipes, large))
     return tell("pick_sheets", f"{RUNS} random scripts, before and after locks", faults[:20])
 
 

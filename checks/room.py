@@ -162,7 +162,9 @@ def is_open(place):
 
 
 def begin(folder, *words):
-    return subprocess.Popen([scripts_in(folder) / "fountain-share-room", *words], cwd=folder, stderr=subprocess.PIPE, text=True)
+    # Where a shell began this beside others interrupts are ignored, and would be by the relay too.
+    how = {"stderr": subprocess.PIPE, "text": True, "preexec_fn": lambda: signal.signal(signal.SIGINT, signal.SIG_DFL)}
+    return subprocess.Popen([scripts_in(folder) / "fountain-share-room", *words], cwd=folder, **how)
 
 
 def at_once(*writers):
@@ -333,19 +335,34 @@ def sockets(folder):
         if share.end() or share.place.exists():
             yield f"behind a socket that was taken over it ends with {share.process.returncode}"
     (folder / "file").write_text("kept")
+    (folder / "long").write_text("a\n\n" + "b" * 5000)
     (folder / "link").symlink_to("nowhere")
     for words, expected in (
         (("script", "file"), (1, "fountain-share-room: file is there, and is no socket\n")),
         (("script", "link"), (1, "fountain-share-room: link is there, and is no socket\n")),
         (("script", "nowhere/socket"), (1, "fountain-share-room: nowhere/socket: No such file or directory\n")),
         (("script", "x" * 200), (1, f"fountain-share-room: {'x' * 200}: AF_UNIX path too long\n")),
-        (("script",), (2, "fountain-share-room: usage: fountain-share-room FILE SOCKET\n")),
-        (("nothing", "socket"), (3, "fountain: no file nothing\n")),
+        (("script",), (2, "fountain-share-room: usage: fountain-share-room FILE SOCKET (--help tells more)\n")),
+        (("script", ""), (2, "fountain-share-room: a socket wants a name\n")),
+        (("nothing", "socket"), (3, "fountain-share-room: no file nothing\n")),
+        (("long", "socket"), (4, "fountain-share-room: long: line 3 is too long\n")),
     ):
         if (found := ended(folder, *words)) != expected:
             yield f"fountain-share-room {' '.join(words)} ends with {found}"
     if share.place.exists() or (folder / "file").read_text() != "kept" or not (folder / "link").is_symlink():
         yield "a relay that refuses to begin leaves other files than it found"
+
+
+def signals(folder):
+    """Interrupted, ended, or left by its terminal it takes its socket away and leaves the script as it was saved."""
+    for number in (signal.SIGINT, signal.SIGTERM, signal.SIGHUP):
+        with Share(folder) as share:
+            before = share.script.read_bytes()
+            share.seat().ask({"do": "replace", "first": 0, "count": 1, "lines": ["lost"], "seen": 0})
+            share.process.send_signal(number)
+            _, said = share.process.communicate(timeout=SECONDS)
+            if share.process.returncode or said or share.place.exists() or share.script.read_bytes() != before:
+                yield f"by signal {number} it ends with {share.process.returncode} and tells {said!r}"
 
 
 def kept_lines(folder):
@@ -360,7 +377,7 @@ def kept_lines(folder):
     room = module.Room(str(folder / "script"))
     edit = {"do": "replace", "first": 0, "count": 0, "lines": ["!b"], "seat": "a", "seen": 0}
     replies = [json.loads(room.reply_to(line)) for line in lines_of(edit, edit, edit, {"do": "save", "seat": "a"}, {"do": "text"}).splitlines(True)]
-    status = room.end()
+    status, _ = room.end()
     if ["ok" in reply for reply in replies] != [True, True, False, True, True] or replies[2] != {"no": "InputFull"} or status:
         yield f"with two lines left, and then saves alone, it tells {replies}"
     if (folder / "script").read_text() != "!b\n!b\n!a\n":
@@ -370,7 +387,7 @@ def kept_lines(folder):
 def main():
     if not PROGRAM.exists():
         return tell("room", "no room was shared", ["the program isn't built"])
-    checks = (two_writers, three_writers, told_changes, bad_writers, sockets, kept_lines)
+    checks = (two_writers, three_writers, told_changes, bad_writers, sockets, signals, kept_lines)
     return tell("room", f"two and three writers with {EDITS} edits each, and {len(checks) - 2} checks more", faults_by(checks))
 
 

@@ -7,6 +7,7 @@ import json
 import os
 import pathlib
 import re
+import shlex
 import shutil
 import signal
 import subprocess
@@ -29,29 +30,30 @@ def stop(why, status=1):
     sys.exit(status)
 
 
-def end_on_signals():
-    """Ends where it is interrupted as where it stops, so that nothing is left behind. Signals that are ignored, as by nohup, stay so."""
+def on_signals(handler):
+    """Has a handler take the signals that end a script. Those that are ignored, as by nohup, stay so."""
     for number in (signal.SIGINT, signal.SIGTERM, signal.SIGHUP):
         if signal.getsignal(number) != signal.SIG_IGN:
-            signal.signal(number, lambda number, _: sys.exit(128 + number))
+            signal.signal(number, handler)
 
 
-def run(main):
-    """Calls a script's main with its words, and ends as it says."""
-    end_on_signals()
+def run(main, status=1):
+    """Calls a script's main with its words, and ends as it says; by this status where a file fails. Interrupted it ends as where it stops,
+    so that nothing is left behind."""
+    on_signals(lambda number, _: sys.exit(128 + number))
     try:
         # UTF-8, as the program writes.
         sys.stdout.reconfigure(encoding="utf-8")
         sys.stderr.reconfigure(encoding="utf-8", errors="backslashreplace")
-        status = main(sys.argv[1:])
+        ended = main(sys.argv[1:])
         sys.stdout.flush()
-        sys.exit(status)
+        sys.exit(ended)
     except BrokenPipeError:
         # Nobody reads what is told; what was done is done.
         close_output()
-        sys.exit(1)
+        sys.exit(status)
     except OSError as fault:
-        stop(f"{fault.filename or 'standard output'}: {fault.strerror}")
+        stop(f"{fault.filename}: {fault.strerror}" if fault.filename else fault.strerror, status)
 
 
 def close_output():
@@ -83,9 +85,14 @@ def is_utf8(word):
         return False
 
 
+def is_option(word):
+    return word.startswith("-") and word != "-"
+
+
 def parse(about, words, count):
-    """The options of a script, each with its value, and its other words, of which there are as many as `count` says for these options.
-    Tells what a script does where it is asked for help, and its usage where its words are none. `about` begins with the usage."""
+    """The options of a script, each with its value, and its other words, of which there are as many as `count` says for these options;
+    `-` is such a word. Tells what a script does where it is asked for help, and its usage where its words are none. `about` begins with the
+    usage."""
     if "--help" in words:
         print(about)
         sys.exit()
@@ -96,13 +103,11 @@ def parse(about, words, count):
     options, others = {}, []
     for word in words:
         name, sign, value = word.partition("=")
-        if word.startswith("-") and known.get(name) != sign:
-            stop(f"usage: {usage} (--help tells more)", 2)
-        if word.startswith("-"):
+        if known.get(name) == sign:
             options[name] = value
         else:
             others.append(word)
-    if len(others) != count(options):
+    if len(others) != count(options) or any(map(is_option, others)):
         stop(f"usage: {usage} (--help tells more)", 2)
     return options, others
 
@@ -131,11 +136,22 @@ def fault_of(errors):
     return re.sub(r"^line (\d+) ", lambda found: f"line {int(found[1]) + 1} ", said_by(errors))
 
 
-def output_of(*words, status=1, **how):
-    """What the program writes; where it refuses, its line is told, with lines counted from 1."""
+def refusal_of(name, status, errors):
+    """Why the program ended over a script, in words for people."""
+    said = fault_of(errors)
+    if status == 8:
+        what = f"{name} was changed by another program since it was saved"
+        if said.startswith("bad records"):
+            what = f"{name}.desk is no record file ({said.removeprefix('bad records, ')})"
+        return f"{what}; fountain-take-in --recover {shlex.quote(str(name))} mends that"
+    return said if status == 3 else f"{name}: {said or 'the program ended'}"
+
+
+def output_of(*words, told="fountain", **how):
+    """What the program writes; where it refuses, that is told of a name."""
     ran = subprocess.run([find_program(2), *words], capture_output=True, **how)
     if ran.returncode:
-        stop(fault_of(ran.stderr) or f"fountain ends with {ran.returncode}", status)
+        stop(refusal_of(told, ran.returncode, ran.stderr))
     return ran.stdout
 
 
@@ -158,7 +174,8 @@ def round_name(number):
 def read(path):
     """The bytes of a file; none where there is no such file."""
     try:
-        return pathlib.Path(path).read_bytes()
+        with open(path, "rb") as file:
+            return file.read()
     except FileNotFoundError:
         return None
 
@@ -172,12 +189,12 @@ def read_input(name, status=1):
     return data if data is not None else stop(f"no file {name}", status)
 
 
-def file_of(name, work, status=1):
-    """A script by its name; for `-` a file in a folder, with what standard input has."""
-    if name != "-":
+def file_of(name, work):
+    """A script by its name; for standard input and pipes, which can be read but once, a file in a folder with what they have."""
+    if name != "-" and not name.startswith("/dev/") and not pathlib.Path(name).is_fifo():
         return name
     file = work / "script"
-    file.write_bytes(read_input(name, status))
+    file.write_bytes(read_input(name))
     return file
 
 

@@ -7,11 +7,10 @@ import json
 import os
 import pathlib
 import re
-import shlex
 import subprocess
 import tempfile
 
-from fountain_common import BYTES, fault_of, find_program, line_of, read, records_of, stop
+from fountain_common import BYTES, find_program, line_of, read, records_of, refusal_of, stop
 
 # So many commands are sent before their replies are read. Either they or their replies are short, and so fill no pipe.
 AHEAD = 64
@@ -157,10 +156,5 @@ class Desk:
 
     def tell_end(self):
         """Ends the script where the session ended by itself, and says why."""
-        said, status = fault_of(self.process.stderr.read()), self.process.wait()
-        if status == 8:
-            what = f"{self.told} was changed by another program since it was saved"
-            if said.startswith("bad records"):
-                what = f"{self.told}.desk is no record file ({said.removeprefix('bad records, ')})"
-            stop(f"{what}; fountain-take-in --recover {shlex.quote(str(self.told))} mends that", status)
-        stop(said if status == 3 else f"{self.told}: {said or 'the desk ended'}", status if status > 0 else 1)
+        errors, status = self.process.stderr.read(), self.process.wait()
+        stop(refusal_of(self.told, status, errors), status if status > 0 else 1)

@@ -2,6 +2,7 @@
 face has, a browser any other characters. A sheet is marked up as in a page of `fountain html`."""
 
 import bisect
+import collections
 import html
 import os
 import re
@@ -9,11 +10,12 @@ import subprocess
 import tempfile
 import unicodedata
 
-from fountain_common import say, stop
+from fountain_common import read, say, stop
 from fountain_sheets import clusters_of, sheet_of, widths_of
 
-# Of each paper its name, how wide and high it is, in points too, its columns, and the rows below a header.
-PAPERS = {"letter": ("Letter", "8.5in", "11in", 612, 792, 85, 54), "a4": ("A4", "210mm", "297mm", 595.276, 841.89, 82, 58)}
+# Of each paper its name, how wide and high it is, also in points, its columns, and the rows below a header.
+Paper = collections.namedtuple("Paper", "name width height width_in_points height_in_points columns rows")
+PAPERS = {"letter": Paper("Letter", "8.5in", "11in", 612, 792, 85, 54), "a4": Paper("A4", "210mm", "297mm", 595.276, 841.89, 82, 58)}
 TINTS = {
     "Blue": "cfe2f6", "Pink": "fbd5e0", "Yellow": "fff5b1", "Green": "cfeccd", "Goldenrod": "f8dd90", "Buff": "f5e4c3", "Salmon": "fcc8b4",
     "Cherry": "f6a8b4", "Tan": "e2c9a6",
@@ -59,8 +61,8 @@ u span { text-decoration: underline }
 """
 
 
-def run_tool(*words):
-    ran = subprocess.run(words, capture_output=True, env={**os.environ, "LC_ALL": "C.UTF-8"})
+def run_tool(*words, **how):
+    ran = subprocess.run(words, capture_output=True, env={**os.environ, "LC_ALL": "C.UTF-8"}, **how)
     if ran.returncode:
         stop(f"{words[0]} fails: {(ran.stderr.decode(errors='replace').splitlines() or ['it tells nothing'])[-1]}")
     return ran.stdout
@@ -95,16 +97,16 @@ def columns_of(text, widths):
 
 def need_room(texts, widths, paper):
     """Stops where a sheet has more rows or columns than the paper."""
-    name, *_, most_columns, most_rows = PAPERS[paper]
+    most = PAPERS[paper]
     for number, text in enumerate(texts, 1):
         rows = text.split("\n")[:-1]
-        if len(rows) - 2 > most_rows:
+        if len(rows) - 2 > most.rows:
             hint = ": --a4 has 58" if paper == "letter" else ""
-            stop(f"sheet {number} has {len(rows) - 2} rows below its header, and {name} has {most_rows}{hint}")
+            stop(f"sheet {number} has {len(rows) - 2} rows below its header, and {most.name} has {most.rows}{hint}")
         for at, row in enumerate(rows, 1):
             columns = columns_of(row, widths)
-            if columns > most_columns:
-                stop(f"row {at} of sheet {number} has {columns} columns, and {name} has {most_columns}")
+            if columns > most.columns:
+                stop(f"row {at} of sheet {number} has {columns} columns, and {most.name} has {most.columns}")
 
 
 def tint_of(text):
@@ -130,7 +132,7 @@ def face_lacks(characters):
 
 
 def print_by_ghostscript(sheets, tints, widths, title, paper, work):
-    _, _, _, width, height, _, _ = PAPERS[paper]
+    width, height = PAPERS[paper].width_in_points, PAPERS[paper].height_in_points
     lines = ["%!PS", TYPESETTING, f"<< /PageSize [{width} {height}] >> setpagedevice", f"[ /Title <FEFF{title.encode('utf-16-be').hex()}> /DOCINFO pdfmark"]
     for sheet, tint in zip(sheets, tints):
         if tint:
@@ -141,7 +143,8 @@ def print_by_ghostscript(sheets, tints, widths, title, paper, work):
             lines += typeset(row, height - 45 - 12 * at, widths)
         lines.append("showpage")
     (work / "sheets.ps").write_text("\n".join(lines) + "\n")
-    run_tool("gs", "-q", "-dBATCH", "-dNOPAUSE", "-sDEVICE=pdfwrite", f"-sOutputFile={work / 'pdf'}", work / "sheets.ps")
+    # In the folder itself, since a % in the name of a file stands for a page.
+    run_tool("gs", "-q", "-dBATCH", "-dNOPAUSE", "-sDEVICE=pdfwrite", "-sOutputFile=pdf", "sheets.ps", cwd=work)
 
 
 def typeset(row, height, widths):
@@ -168,13 +171,16 @@ def typeset(row, height, widths):
 
 def print_by_browser(browser, sheets, tints, widths, title, paper, work):
     """The page has no script and nothing from elsewhere, so it goes without a sandbox, which root and containers haven't."""
-    _, width, height, *_ = PAPERS[paper]
-    head = f'<meta charset="utf-8"><title>{escaped(title)}</title><style>{STYLE % {"width": width, "height": height}}</style>'
+    style = STYLE % PAPERS[paper]._asdict()
+    head = f'<meta charset="utf-8"><title>{escaped(title)}</title><style>{style}</style>'
     pages = (f'<pre{f" style=background:#{tint}" if tint else ""}>{boxed(sheet, widths)}</pre>' for sheet, tint in zip(sheets, tints))
     (work / "page.html").write_bytes(f"<!DOCTYPE html><html><head>{head}</head><body>{''.join(pages)}</body></html>".encode())
     how = ["--headless", "--no-sandbox", "--disable-gpu", "--no-first-run", "--no-pdf-header-footer", f"--print-to-pdf={work / 'pdf'}"]
     with tempfile.TemporaryDirectory(prefix="fountain-pdf.", ignore_cleanup_errors=True) as profile:
         run_tool(browser, *how, f"--user-data-dir={profile}", work / "page.html")
+    # It ends so on a full disk too.
+    if not (read(work / "pdf") or b"").endswith(b"%%EOF\n"):
+        stop(f"{browser} wrote no whole PDF, as where a disk is full")
 
 
 def boxed(markup, widths):

@@ -9,7 +9,9 @@ import unicodedata
 from fountain_client import DROPPED
 from fountain_common import COLOURS, output_of, stop
 
-LABEL = re.compile(r"(0|[1-9]\d*)((?:\.|[A-HJ-NP-Z]|\([1-9]\d*\))*)", re.A)
+LABEL = re.compile(r"(0|[1-9]\d{0,9})((?:\.|[A-HJ-NP-Z]|\([1-9]\d{0,7}\))*)", re.A)
+# The most of the number of a label, and of a step.
+MOST_NUMBER, MOST_STEP = 4_000_000_000, 16_777_216
 LETTERS = "ABCDEFGHJKLMNPQRSTUVWXYZ"
 # The name of a round at column 15, and a label with a full stop; a title sheet has no label.
 HEADER = re.compile(rf"(?: {{15}}((?:\d+(?:st|nd|rd|th) )?({'|'.join(COLOURS)})))?(?: +([^ ]+)\.)?", re.A)
@@ -26,12 +28,12 @@ def label_of(text):
     found = LABEL.fullmatch(text)
     if not found:
         return None
-    steps = []
+    label = [int(found[1])]
     for step in re.findall(r"\.|[A-Z]|\(\d+\)", found[2]):
-        steps.append(0 if step == "." else LETTERS.index(step) + 1 if step in LETTERS else int(step[1:-1]))
-        if step[0] == "(" and steps[-1] <= len(LETTERS):
+        label.append(0 if step == "." else LETTERS.index(step) + 1 if step in LETTERS else int(step[1:-1]))
+        if step[0] == "(" and not len(LETTERS) < label[-1] <= MOST_STEP:
             return None
-    return None if steps and not steps[-1] else (int(found[1]), *steps)
+    return None if label[0] > MOST_NUMBER or len(label) > 1 and not label[-1] else tuple(label)
 
 
 def sheet_of(text):

@@ -112,6 +112,7 @@ class Desk {
 
     constructor(file) {
         this.program = spawn("fountain", ["desk", file], { stdio: ["pipe", "pipe", "inherit"] });
+        this.program.on("error", () => stop("fountain isn't on the path", 1));
         this.ended = new Promise((resolve) => this.program.on("close", resolve));
         this.program.stdin.on("error", () => {}); // the program has ended
         this.replies = linesIn(this.program.stdout);
@@ -138,6 +139,11 @@ class Desk {
     }
 }
 
+function stop(why, status) {
+    console.error(`fountain_client.js: ${why}`);
+    process.exit(status);
+}
+
 async function main(file, copy) {
     const desk = await Desk.open(file);
     if (!desk.isOpen) return desk.end();
@@ -151,9 +157,6 @@ async function main(file, copy) {
 
 module.exports = { Desk, Text, linesOf };
 if (require.main === module) {
-    if (process.argv.length !== 4) {
-        console.error("fountain_client.js: usage: fountain_client.js FILE COPY");
-        process.exit(2);
-    }
+    if (process.argv.length !== 4) stop("usage: fountain_client.js FILE COPY", 2);
     main(...process.argv.slice(2)).then((status) => (process.exitCode = status));
 }

@@ -8,7 +8,7 @@
 ;;
 ;; In each script, a file whose name ends in .fountain, `fountain-sheet-mode' is on: the sheet opens with the first save, or with
 ;; M-x fountain-sheet-show, and from then on follows point.  The sheets are those of the script as it was saved last.  Where it can't be
-;; read its fault line stands in their place.  M-x compile lists what is wrong with the script; M-g n goes from one to the next.
+;; read, what is wrong stands in their place.  M-x compile lists what is wrong with the script; M-g n goes from one to the next.
 
 ;;; Code:
 
@@ -52,14 +52,17 @@
 
 (defun fountain-sheet--begin ()
   (let ((place fountain-sheet--place)
+        (told (generate-new-buffer " *fountain-sheet-at*"))
         (coding-system-for-read 'utf-8-unix)
         (default-directory (file-name-directory (car fountain-sheet--place))))
     (condition-case fault
         (setq fountain-sheet--process
-              (make-process :name "fountain-sheet-at" :buffer (generate-new-buffer " *fountain-sheet-at*") :noquery t :connection-type 'pipe
+              (make-process :name "fountain-sheet-at" :buffer told :noquery t :connection-type 'pipe
                             :command (list "fountain-sheet-at" "--json" (car place) (cadr place))
                             :sentinel (lambda (process _) (fountain-sheet--end process place))))
-      (file-missing (fountain-sheet--tell (list (error-message-string fault)) 0)))))
+      (file-missing
+       (kill-buffer told)
+       (fountain-sheet--tell (list (error-message-string fault)) nil)))))
 
 (defun fountain-sheet--end (process place)
   (unless (process-live-p process)
@@ -74,19 +77,20 @@
   (if (string-prefix-p "{" told)
       (let ((sheet (json-parse-string told)))
         (fountain-sheet--tell (split-string (string-remove-suffix "\f" (gethash "text" sheet)) "\n") (gethash "row" sheet)))
-    (fountain-sheet--tell (list told) 0)))
+    (fountain-sheet--tell (list told) nil)))
 
 (defun fountain-sheet--tell (rows row)
-  "Show ROWS in the window beside the script, with the place at ROW."
+  "Show ROWS in the window beside the script, with the place at ROW; what is no sheet has no place, and its rows are wrapped."
   (when (fountain-sheet--window)
     (with-selected-window (fountain-sheet--window)
+      (setq truncate-lines row)
       (erase-buffer)
       (insert (string-join rows "\n"))
       (set-buffer-modified-p nil)
       (goto-char (point-min))
-      (forward-line row)
+      (forward-line (or row 0))
       ;; From the top, as far down as the row asks for.
-      (if (< row (window-body-height))
+      (if (< (or row 0) (window-body-height))
           (set-window-start nil (point-min))
         (recenter)))))
 
@@ -101,6 +105,11 @@
     (remove-hook 'after-save-hook #'fountain-sheet-show t)
     (remove-hook 'post-command-hook #'fountain-sheet--follow t)
     (kill-local-variable 'compile-command)))
+
+;; Emacs itself takes no names with " -" in them.
+(with-eval-after-load 'compile
+  (add-to-list 'compilation-error-regexp-alist-alist '(fountain "^\\(.+?\\.fountain\\):\\([1-9][0-9]*\\): " 1 2 nil 1))
+  (add-to-list 'compilation-error-regexp-alist 'fountain))
 
 (defun fountain-sheet--find-file ()
   (when (string-suffix-p ".fountain" buffer-file-name)

@@ -4,7 +4,7 @@
 "   :FountainSheet      opens the sheet beside the script, as each :write does; from then on it follows the cursor
 "   :make               lists what is wrong with the script; :cnext goes from one to the next
 "
-" The sheets are those of the script as it was written last. Where it can't be read its fault line stands in their place.
+" The sheets are those of the script as it was written last. Where it can't be read, what is wrong stands in their place.
 
 if exists('g:loaded_fountain') || !exists('*job_start')
     finish
@@ -38,7 +38,7 @@ function! s:open() abort
             " It doesn't stay open alone.
             autocmd BufEnter <buffer> if winnr('$') == 1 | quit | endif
         endif
-        setlocal nowrap nonumber norelativenumber cursorline
+        setlocal nonumber norelativenumber cursorline
         call win_gotoid(l:script)
     endif
     let s:writes += 1
@@ -84,6 +84,7 @@ function! s:show(lines) abort
     let l:is_sheet = get(a:lines, 0, '') =~# '^{'
     let l:sheet = l:is_sheet ? json_decode(a:lines[0]) : {'row': 0}
     let l:rows = l:is_sheet ? split(l:sheet.text, "\n", 1)[:-2] : a:lines
+    call setwinvar(s:window(), '&wrap', !l:is_sheet)
     call setbufline(s:buffer, 1, l:rows)
     silent call deletebufline(s:buffer, len(l:rows) + 1, '$')
     " From the top, as far down as the row asks for.
