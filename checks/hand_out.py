@@ -216,6 +216,62 @@ def other_beginnings(place):
     yield from differs("a script below", place.run(HAND_OUT, "below/s.fountain")[1].split(":")[0], "below/s-white.txt")
 
 
+def renamed(place):
+    """A locked script that was renamed without its records isn't locked anew, whatever its text is by then; with them it goes on, and where
+    they are moved away, or are of a script that is there or has no locks, a script is locked for the first time."""
+    text = script_of(rooms(2))
+
+    def begun(name):
+        place.clear()
+        place.put("s.fountain", text)
+        place.run(HAND_OUT, "s.fountain")
+        (place.folder / "s.fountain").rename(place.folder / name)
+
+    def said(file):
+        both = f"{file[:-len('t.fountain')]}s.fountain"
+        return f"{both}.desk has locked pages, and {both} is gone: if {file} is that script, rename {both}.desk and {both}.kept too; if not, move them away"
+
+    for what, after in (("renamed", text), ("renamed and changed", text.replace("late", "early")), ("renamed, with CR LF", text.replace("\n", "\r\n"))):
+        begun("t.fountain")
+        place.put("t.fountain", after)
+        place.put("draft", text)
+        for words in ((HAND_OUT,), (TAKE_IN, "draft"), (TAKE_IN, "--dry-run", "draft"), (TAKE_IN, "--recover"), (MEMO,)):
+            yield from refuses(f"a script that was {what}", place, 1, said("t.fountain"), *words, "t.fountain")
+        below = f"../{place.folder.name}/t.fountain"
+        yield from refuses(f"a script that was {what}, from below", place, 1, said(below), HAND_OUT, below)
+    # A desk may have saved it under its new name.
+    place.desk({"do": "save"}, file="t.fountain")
+    yield from refuses("a script that was renamed and saved", place, 1, said("t.fountain"), HAND_OUT, "t.fountain")
+    # Records of other scripts that are gone stand there too.
+    begun("t.fountain")
+    for name in ("a", "z"):
+        place.lock(script_of(rooms(3)), name)
+        (place.folder / name).unlink()
+    yield from refuses("a script among others that are gone", place, 1, said("t.fountain"), HAND_OUT, "t.fountain")
+    begun("t.fountain")
+    for ending in ("desk", "kept"):
+        (place.folder / f"s.fountain.{ending}").rename(place.folder / f"t.fountain.{ending}")
+    take_in(place, text.replace("late", "early", 1), "t.fountain")
+    yield from differs("a script that was renamed with its records", place.run(HAND_OUT, "t.fountain")[1].splitlines()[0], "t-blue.txt: hand out 1 sheet: 1")
+
+    def away(place):
+        (place.folder / "s.fountain.desk").rename(place.folder / "away")
+
+    def not_locked(place):
+        away(place)
+        place.put("s.fountain", text)
+        place.desk({"do": "save"}, file="s.fountain")
+        (place.folder / "s.fountain").unlink()
+
+    for what, done in (
+        ("were moved away", away), ("lock nothing", not_locked), ("are no record file", lambda place: place.put("s.fountain.desk", "[" * 100_000)),
+        ("are of a script that is there", lambda place: place.put("s.fountain", text)),
+    ):
+        begun("t.fountain")
+        done(place)
+        yield from differs(f"a first day where records {what}", place.run(HAND_OUT, "t.fountain")[1].splitlines()[:1], ["t-white.txt: hand out all 2 sheets"])
+
+
 # Refusals, and runs that are ended
 
 
@@ -312,7 +368,7 @@ def much_text(place):
         yield "both, collated, aren't the present sheets"
 
 
-CHECKS = [three_days, many_days, memos, guide_day, options, other_beginnings, refusals, ended, much_text]
+CHECKS = [three_days, many_days, memos, guide_day, options, other_beginnings, renamed, refusals, ended, much_text]
 
 
 def faults_of(check):

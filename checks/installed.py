@@ -38,7 +38,7 @@ class Place:
         self.bin.mkdir()
         self.folder.mkdir()
         (self.bin / "fountain").symlink_to(PROGRAM)
-        for path in (TOP / "scripts").iterdir():
+        for path in (*(TOP / "scripts").iterdir(), TOP / "examples/clients/fountain_client.py"):
             if path.is_file():
                 shutil.copy(path, prefix / "share/fountain" if path.suffix == ".py" else self.bin)
 

@@ -185,7 +185,7 @@ def records_of(file):
     """What the record file of a script has; nothing where there is none, or where it is none."""
     try:
         records = json.loads(read(f"{file}.desk") or b"{}")
-    except ValueError:
+    except (ValueError, RecursionError):
         return {}
     return records if isinstance(records, dict) else {}
 

@@ -31,16 +31,40 @@ def copies(file):
     return sorted(found, key=number_of)
 
 
+def last_locked(file):
+    """The last copy of a script that has locked pages, or none."""
+    return next((copy for copy in reversed(copies(file)) if records_of(copy).get("pages")), None)
+
+
 def has_lost_records(file):
-    """Whether a script has no records, and its last copy has locked pages."""
-    return read(f"{file}.desk") is None and any(records_of(copy).get("pages") for copy in copies(file)[-1:])
+    """Whether a script has no records, and a copy of it has locked pages."""
+    return read(f"{file}.desk") is None and last_locked(file) is not None
+
+
+def name_before(file):
+    """The name that a script without locked pages may have had before: that of a script that isn't beside it, with records there that have
+    some. Of several the one whose records are of this text, and none where there is no such name."""
+    if records_of(file).get("pages"):
+        return None
+    raw, found = read(file), {}
+    for path in sorted(pathlib.Path(file).parent.glob("*.desk")):
+        script = path.with_suffix("")
+        with contextlib.suppress(OSError):
+            records = records_of(script)
+            if records.get("pages") and not script.exists():
+                found[script] = is_of(raw, records.get("digest"))
+    return max(found, key=found.get, default=None)
 
 
 def stop_without_records(file):
     """Ends where a script has lost its records, since all that comes then would be numbered anew."""
     if has_lost_records(file):
         recover = f"fountain-take-in --recover {shlex.quote(str(file))} puts it back"
-        stop(f"{file}.desk is gone, and pages are locked in {copies(file)[-1]}; {recover}, or move {folder_of(file)} away to lock anew")
+        stop(f"{file}.desk is gone, and pages are locked in {last_locked(file)}; {recover}, or move {folder_of(file)} away to lock anew")
+    name = name_before(file)
+    if name:
+        both = f"{name}.desk and {folder_of(name)}"
+        stop(f"{name}.desk has locked pages, and {name} is gone: if {file} is that script, rename {both} too; if not, move them away")
 
 
 def keep(file, text, records, number):
