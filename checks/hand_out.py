@@ -6,12 +6,13 @@ import json
 import random
 import resource
 import shutil
+import signal
 import sys
 import tempfile
 import time
 
 from installed import MOST_SECONDS, Place, Scene, crash, differs, ended_anywhere, of_guide, omitted, refuses, script_of, seconds_of_children, sheet, shell
-from program import PROGRAM, TOP
+from program import PROGRAM, SECONDS, TOP
 from report import found_by, tell
 
 HAND_OUT, TAKE_IN, MEMO = "fountain-hand-out", "fountain-take-in", "fountain-memo"
@@ -349,6 +350,49 @@ def ended(place):
             yield from differs(f"{name} in the end", place.files().get(name) == whole[name], True)
 
 
+def bad_times(place):
+    """A run that is interrupted as its desk saves does all that it does else, and says so. One whose desk ends before the save leaves all as it
+    was, and one whose desk ends behind it has done all but the last copy's records."""
+    text = script_of(rooms(3))
+    place.put("s", text)
+    place.run(HAND_OUT, "s")
+    place.put("draft", text.replace("late", "early", 1))
+    for words in ((TAKE_IN, "draft", "s"), (HAND_OUT, "s")):
+        begun = place.files()
+        before = {name: data for name, data in begun.items() if data is not None}
+        ran = place.run(*words)
+        whole = place.files()
+
+        def again():
+            place.clear()
+            (place.folder / "s.kept").mkdir()
+            for name, data in before.items():
+                place.put(name, data)
+
+        place.pass_saves(f"touch '{place.bin}/saves'; sleep 1")
+        for number in (signal.SIGINT, signal.SIGTERM, signal.SIGHUP):
+            again()
+            (place.bin / "saves").unlink(missing_ok=True)
+            script = place.start(*words)
+            while script.poll() is None and not (place.bin / "saves").exists():
+                time.sleep(0.01)
+            script.send_signal(number)
+            out, said = script.communicate(timeout=SECONDS)
+            what = f"{words[0]}, interrupted by {number.name} at its save"
+            yield from differs(f"{what}, ends", (script.returncode, out.decode(), said.decode()), (128 + number, ran[1], ""))
+            yield from differs(f"{what}, leaves", sorted(name for name in whole if place.files().get(name) != whole[name]), [])
+        again()
+        place.pass_saves("break")
+        yield from refuses(f"{words[0]}, whose desk ends before its save", place, 1, "s: the desk ended", *words)
+        place.pass_saves(behind="break", replies="sed -u /digest/d")
+        yield from differs(f"{words[0]}, whose desk ends behind its save", place.run(*words), (1, "", f"{words[0]}: s: the desk ended\n"))
+        left = sorted(name for name in whole if place.files().get(name) != whole[name])
+        yield from differs("the files that lack then", left, [max(name for name in whole if name.startswith("s.kept") and name.endswith(".desk"))])
+        place.pass_saves()
+        again()
+        place.run(*words)
+
+
 def much_text(place):
     """200,000 lines are handed out, changed and handed out again in seconds."""
     lines = []
@@ -368,7 +412,7 @@ def much_text(place):
         yield "both, collated, aren't the present sheets"
 
 
-CHECKS = [three_days, many_days, memos, guide_day, options, other_beginnings, renamed, refusals, ended, much_text]
+CHECKS = [three_days, many_days, memos, guide_day, options, other_beginnings, renamed, refusals, ended, bad_times, much_text]
 
 
 def faults_of(check):

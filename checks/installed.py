@@ -84,6 +84,23 @@ class Place:
         for number in range(100):
             ((folder if what == "records" else self.folder) / f".fountain-saving-{number}").write_bytes(b"")
 
+    def pass_saves(self, before=":", behind=":", replies="cat"):
+        """Has a shell do this before and behind each save that a desk gets from here on, and hand its replies on so."""
+        program = self.bin / "fountain"
+        program.unlink()
+        program.write_text(
+            f"""#!/bin/sh
+            [ "$1" = desk ] || exec "{PROGRAM}" "$@"
+            while IFS= read -r line; do
+                case $line in
+                    *'"save"'*) {before}; printf '%s\\n' "$line"; {behind} ;;
+                    *) printf '%s\\n' "$line" ;;
+                esac
+            done | "{PROGRAM}" "$@" | {replies}
+            """
+        )
+        program.chmod(0o755)
+
     def files(self):
         """All that the folder has, each file with its bytes."""
         return {str(it.relative_to(self.folder)): it.read_bytes() if it.is_file() else None for it in self.folder.rglob("*")}

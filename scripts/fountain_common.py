@@ -16,6 +16,7 @@ import fountain_client
 
 COLOURS = ("White", "Blue", "Pink", "Yellow", "Green", "Goldenrod", "Buff", "Salmon", "Cherry", "Tan")
 ORDINALS = {1: "st", 2: "nd", 3: "rd"}
+INTERRUPTS = (signal.SIGINT, signal.SIGTERM, signal.SIGHUP)
 # The most lines and bytes of a text, and the most bytes of one of its lines and of a command line.
 LINES, BYTES, LINE, COMMAND = 200_000, 16_777_216, 4096, 1_048_576
 
@@ -31,9 +32,19 @@ def stop(why, status=1):
 
 def end_on_signals():
     """Ends where it is interrupted as where it stops, so that nothing is left behind. Signals that are ignored, as by nohup, stay so."""
-    for number in (signal.SIGINT, signal.SIGTERM, signal.SIGHUP):
+    for number in INTERRUPTS:
         if signal.getsignal(number) != signal.SIG_IGN:
             signal.signal(number, lambda number, _: sys.exit(128 + number))
+
+
+@contextlib.contextmanager
+def uninterrupted():
+    """Keeps an interrupt waiting until what is done in it is done whole."""
+    before = signal.pthread_sigmask(signal.SIG_BLOCK, INTERRUPTS)
+    try:
+        yield
+    finally:
+        signal.pthread_sigmask(signal.SIG_SETMASK, before)
 
 
 def run(main):

@@ -10,7 +10,7 @@ import shutil
 import subprocess
 
 from fountain_client import lines_of, text_of
-from fountain_common import BYTES, read, records_of, round_name, stop
+from fountain_common import BYTES, read, records_of, round_name, say, stop
 from fountain_desk import SAVE, Refused, digest_of, round_of, write
 
 COPY = re.compile(r"(\d+)-[0-9a-z-]+")
@@ -86,44 +86,46 @@ def add(file, text, records, number):
 
 
 @contextlib.contextmanager
-def kept_if_done(file):
-    """Takes away the copies that are kept in it where something there is refused or fails."""
-    before = copies(file)
+def all_or_nothing(file, text, made=()):
+    """Where something in it is refused or fails, all is left as it was: copies that were kept in it and the files that it made go, and the
+    script, if it has this text by then, gets back what it had. A desk that ended behind its save has done all of it."""
+    old, records, before = read(file), read(f"{file}.desk"), copies(file)
     try:
         yield
-    except (Refused, OSError):
+    except (Refused, OSError, SystemExit) as fault:
+        if isinstance(fault, SystemExit) and read(f"{file}.desk") != records:
+            raise
+        if read(file) == text != old:
+            # It was stored, and its records weren't.
+            write(file, old)
         for copy in copies(file)[len(before) :]:
             copy.unlink()
             pathlib.Path(f"{copy}.desk").unlink(missing_ok=True)
         if not before and folder_of(file).is_dir():
             folder_of(file).rmdir()
+        for path in made:
+            pathlib.Path(path).unlink(missing_ok=True)
         raise
 
 
 def save(file, desk, old, text, number, files={}):
     """Keeps a script, which has these old bytes, and the text that comes, which is in the round of this number; writes the other files; and
-    has the desk save. The text is kept before, so that records are always of a text that is there. Where something is refused or fails, all
-    is left as it was."""
+    has the desk save, all of it or nothing. The text is kept before, so that records are always of a text that is there."""
     if read(file) != old:
         stop(f"{file} was changed by another program in the meantime")
     made = [path for path in files if read(path) is None]
-    with kept_if_done(file):
-        try:
-            for path in made:
-                write(path, files[path])
-            keep(file, old, read(f"{file}.desk"), round_of(file))
-            copy = add(file, text, None, number)
-            reply = desk.ask(SAVE)
-        except (Refused, OSError):
-            if read(file) == text != old:
-                # It was stored, and its records weren't.
-                write(file, old)
-            for path in made:
-                pathlib.Path(path).unlink(missing_ok=True)
-            raise
+    with all_or_nothing(file, text, made):
+        for path in made:
+            write(path, files[path])
+        keep(file, old, read(f"{file}.desk"), round_of(file))
+        copy = add(file, text, None, number)
+        reply = desk.ask(SAVE)
     if reply["digest"] != digest_of(text):
         stop(f"{file} was changed by another program in the meantime: {folder_of(file)} has what it was")
-    write(f"{copy}.desk", read(f"{file}.desk"))
+    try:
+        write(f"{copy}.desk", read(f"{file}.desk"))
+    except OSError as fault:
+        say(f"{fault.filename}: {fault.strerror}; {file} is saved, and that copy of it has no records")
 
 
 def begun(file, records):
