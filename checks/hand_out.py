@@ -281,7 +281,8 @@ def refusals(place):
     for words in ((), ("--a4",), ("s", "t"), ("--letter", "s"), ("--a4=1", "s")):
         yield from refuses(f"{words}", place, 2, usage, HAND_OUT, *words)
     yield from refuses("no memo", place, 2, "usage: fountain-memo FILE (--help tells more)", MEMO)
-    yield from refuses("a script that isn't there", place, 3, "no file gone", HAND_OUT, "gone")
+    for name in ("gone", "gone/s"):
+        yield from refuses("a script that isn't there", place, 3, f"no file {name}", HAND_OUT, name)
     for what, text, line in (
         ("a number that falls", "INT. A - DAY\n\nINT. B - DAY\n\nINT. C - DAY #2#\n", "s, line 5: its scene number isn't above that of the heading before"),
         ("a number that is none", "\nINT. A - DAY #A1#\n", "s, line 2: its scene number can't be locked: it is no label, or 0"),
@@ -350,6 +351,23 @@ def ended(place):
             yield from differs(f"{name} in the end", place.files().get(name) == whole[name], True)
 
 
+def copies(place):
+    """What goes wrong with a copy ends a run before it does anything, or is told where the script is saved already."""
+    for name, status in (("001-white", 1), ("002-blue", 1), ("002-blue.desk", 0)):
+        place.clear()
+        place.put("s", script_of(rooms(2)))
+        (place.folder / "s.kept" / name / "full").mkdir(parents=True)
+        if status:
+            yield from refuses(f"a folder {name}", place, 1, f"s.kept/{name}: Is a directory", HAND_OUT, "s")
+            continue
+        said = f"fountain-hand-out: s.kept/{name}: Is a directory; s is saved, and that copy of it has no records\n"
+        out = "s-white.txt: hand out all 2 sheets\nwhat is changed in s from now on is Blue\n"
+        yield from differs(f"a folder {name}", place.run(HAND_OUT, "s"), (0, out, said))
+        shutil.rmtree(place.folder / "s.kept" / name)
+        take_in(place, script_of(rooms(1)), "s")
+        yield from differs("the copies behind it", place.run("fountain", "print", "s.kept/003-blue")[1], (place.folder / "s-white.txt").read_text())
+
+
 def bad_times(place):
     """A run that is interrupted as its desk saves does all that it does else, and says so. One whose desk ends before the save leaves all as it
     was, and one whose desk ends behind it has done all but the last copy's records."""
@@ -412,7 +430,7 @@ def much_text(place):
         yield "both, collated, aren't the present sheets"
 
 
-CHECKS = [three_days, many_days, memos, guide_day, options, other_beginnings, renamed, refusals, ended, bad_times, much_text]
+CHECKS = [three_days, many_days, memos, guide_day, options, other_beginnings, renamed, refusals, ended, copies, bad_times, much_text]
 
 
 def faults_of(check):

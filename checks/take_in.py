@@ -11,7 +11,7 @@ import sys
 import time
 
 from installed import MOST_SECONDS, Place, Scene, differs, digest, ended_anywhere, omitted, refuses, script_of, seconds_of_children, sheet, text_by_rules
-from program import PROGRAM
+from program import PROGRAM, SECONDS
 from report import faults_by, tell
 
 TAKE_IN = "fountain-take-in"
@@ -221,12 +221,13 @@ def crafted(place, **fields):
 
 def refusals(place):
     usage = "usage: fountain-take-in [--dry-run] [--base=OLD] DRAFT FILE, or fountain-take-in [--dry-run] --recover FILE (--help tells more)"
-    for words in ((), ("draft",), ("--other", "draft", "s"), ("a", "b", "c"), ("--recover", "draft", "s"), ("--dry-run=1", "draft", "s"), ("--base", "draft", "s")):
+    for words in ((), ("draft",), ("--other", "draft", "s"), ("a", "b", "c"), ("--recover", "draft", "s"), ("--dry-run=1", "draft", "s"), ("--base", "draft", "s"), ("--base=", "draft", "s")):
         yield from refuses(f"{words}", place, 2, usage, TAKE_IN, *words)
     place.lock(MILL)
     place.put("draft", MILL + "\nMore.\n")
     yield from refuses("a draft that isn't there", place, 3, "no file gone", TAKE_IN, "gone", "s")
-    yield from refuses("a script that isn't there", place, 3, "no file gone", TAKE_IN, "draft", "gone")
+    for name in ("gone", "gone/s"):
+        yield from refuses("a script that isn't there", place, 3, f"no file {name}", TAKE_IN, "draft", name)
     yield from refuses("a folder", place, 1, f"{place.folder.name}: Is a directory".replace(place.folder.name, "."), TAKE_IN, ".", "s")
     for what, draft, line in (
         ("bytes that are no UTF-8", b"!a\xff", "draft: not UTF-8 at byte 2"),
@@ -400,6 +401,9 @@ def lost_records(place):
             said = "s.desk is gone, and pages are locked in s.kept/002-blue; fountain-take-in --recover s puts it back, or move s.kept away to lock anew"
             yield from refuses("a draft without records", place, 1, said, TAKE_IN, "draft", "s")
             yield from refuses("a hand-out without records", place, 1, said, "fountain-hand-out", "s")
+            # A run that was killed may have left the copy of a text that wasn't saved.
+            place.put("s.kept/003-blue", text)
+            yield from refuses("a hand-out without records after a kill", place, 1, said, "fountain-hand-out", "s")
         ran = place.run(TAKE_IN, "--recover", "s")
         yield from differs(f"{what} records", (ran[0], ran[2]), (0, ""))
         yield from differs(f"{what} records: the sheets", place.sheets(), mended_sheets())
@@ -422,6 +426,18 @@ def two_writers(place):
     yield from refuses("the third writer", place, 1, said, TAKE_IN, "--base=old", "draft", "s")
     yield from differs("the second writer again", take_in(place, second, "--base=old"), (0, "s has that text already, so nothing is changed\n", ""))
     yield from refuses("no such text", place, 3, "no file gone", TAKE_IN, "--base=gone", "draft", "s")
+
+    place.clear()
+    place.lock(MILL)
+    place.put("old", MILL)
+    expected = MILL.replace("lamp", "candle")
+    for at in range(1, 6):
+        place.put(f"draft {at}", MILL.replace(f"lamp in room {at}", f"candle in room {at}"))
+    runs = [place.start(TAKE_IN, "--base=old", f"draft {at}", "s") for at in range(1, 6)]
+    for run in runs:
+        said = run.communicate(timeout=SECONDS)[1].decode()
+        yield from differs("one of five writers at once", (run.returncode, said), (0, ""))
+    yield from differs("the text of five writers at once", (place.folder / "s").read_text(), expected)
 
 
 def large_script():

@@ -107,7 +107,7 @@ def parse(about, words, count):
     options, others = {}, []
     for word in words:
         name, sign, value = word.partition("=")
-        if word.startswith("-") and known.get(name) != sign:
+        if word.startswith("-") and (known.get(name) != sign or sign and not value):
             stop(f"usage: {usage} (--help tells more)", 2)
         if word.startswith("-"):
             options[name] = value
@@ -212,8 +212,12 @@ def copy_of(script, folder):
 
 @contextlib.contextmanager
 def turn_at(file):
-    """Waits until no other script is at work in the folder of a file, and keeps others waiting."""
-    folder = os.open(pathlib.Path(file).resolve().parent, os.O_RDONLY)
+    """Waits until no other script is at work in the folder of a file, and keeps others waiting; where there is no such folder, neither."""
+    try:
+        folder = os.open(pathlib.Path(file).resolve().parent, os.O_RDONLY)
+    except FileNotFoundError:
+        yield
+        return
     try:
         # Some file systems of a network have no such locks.
         with contextlib.suppress(OSError):

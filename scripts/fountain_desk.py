@@ -57,9 +57,9 @@ def round_of(file):
     return records_of(file).get("round", 0)
 
 
-def write(path, data):
+def write(name, data):
     """Puts bytes in the place of a file, or of none, whole or not at all; links are followed and permissions kept."""
-    path = pathlib.Path(os.path.realpath(path))
+    path = pathlib.Path(os.path.realpath(name))
     descriptor, beside = tempfile.mkstemp(prefix=f".{path.name[:200]}.", dir=path.parent)
     try:
         with open(descriptor, "wb") as file:
@@ -71,7 +71,7 @@ def write(path, data):
     except BaseException as fault:
         os.unlink(beside)
         if isinstance(fault, OSError):
-            fault.filename = str(path)
+            fault.filename = str(name)
         raise
 
 
