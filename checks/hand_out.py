@@ -297,6 +297,8 @@ def refusals(place):
     place.put("s-white.txt", "mine")
     yield from refuses("a file that is there", place, 1, "s-white.txt is there already and has something else: move it away", HAND_OUT, "s")
     (place.folder / "s-white.txt").unlink()
+    (place.folder / "s-white.txt").symlink_to("nowhere/s")
+    yield from refuses("a link that leads nowhere", place, 1, "s-white.txt: No such file or directory", HAND_OUT, "s")
     for what in ("text", "records"):
         place.clear()
         place.put("s", script_of(rooms(2)))

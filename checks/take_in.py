@@ -3,6 +3,7 @@ least number of lines that can differ, and against the rules of texts; with refu
 a script with locked pages, two writers at once, and 200,000 lines."""
 
 import json
+import os
 import random
 import resource
 import shutil
@@ -334,10 +335,10 @@ def recovery(place):
     yield from mends("a kept copy", place, text)
     _, text = written_over(place)
     yield from mends("a kept copy, and CR LF", place, text.replace("\n", "\r\n"))
-    for name in ("s~", "old s.bak", "#s#"):
+    for name in ("s~", "old s.bak", "#s#", os.fsdecode(b"s\xff")):
         saved, text = written_over(place, copies=False)
         place.put(name, "\ufeff" + saved.replace("\n", "\r\n"))
-        yield from mends(f"the file {name}", place, text)
+        yield from mends(f"the file {name!r}", place, text)
     _, text = written_over(place, copies=False)
     place.put("s", text)
     place.put("other", MILL)

@@ -51,9 +51,9 @@ def run(main):
     """Calls a script's main with its words, and ends as it says."""
     end_on_signals()
     try:
-        # UTF-8, as the program writes.
-        sys.stdout.reconfigure(encoding="utf-8")
-        sys.stderr.reconfigure(encoding="utf-8", errors="backslashreplace")
+        # UTF-8, as the program writes; names of files may be none.
+        for stream in (sys.stdout, sys.stderr):
+            stream.reconfigure(encoding="utf-8", errors="backslashreplace")
         status = main(sys.argv[1:])
         sys.stdout.flush()
         sys.exit(status)

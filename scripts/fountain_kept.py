@@ -104,7 +104,7 @@ def all_or_nothing(file, text, made=()):
         if not before and folder_of(file).is_dir():
             folder_of(file).rmdir()
         for path in made:
-            pathlib.Path(path).unlink(missing_ok=True)
+            pathlib.Path(path).resolve().unlink(missing_ok=True)
         raise
 
 
