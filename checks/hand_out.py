@@ -162,10 +162,11 @@ def guide_day(place):
     begin = "Change memo: the-mill, Blue"
     memo = (TOP / "docs/GUIDE.md").read_text().split(f"    {begin}\n")[1].split("\n\n`")[0]
     yield from differs("the memo", (place.folder / "the-mill-blue-memo.txt").read_text(), "\n".join([begin, *[line[4:] for line in memo.split("\n")]]) + "\n")
-    sheets = place.sheets("the-mill.fountain")
+    sheets, handed = place.sheets("the-mill.fountain"), {name: data for name, data in place.files().items() if "blue" in name and "kept" not in name}
     ran = shell(place, of_guide("cp the-mill.fountain.kept/003-blue the-mill.fountain"))
     yield from differs("a hand-out is taken back", (ran.returncode, ran.stderr, place.records("the-mill.fountain")["round"], place.sheets("the-mill.fountain")), (0, "", 1, sheets))
     yield from differs("it is done again", place.run(HAND_OUT, "the-mill.fountain")[0], 0)
+    yield from differs("what it writes again", {name: place.files().get(name) for name in handed}, handed)
 
     commands = [{"do": "splice", "line": 2, "from": 0, "to": 3, "text": "One"}, {"do": "save"}, {"do": "splice", "line": 2, "from": 0, "to": 3, "text": "Each"}]
     crash(place, *commands)

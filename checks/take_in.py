@@ -360,15 +360,32 @@ def from_git(place):
     if not shutil.which("git"):
         print("take_in: skipped: nothing is looked for in git, since the Debian package git isn't installed")
         return
-    who = ["-c", "user.name=a", "-c", "user.email=a@b.invalid"]
-    for depth in (0, 2):
+    def git(*words):
+        subprocess.run(["git", "-c", "user.name=a", "-c", "user.email=a@b.invalid", *words], cwd=place.folder, check=True, stdout=subprocess.DEVNULL)
+
+    def commit(text):
+        place.put("s", text)
+        git("add", "s")
+        git("commit", "-qm", "another")
+
+    def stash(text):
+        place.put("s", text)
+        git("stash", "-q")
+
+    for what, do in (
+        ("a commit", lambda saved: commit(saved)),
+        ("an older commit", lambda saved: [commit(it) for it in (saved, "another", "others")]),
+        ("a commit that was amended", lambda saved: [commit(saved), git("commit", "-q", "--amend", "-m", "same"), commit("another"), git("reset", "-q", "--hard", "HEAD~2"), commit("others")]),
+        ("another branch", lambda saved: [git("switch", "-q", "-c", "other"), commit(saved), git("switch", "-q", "-"), commit("another")]),
+        ("the index", lambda saved: [place.put("s", saved), git("add", "s")]),
+        ("a stash", lambda saved: stash(saved)),
+        ("an older stash", lambda saved: [stash(saved), stash("another")]),
+    ):
         saved, text = written_over(place, copies=False)
-        subprocess.run(["git", "init", "-q"], cwd=place.folder, check=True)
-        for at, it in enumerate([MILL, saved, *["!another\n"] * depth]):
-            place.put("s", it * (at or 1) if it.startswith("!") else it)
-            subprocess.run(["git", "add", "s"], cwd=place.folder, check=True)
-            subprocess.run(["git", *who, "commit", "-qm", f"{at}"], cwd=place.folder, check=True)
-        yield from mends(f"git, {depth} commits ago", place, text)
+        git("init", "-q")
+        commit("first")
+        do(saved)
+        yield from mends(f"git, {what}", place, text)
 
 
 def broken_off(place):

@@ -129,12 +129,15 @@ def save(file, desk, old, text, number, files={}):
 
 
 def begun(file, records):
-    """The copy of the script as its present round began: the first of those kept in this round, where no edit had come yet."""
+    """The copy of the script as its present round began: the first of those that were last kept in this round one after the other and where no
+    edit had come yet. Copies of a later round are of a hand-out that was taken back."""
     base = None
     for copy in reversed(copies(file)):
         of = records_of(copy)
         if of.get("round") != records["round"]:
-            break
+            if base:
+                break
+            continue
         is_edited = records["round"] in of["marks"] or records["round"] in [page[3] for page in of["pages"] or ()]
         if of["scenes"] == records["scenes"] and not is_edited:
             base = copy
@@ -161,9 +164,9 @@ def git(file, *words):
 
 
 def texts_in_git(file):
-    """The names of what the file was in any branch, stash or commit of its repository, and in the index, the last first."""
+    """The names of what the file was in the index and in any commit of its repository: of a branch, of a stash or left behind by others."""
     said = git(file, "ls-files", "-s", "--", None)
-    said += git(file, "log", "--all", "-m", "--root", "--format=", "--raw", "--no-abbrev", "--", None)
+    said += git(file, "log", "--all", "--reflog", "-m", "--root", "--format=", "--raw", "--no-abbrev", "--", None)
     return list(dict.fromkeys(re.findall(rb"\b[0-9a-f]{40,64}\b", said)))
 
 
