@@ -481,6 +481,7 @@ def much_text(place):
         "shuffled": (part, rng.sample(part, len(part))),
         "nothing left": (lines, []),
         "another script": (lines, [f"!{at}" for at in range(199_000)]),
+        "each line of a block changed": ([f"!{at}" for at in range(199_000)], [f"!{at}." for at in range(199_000)]),
     }
     for what, (lines, draft) in drafts.items():
         place.clear()
