@@ -240,6 +240,7 @@ def refusals(place):
         yield from refuses(what, place, 4, line, TAKE_IN, "draft", "s")
     place.put("draft", MILL + "\nMore.\n")
     place.put("old", MILL)
+    yield from refuses("a script that is taken into its draft", place, 1, "s has locked pages, and draft has none: the draft is named first, and then the script", TAKE_IN, "s", "draft")
     yield from refuses("--base with --recover", place, 2, "--base is for a draft, and not for --recover", TAKE_IN, "--base=old", "--recover", "s")
     for what in ("text", "records"):
         place.lock(MILL)
