@@ -144,9 +144,11 @@ def memos(place):
         "  2A          Blue   new", "", "Scenes, each with the sheet that it begins on:", "  1   changed  INT. ROOM 1 - DAY, sheet 1", "  2A  new      EXT. YARD - DUSK, sheet 2A",
     ]
     yield from differs("the memo", place.run(MEMO, "s.fountain"), (0, "".join(f"{it}\n" for it in rows), ""))
-    shutil.rmtree(place.folder / "s.fountain.kept")
     rows[5], rows[9:] = "  2           Blue   changed", ["  2A  new  EXT. YARD - DUSK, sheet 2A"]
     rows += ["", "No copy of the script as this round began is kept, so a scene that only lost lines isn't told."]
+    place.put("s.fountain.kept/002-blue", "Somebody wrote here.\n")
+    yield from differs("the memo with a copy that was changed", place.run(MEMO, "s.fountain"), (0, "".join(f"{it}\n" for it in rows), ""))
+    shutil.rmtree(place.folder / "s.fountain.kept")
     yield from differs("the memo without a copy", place.run(MEMO, "s.fountain"), (0, "".join(f"{it}\n" for it in rows), ""))
 
 

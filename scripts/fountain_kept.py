@@ -129,8 +129,8 @@ def save(file, desk, old, text, number, files={}):
 
 
 def begun(file, records):
-    """The copy of the script as its present round began: the first of those that were last kept in this round one after the other and where no
-    edit had come yet. Copies of a later round are of a hand-out that was taken back."""
+    """The copy of the script as its present round began: the first of those that were last kept in this round, one after the other, where no
+    edit had come yet. Copies of a later round are of a hand-out that was taken back, and one of another text than its records was changed."""
     base = None
     for copy in reversed(copies(file)):
         of = records_of(copy)
@@ -139,7 +139,7 @@ def begun(file, records):
                 break
             continue
         is_edited = records["round"] in of["marks"] or records["round"] in [page[3] for page in of["pages"] or ()]
-        if of["scenes"] == records["scenes"] and not is_edited:
+        if of["scenes"] == records["scenes"] and not is_edited and is_of(read(copy), of["digest"]):
             base = copy
     return base
 
