@@ -1,6 +1,11 @@
 """Plays two weeks of a script department, as installed and by the guide alone: two writers with editors of their own, a coordinator, an
 assistant, four hand-outs; with drafts of one day, a crash, a run that is killed, an editor that saves over the script, and a second desk. What
-is on paper is held against the script as the check has it, which knows each line and when it changed."""
+is on paper is held against the script as the check has it, which knows each line and when it changed.
+
+    PROGRAM=MODEL python3 checks/department.py FOLDER
+
+plays the same weeks with another program, and keeps in FOLDER all sheets, packets, memos and records of each day; so two programs that
+follow the same rules leave the same files, which diff -r compares."""
 
 import os
 import pathlib
@@ -130,8 +135,9 @@ def unlike(what, found, expected):
 
 
 class Department:
-    def __init__(self, place, seed):
-        self.place, self.rng = place, random.Random(seed)
+    def __init__(self, place, seed, papers=None):
+        """All that is on paper is kept in the folder `papers`, where there is one."""
+        self.place, self.rng, self.papers, self.count = place, random.Random(seed), papers, 0
         self.make, self.round, self.kinds = Maker(self.rng), 0, []
         title = Paragraph("title", [Line("title", it, 0) for it in ("Title: The Mill", "Author: Anna and Bert", "Draft date: first")])
         self.play = self.begun = Screenplay([title, *(it for _ in range(SCENES) for it in self.make.scene(0, PARAGRAPHS))])
@@ -141,6 +147,13 @@ class Department:
 
     def path(self, name):
         return self.place.folder / name
+
+    def kept(self, name, text):
+        if self.papers:
+            self.papers.mkdir(parents=True, exist_ok=True)
+            self.count += 1
+            (self.papers / f"{self.count:03}-{name}").write_text(text)
+        return text
 
     def edits(self):
         return Edits(self.rng, self.make, self.round, self.kinds)
@@ -164,7 +177,7 @@ class Department:
 
     def on_paper(self, what):
         """The sheets show the script, row by row, with numbers beside headings, colours and stars."""
-        self.sheets = sheets_of(self.place.sheets(MILL))
+        self.sheets = sheets_of(self.kept("sheets", self.place.sheets(MILL)))
         spans = [it.span for it in self.sheets if it.span]
         yield from differs(f"{what}: labels rise", spans, sorted(set(spans)))
         yield from (f"{what}: sheet {it.label} has {len(it.body)} rows" for it in self.sheets if len(it.body) > 54)
@@ -361,10 +374,11 @@ class Department:
         yield from differs(f"the {colour} hand-out", (ran[0], ran[2]), (0, ""))
         now = self.place.sheets(MILL)
         yield from unlike(f"the sheets before the {colour} hand-out and behind it", now, before or now)
-        handed = self.path(f"{stem}.txt").read_text()
+        handed = self.kept(f"{stem}.txt", self.path(f"{stem}.txt").read_text())
+        self.kept("records", self.path(f"{MILL}.desk").read_text())
         if self.round:
             yield from self.packet(colour, sheets_of(handed))
-            yield from unlike(f"the {colour} memo", self.path(f"{stem}-memo.txt").read_text(), memo)
+            yield from unlike(f"the {colour} memo", self.kept(f"{stem}-memo.txt", self.path(f"{stem}-memo.txt").read_text()), memo)
             yield from self.memo(memo)
             line = of_guide("fountain collate book.txt").replace("the-mill-pink.txt", f"{stem}.txt")
             yield from differs(f"{colour} sheets are put in", shell(self.place, line).returncode, 0)
@@ -375,7 +389,7 @@ class Department:
             yield from self.is_right("the white sheets")
             labels = [it.label for it in self.book if it.label]
             yield from differs("white labels", labels, [str(at + 1) for at in range(len(labels))])
-        yield from unlike(f"the {colour} book", self.path(BOOK).read_text(), now)
+        yield from unlike(f"the {colour} book", self.kept(BOOK, self.path(BOOK).read_text()), now)
         yield from unlike(f"the {colour} sheets, put in by hand", "".join(f"{it.text}\f" for it in self.book), now)
         self.round += 1
         self.begun, self.begun_shown = self.play, self.shown
@@ -468,8 +482,8 @@ class Department:
         yield from differs(f"the pages of {file}", [sorted(it.split()) for it in pages], [sorted(it.text.split()) for it in sheets])
 
 
-def two_weeks(place, seed):
-    department = Department(place, seed)
+def two_weeks(place, seed, papers):
+    department = Department(place, seed, papers)
     days = (
         department.hand_out,
         department.two_drafts, department.hand_out,
@@ -482,27 +496,29 @@ def two_weeks(place, seed):
         yield f"{seed}: a change came near each sheet"
 
 
-def faults():
+def faults(papers):
     with tempfile.TemporaryDirectory() as folder:
         prefix = pathlib.Path(folder) / "a prefix ü"
         ran = subprocess.run([TOP / "install", prefix], capture_output=True, text=True)
         yield from differs("./install", (ran.returncode, ran.stderr), (0, f"install: {prefix}/bin isn't on the path yet\n"))
+        shutil.copy(PROGRAM, prefix / "bin/fountain")
         for seed in SEEDS:
             place = Installed(prefix, pathlib.Path(folder) / f"weeks {seed}")
 
             def weeks(place):
-                return two_weeks(place, seed)
+                return two_weeks(place, seed, papers and papers / f"{seed}")
 
             yield from found_by(weeks, place)
         yield from differs("the kinds of edits", Edits.made, {*KINDS, "moves"})
 
 
-def main():
+def main(folder=None):
+    papers = folder and pathlib.Path(folder)
     if not PROGRAM.exists():
         return tell("department", "nothing was played", ["the program isn't built"])
     lacks("department", "no PDF is made", "gs", "pdftotext")
-    return tell("department", f"two weeks of {len(SEEDS)} departments", list(faults()))
+    return tell("department", f"two weeks of {len(SEEDS)} departments", list(faults(papers)))
 
 
 if __name__ == "__main__":
-    sys.exit(main())
+    sys.exit(main(*sys.argv[1:]))

@@ -6,12 +6,13 @@ import json
 import random
 import resource
 import shutil
+import signal
 import sys
 import tempfile
 import time
 
 from installed import MOST_SECONDS, Place, Scene, crash, differs, ended_anywhere, of_guide, omitted, refuses, script_of, seconds_of_children, sheet, shell
-from program import PROGRAM, TOP
+from program import PROGRAM, SECONDS, TOP
 from report import found_by, tell
 
 HAND_OUT, TAKE_IN, MEMO = "fountain-hand-out", "fountain-take-in", "fountain-memo"
@@ -143,9 +144,11 @@ def memos(place):
         "  2A          Blue   new", "", "Scenes, each with the sheet that it begins on:", "  1   changed  INT. ROOM 1 - DAY, sheet 1", "  2A  new      EXT. YARD - DUSK, sheet 2A",
     ]
     yield from differs("the memo", place.run(MEMO, "s.fountain"), (0, "".join(f"{it}\n" for it in rows), ""))
-    shutil.rmtree(place.folder / "s.fountain.kept")
     rows[5], rows[9:] = "  2           Blue   changed", ["  2A  new  EXT. YARD - DUSK, sheet 2A"]
     rows += ["", "No copy of the script as this round began is kept, so a scene that only lost lines isn't told."]
+    place.put("s.fountain.kept/002-blue", "Somebody wrote here.\n")
+    yield from differs("the memo with a copy that was changed", place.run(MEMO, "s.fountain"), (0, "".join(f"{it}\n" for it in rows), ""))
+    shutil.rmtree(place.folder / "s.fountain.kept")
     yield from differs("the memo without a copy", place.run(MEMO, "s.fountain"), (0, "".join(f"{it}\n" for it in rows), ""))
 
 
@@ -161,10 +164,11 @@ def guide_day(place):
     begin = "Change memo: the-mill, Blue"
     memo = (TOP / "docs/GUIDE.md").read_text().split(f"    {begin}\n")[1].split("\n\n`")[0]
     yield from differs("the memo", (place.folder / "the-mill-blue-memo.txt").read_text(), "\n".join([begin, *[line[4:] for line in memo.split("\n")]]) + "\n")
-    sheets = place.sheets("the-mill.fountain")
+    sheets, handed = place.sheets("the-mill.fountain"), {name: data for name, data in place.files().items() if "blue" in name and "kept" not in name}
     ran = shell(place, of_guide("cp the-mill.fountain.kept/003-blue the-mill.fountain"))
     yield from differs("a hand-out is taken back", (ran.returncode, ran.stderr, place.records("the-mill.fountain")["round"], place.sheets("the-mill.fountain")), (0, "", 1, sheets))
     yield from differs("it is done again", place.run(HAND_OUT, "the-mill.fountain")[0], 0)
+    yield from differs("what it writes again", {name: place.files().get(name) for name in handed}, handed)
 
     commands = [{"do": "splice", "line": 2, "from": 0, "to": 3, "text": "One"}, {"do": "save"}, {"do": "splice", "line": 2, "from": 0, "to": 3, "text": "Each"}]
     crash(place, *commands)
@@ -216,6 +220,62 @@ def other_beginnings(place):
     yield from differs("a script below", place.run(HAND_OUT, "below/s.fountain")[1].split(":")[0], "below/s-white.txt")
 
 
+def renamed(place):
+    """A locked script that was renamed without its records isn't locked anew, whatever its text is by then; with them it goes on, and where
+    they are moved away, or are of a script that is there or has no locks, a script is locked for the first time."""
+    text = script_of(rooms(2))
+
+    def begun(name):
+        place.clear()
+        place.put("s.fountain", text)
+        place.run(HAND_OUT, "s.fountain")
+        (place.folder / "s.fountain").rename(place.folder / name)
+
+    def said(file):
+        both = f"{file[:-len('t.fountain')]}s.fountain"
+        return f"{both}.desk has locked pages, and {both} is gone: if {file} is that script, rename {both}.desk and {both}.kept too; if not, move them away"
+
+    for what, after in (("renamed", text), ("renamed and changed", text.replace("late", "early")), ("renamed, with CR LF", text.replace("\n", "\r\n"))):
+        begun("t.fountain")
+        place.put("t.fountain", after)
+        place.put("draft", text)
+        for words in ((HAND_OUT,), (TAKE_IN, "draft"), (TAKE_IN, "--dry-run", "draft"), (TAKE_IN, "--recover"), (MEMO,)):
+            yield from refuses(f"a script that was {what}", place, 1, said("t.fountain"), *words, "t.fountain")
+        below = f"../{place.folder.name}/t.fountain"
+        yield from refuses(f"a script that was {what}, from below", place, 1, said(below), HAND_OUT, below)
+    # A desk may have saved it under its new name.
+    place.desk({"do": "save"}, file="t.fountain")
+    yield from refuses("a script that was renamed and saved", place, 1, said("t.fountain"), HAND_OUT, "t.fountain")
+    # Records of other scripts that are gone stand there too.
+    begun("t.fountain")
+    for name in ("a", "z"):
+        place.lock(script_of(rooms(3)), name)
+        (place.folder / name).unlink()
+    yield from refuses("a script among others that are gone", place, 1, said("t.fountain"), HAND_OUT, "t.fountain")
+    begun("t.fountain")
+    for ending in ("desk", "kept"):
+        (place.folder / f"s.fountain.{ending}").rename(place.folder / f"t.fountain.{ending}")
+    take_in(place, text.replace("late", "early", 1), "t.fountain")
+    yield from differs("a script that was renamed with its records", place.run(HAND_OUT, "t.fountain")[1].splitlines()[0], "t-blue.txt: hand out 1 sheet: 1")
+
+    def away(place):
+        (place.folder / "s.fountain.desk").rename(place.folder / "away")
+
+    def not_locked(place):
+        away(place)
+        place.put("s.fountain", text)
+        place.desk({"do": "save"}, file="s.fountain")
+        (place.folder / "s.fountain").unlink()
+
+    for what, done in (
+        ("were moved away", away), ("lock nothing", not_locked), ("are no record file", lambda place: place.put("s.fountain.desk", "[" * 100_000)),
+        ("are of a script that is there", lambda place: place.put("s.fountain", text)),
+    ):
+        begun("t.fountain")
+        done(place)
+        yield from differs(f"a first day where records {what}", place.run(HAND_OUT, "t.fountain")[1].splitlines()[:1], ["t-white.txt: hand out all 2 sheets"])
+
+
 # Refusals, and runs that are ended
 
 
@@ -224,7 +284,8 @@ def refusals(place):
     for words in ((), ("--a4",), ("s", "t"), ("--letter", "s"), ("--a4=1", "s")):
         yield from refuses(f"{words}", place, 2, usage, HAND_OUT, *words)
     yield from refuses("no memo", place, 2, "usage: fountain-memo FILE (--help tells more)", MEMO)
-    yield from refuses("a script that isn't there", place, 3, "no file gone", HAND_OUT, "gone")
+    for name in ("gone", "gone/s"):
+        yield from refuses("a script that isn't there", place, 3, f"no file {name}", HAND_OUT, name)
     for what, text, line in (
         ("a number that falls", "INT. A - DAY\n\nINT. B - DAY\n\nINT. C - DAY #2#\n", "s, line 5: its scene number isn't above that of the heading before"),
         ("a number that is none", "\nINT. A - DAY #A1#\n", "s, line 2: its scene number can't be locked: it is no label, or 0"),
@@ -239,6 +300,8 @@ def refusals(place):
     place.put("s-white.txt", "mine")
     yield from refuses("a file that is there", place, 1, "s-white.txt is there already and has something else: move it away", HAND_OUT, "s")
     (place.folder / "s-white.txt").unlink()
+    (place.folder / "s-white.txt").symlink_to("nowhere/s")
+    yield from refuses("a link that leads nowhere", place, 1, "s-white.txt: No such file or directory", HAND_OUT, "s")
     for what in ("text", "records"):
         place.clear()
         place.put("s", script_of(rooms(2)))
@@ -293,6 +356,66 @@ def ended(place):
             yield from differs(f"{name} in the end", place.files().get(name) == whole[name], True)
 
 
+def copies(place):
+    """What goes wrong with a copy ends a run before it does anything, or is told where the script is saved already."""
+    for name, status in (("001-white", 1), ("002-blue", 1), ("002-blue.desk", 0)):
+        place.clear()
+        place.put("s", script_of(rooms(2)))
+        (place.folder / "s.kept" / name / "full").mkdir(parents=True)
+        if status:
+            yield from refuses(f"a folder {name}", place, 1, f"s.kept/{name}: Is a directory", HAND_OUT, "s")
+            continue
+        said = f"fountain-hand-out: s.kept/{name}: Is a directory; s is saved, and that copy of it has no records\n"
+        out = "s-white.txt: hand out all 2 sheets\nwhat is changed in s from now on is Blue\n"
+        yield from differs(f"a folder {name}", place.run(HAND_OUT, "s"), (0, out, said))
+        shutil.rmtree(place.folder / "s.kept" / name)
+        take_in(place, script_of(rooms(1)), "s")
+        yield from differs("the copies behind it", place.run("fountain", "print", "s.kept/003-blue")[1], (place.folder / "s-white.txt").read_text())
+
+
+def bad_times(place):
+    """A run that is interrupted as its desk saves does all that it does else, and says so. One whose desk ends before the save leaves all as it
+    was, and one whose desk ends behind it has done all but the last copy's records."""
+    text = script_of(rooms(3))
+    place.put("s", text)
+    place.run(HAND_OUT, "s")
+    place.put("draft", text.replace("late", "early", 1))
+    for words in ((TAKE_IN, "draft", "s"), (HAND_OUT, "s")):
+        begun = place.files()
+        before = {name: data for name, data in begun.items() if data is not None}
+        ran = place.run(*words)
+        whole = place.files()
+
+        def again():
+            place.clear()
+            (place.folder / "s.kept").mkdir()
+            for name, data in before.items():
+                place.put(name, data)
+
+        place.pass_saves(f"touch '{place.bin}/saves'; sleep 1")
+        for number in (signal.SIGINT, signal.SIGTERM, signal.SIGHUP):
+            again()
+            (place.bin / "saves").unlink(missing_ok=True)
+            script = place.start(*words)
+            while script.poll() is None and not (place.bin / "saves").exists():
+                time.sleep(0.01)
+            script.send_signal(number)
+            out, said = script.communicate(timeout=SECONDS)
+            what = f"{words[0]}, interrupted by {number.name} at its save"
+            yield from differs(f"{what}, ends", (script.returncode, out.decode(), said.decode()), (128 + number, ran[1], ""))
+            yield from differs(f"{what}, leaves", sorted(name for name in whole if place.files().get(name) != whole[name]), [])
+        again()
+        place.pass_saves("break")
+        yield from refuses(f"{words[0]}, whose desk ends before its save", place, 1, "s: the desk ended", *words)
+        place.pass_saves(behind="break", replies="sed -u /digest/d")
+        yield from differs(f"{words[0]}, whose desk ends behind its save", place.run(*words), (1, "", f"{words[0]}: s: the desk ended\n"))
+        left = sorted(name for name in whole if place.files().get(name) != whole[name])
+        yield from differs("the files that lack then", left, [max(name for name in whole if name.startswith("s.kept") and name.endswith(".desk"))])
+        place.pass_saves()
+        again()
+        place.run(*words)
+
+
 def much_text(place):
     """200,000 lines are handed out, changed and handed out again in seconds."""
     lines = []
@@ -312,7 +435,7 @@ def much_text(place):
         yield "both, collated, aren't the present sheets"
 
 
-CHECKS = [three_days, many_days, memos, guide_day, options, other_beginnings, refusals, ended, much_text]
+CHECKS = [three_days, many_days, memos, guide_day, options, other_beginnings, renamed, refusals, ended, copies, bad_times, much_text]
 
 
 def faults_of(check):

@@ -38,7 +38,7 @@ class Place:
         self.bin.mkdir()
         self.folder.mkdir()
         (self.bin / "fountain").symlink_to(PROGRAM)
-        for path in (TOP / "scripts").iterdir():
+        for path in (*(TOP / "scripts").iterdir(), TOP / "examples/clients/fountain_client.py"):
             if path.is_file():
                 shutil.copy(path, prefix / "share/fountain" if path.suffix == ".py" else self.bin)
 
@@ -83,6 +83,23 @@ class Place:
             (self.folder / "s.desk").symlink_to("records/s.desk")
         for number in range(100):
             ((folder if what == "records" else self.folder) / f".fountain-saving-{number}").write_bytes(b"")
+
+    def pass_saves(self, before=":", behind=":", replies="cat"):
+        """Has a shell do this before and behind each save that a desk gets from here on, and hand its replies on so."""
+        program = self.bin / "fountain"
+        program.unlink()
+        program.write_text(
+            f"""#!/bin/sh
+            [ "$1" = desk ] || exec "{PROGRAM}" "$@"
+            while IFS= read -r line; do
+                case $line in
+                    *'"save"'*) {before}; printf '%s\\n' "$line"; {behind} ;;
+                    *) printf '%s\\n' "$line" ;;
+                esac
+            done | "{PROGRAM}" "$@" | {replies}
+            """
+        )
+        program.chmod(0o755)
 
     def files(self):
         """All that the folder has, each file with its bytes."""

@@ -9,7 +9,6 @@ import pathlib
 import pty
 import re
 import select
-import subprocess
 import sys
 import tempfile
 import time

@@ -1,13 +1,15 @@
 """The built program, and sessions of it that are asked one command after the other."""
 
 import json
+import os
 import pathlib
 import select
 import shutil
 import subprocess
 
 TOP = pathlib.Path(__file__).resolve().parent.parent
-PROGRAM = TOP / "crates/fountain_cli/out/fountain_cli"
+# Another program can be tried in place of the built one, as a model of the rules.
+PROGRAM = pathlib.Path(os.environ.get("PROGRAM", TOP / "crates/fountain_cli/out/fountain_cli")).absolute()
 SECONDS = 60
 SAVE = {"do": "save"}
 LABELS = {"do": "labels"}

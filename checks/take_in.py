@@ -3,6 +3,7 @@ least number of lines that can differ, and against the rules of texts; with refu
 a script with locked pages, two writers at once, and 200,000 lines."""
 
 import json
+import os
 import random
 import resource
 import shutil
@@ -11,7 +12,7 @@ import sys
 import time
 
 from installed import MOST_SECONDS, Place, Scene, differs, digest, ended_anywhere, omitted, refuses, script_of, seconds_of_children, sheet, text_by_rules
-from program import PROGRAM
+from program import PROGRAM, SECONDS
 from report import faults_by, tell
 from tools import lacks
 
@@ -222,12 +223,13 @@ def crafted(place, **fields):
 
 def refusals(place):
     usage = "usage: fountain-take-in [--dry-run] [--base=OLD] DRAFT FILE, or fountain-take-in [--dry-run] --recover FILE (--help tells more)"
-    for words in ((), ("draft",), ("--other", "draft", "s"), ("a", "b", "c"), ("--recover", "draft", "s"), ("--dry-run=1", "draft", "s"), ("--base", "draft", "s")):
+    for words in ((), ("draft",), ("--other", "draft", "s"), ("a", "b", "c"), ("--recover", "draft", "s"), ("--dry-run=1", "draft", "s"), ("--base", "draft", "s"), ("--base=", "draft", "s")):
         yield from refuses(f"{words}", place, 2, usage, TAKE_IN, *words)
     place.lock(MILL)
     place.put("draft", MILL + "\nMore.\n")
     yield from refuses("a draft that isn't there", place, 3, "no file gone", TAKE_IN, "gone", "s")
-    yield from refuses("a script that isn't there", place, 3, "no file gone", TAKE_IN, "draft", "gone")
+    for name in ("gone", "gone/s"):
+        yield from refuses("a script that isn't there", place, 3, f"no file {name}", TAKE_IN, "draft", name)
     yield from refuses("a folder", place, 1, f"{place.folder.name}: Is a directory".replace(place.folder.name, "."), TAKE_IN, ".", "s")
     for what, draft, line in (
         ("bytes that are no UTF-8", b"!a\xff", "draft: not UTF-8 at byte 2"),
@@ -239,6 +241,7 @@ def refusals(place):
         yield from refuses(what, place, 4, line, TAKE_IN, "draft", "s")
     place.put("draft", MILL + "\nMore.\n")
     place.put("old", MILL)
+    yield from refuses("a script that is taken into its draft", place, 1, "s has locked pages, and draft has none: the draft is named first, and then the script", TAKE_IN, "s", "draft")
     yield from refuses("--base with --recover", place, 2, "--base is for a draft, and not for --recover", TAKE_IN, "--base=old", "--recover", "s")
     for what in ("text", "records"):
         place.lock(MILL)
@@ -334,10 +337,10 @@ def recovery(place):
     yield from mends("a kept copy", place, text)
     _, text = written_over(place)
     yield from mends("a kept copy, and CR LF", place, text.replace("\n", "\r\n"))
-    for name in ("s~", "old s.bak", "#s#"):
+    for name in ("s~", "old s.bak", "#s#", os.fsdecode(b"s\xff")):
         saved, text = written_over(place, copies=False)
         place.put(name, "\ufeff" + saved.replace("\n", "\r\n"))
-        yield from mends(f"the file {name}", place, text)
+        yield from mends(f"the file {name!r}", place, text)
     _, text = written_over(place, copies=False)
     place.put("s", text)
     place.put("other", MILL)
@@ -358,15 +361,32 @@ def recovery(place):
 def from_git(place):
     if lacks("take_in", "nothing is looked for in git", "git"):
         return
-    who = ["-c", "user.name=a", "-c", "user.email=a@b.invalid"]
-    for depth in (0, 2):
+    def git(*words):
+        subprocess.run(["git", "-c", "user.name=a", "-c", "user.email=a@b.invalid", *words], cwd=place.folder, check=True, stdout=subprocess.DEVNULL)
+
+    def commit(text):
+        place.put("s", text)
+        git("add", "s")
+        git("commit", "-qm", "another")
+
+    def stash(text):
+        place.put("s", text)
+        git("stash", "-q")
+
+    for what, do in (
+        ("a commit", lambda saved: commit(saved)),
+        ("an older commit", lambda saved: [commit(it) for it in (saved, "another", "others")]),
+        ("a commit that was amended", lambda saved: [commit(saved), git("commit", "-q", "--amend", "-m", "same"), commit("another"), git("reset", "-q", "--hard", "HEAD~2"), commit("others")]),
+        ("another branch", lambda saved: [git("switch", "-q", "-c", "other"), commit(saved), git("switch", "-q", "-"), commit("another")]),
+        ("the index", lambda saved: [place.put("s", saved), git("add", "s")]),
+        ("a stash", lambda saved: stash(saved)),
+        ("an older stash", lambda saved: [stash(saved), stash("another")]),
+    ):
         saved, text = written_over(place, copies=False)
-        subprocess.run(["git", "init", "-q"], cwd=place.folder, check=True)
-        for at, it in enumerate([MILL, saved, *["!another\n"] * depth]):
-            place.put("s", it * (at or 1) if it.startswith("!") else it)
-            subprocess.run(["git", "add", "s"], cwd=place.folder, check=True)
-            subprocess.run(["git", *who, "commit", "-qm", f"{at}"], cwd=place.folder, check=True)
-        yield from mends(f"git, {depth} commits ago", place, text)
+        git("init", "-q")
+        commit("first")
+        do(saved)
+        yield from mends(f"git, {what}", place, text)
 
 
 def broken_off(place):
@@ -400,6 +420,9 @@ def lost_records(place):
             said = "s.desk is gone, and pages are locked in s.kept/002-blue; fountain-take-in --recover s puts it back, or move s.kept away to lock anew"
             yield from refuses("a draft without records", place, 1, said, TAKE_IN, "draft", "s")
             yield from refuses("a hand-out without records", place, 1, said, "fountain-hand-out", "s")
+            # A run that was killed may have left the copy of a text that wasn't saved.
+            place.put("s.kept/003-blue", text)
+            yield from refuses("a hand-out without records after a kill", place, 1, said, "fountain-hand-out", "s")
         ran = place.run(TAKE_IN, "--recover", "s")
         yield from differs(f"{what} records", (ran[0], ran[2]), (0, ""))
         yield from differs(f"{what} records: the sheets", place.sheets(), mended_sheets())
@@ -422,6 +445,18 @@ def two_writers(place):
     yield from refuses("the third writer", place, 1, said, TAKE_IN, "--base=old", "draft", "s")
     yield from differs("the second writer again", take_in(place, second, "--base=old"), (0, "s has that text already, so nothing is changed\n", ""))
     yield from refuses("no such text", place, 3, "no file gone", TAKE_IN, "--base=gone", "draft", "s")
+
+    place.clear()
+    place.lock(MILL)
+    place.put("old", MILL)
+    expected = MILL.replace("lamp", "candle")
+    for at in range(1, 6):
+        place.put(f"draft {at}", MILL.replace(f"lamp in room {at}", f"candle in room {at}"))
+    runs = [place.start(TAKE_IN, "--base=old", f"draft {at}", "s") for at in range(1, 6)]
+    for run in runs:
+        said = run.communicate(timeout=SECONDS)[1].decode()
+        yield from differs("one of five writers at once", (run.returncode, said), (0, ""))
+    yield from differs("the text of five writers at once", (place.folder / "s").read_text(), expected)
 
 
 def large_script():
@@ -447,6 +482,7 @@ def much_text(place):
         "shuffled": (part, rng.sample(part, len(part))),
         "nothing left": (lines, []),
         "another script": (lines, [f"!{at}" for at in range(199_000)]),
+        "each line of a block changed": ([f"!{at}" for at in range(199_000)], [f"!{at}." for at in range(199_000)]),
     }
     for what, (lines, draft) in drafts.items():
         place.clear()

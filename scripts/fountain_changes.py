@@ -326,7 +326,8 @@ def joined(changes):
     for change in changes:
         last = out[-1] if out else None
         if last and change.is_paired and last.is_paired and (last.first + last.count, last.at + last.count) == (change.first, change.at):
-            out[-1] = last._replace(count=last.count + change.count, lines=last.lines + change.lines)
+            last.lines.extend(change.lines)
+            out[-1] = last._replace(count=last.count + change.count)
         else:
             out.append(change)
     return out

@@ -17,6 +17,7 @@ import fountain_client
 
 COLOURS = ("White", "Blue", "Pink", "Yellow", "Green", "Goldenrod", "Buff", "Salmon", "Cherry", "Tan")
 ORDINALS = {1: "st", 2: "nd", 3: "rd"}
+INTERRUPTS = (signal.SIGINT, signal.SIGTERM, signal.SIGHUP)
 # The most lines and bytes of a text, and the most bytes of one of its lines and of a command line.
 LINES, BYTES, LINE, COMMAND = 200_000, 16_777_216, 4096, 1_048_576
 
@@ -32,9 +33,19 @@ def stop(why, status=1):
 
 def on_signals(handler):
     """Has a handler take the signals that end a script. Those that are ignored, as by nohup, stay so."""
-    for number in (signal.SIGINT, signal.SIGTERM, signal.SIGHUP):
+    for number in INTERRUPTS:
         if signal.getsignal(number) != signal.SIG_IGN:
             signal.signal(number, handler)
+
+
+@contextlib.contextmanager
+def uninterrupted():
+    """Keeps an interrupt waiting until what is done in it is done whole."""
+    before = signal.pthread_sigmask(signal.SIG_BLOCK, INTERRUPTS)
+    try:
+        yield
+    finally:
+        signal.pthread_sigmask(signal.SIG_SETMASK, before)
 
 
 def run(main, status=1):
@@ -42,9 +53,9 @@ def run(main, status=1):
     so that nothing is left behind."""
     on_signals(lambda number, _: sys.exit(128 + number))
     try:
-        # UTF-8, as the program writes.
-        sys.stdout.reconfigure(encoding="utf-8")
-        sys.stderr.reconfigure(encoding="utf-8", errors="backslashreplace")
+        # UTF-8, as the program writes; names of files may be none.
+        for stream in (sys.stdout, sys.stderr):
+            stream.reconfigure(encoding="utf-8", errors="backslashreplace")
         ended = main(sys.argv[1:])
         sys.stdout.flush()
         sys.exit(ended)
@@ -103,7 +114,7 @@ def parse(about, words, count):
     options, others = {}, []
     for word in words:
         name, sign, value = word.partition("=")
-        if known.get(name) == sign:
+        if known.get(name) == sign and bool(value) == bool(sign):
             options[name] = value
         else:
             others.append(word)
@@ -202,7 +213,7 @@ def records_of(file):
     """What the record file of a script has; nothing where there is none, or where it is none."""
     try:
         records = json.loads(read(f"{file}.desk") or b"{}")
-    except ValueError:
+    except (ValueError, RecursionError):
         return {}
     return records if isinstance(records, dict) else {}
 
@@ -218,8 +229,12 @@ def copy_of(script, folder):
 
 @contextlib.contextmanager
 def turn_at(file):
-    """Waits until no other script is at work in the folder of a file, and keeps others waiting."""
-    folder = os.open(pathlib.Path(file).resolve().parent, os.O_RDONLY)
+    """Waits until no other script is at work in the folder of a file, and keeps others waiting; where there is no such folder, neither."""
+    try:
+        folder = os.open(pathlib.Path(file).resolve().parent, os.O_RDONLY)
+    except FileNotFoundError:
+        yield
+        return
     try:
         # Some file systems of a network have no such locks.
         with contextlib.suppress(OSError):

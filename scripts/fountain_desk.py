@@ -56,11 +56,11 @@ def round_of(file):
     return records_of(file).get("round", 0)
 
 
-def write(path, data):
+def write(name, data):
     """Puts bytes in the place of a file, or of none, whole or not at all; links are followed and permissions kept."""
-    path = pathlib.Path(os.path.realpath(path))
-    descriptor, beside = tempfile.mkstemp(prefix=f".{path.name[:200]}.", dir=path.parent)
+    path, beside = pathlib.Path(os.path.realpath(name)), None
     try:
+        descriptor, beside = tempfile.mkstemp(prefix=f".{path.name[:200]}.", dir=path.parent)
         with open(descriptor, "wb") as file:
             os.fchmod(descriptor, mode_of(path))
             file.write(data)
@@ -68,9 +68,10 @@ def write(path, data):
             os.fsync(descriptor)
         os.replace(beside, path)
     except BaseException as fault:
-        os.unlink(beside)
+        if beside:
+            os.unlink(beside)
         if isinstance(fault, OSError):
-            fault.filename = str(path)
+            fault.filename = str(name)
         raise
 
 

@@ -10,7 +10,7 @@ import shutil
 import subprocess
 
 from fountain_client import lines_of, text_of
-from fountain_common import BYTES, read, records_of, round_name, stop
+from fountain_common import BYTES, read, records_of, round_name, say, stop
 from fountain_desk import SAVE, Refused, digest_of, round_of, write
 
 COPY = re.compile(r"(\d+)-[0-9a-z-]+")
@@ -31,16 +31,40 @@ def copies(file):
     return sorted(found, key=number_of)
 
 
+def last_locked(file):
+    """The last copy of a script that has locked pages, or none."""
+    return next((copy for copy in reversed(copies(file)) if records_of(copy).get("pages")), None)
+
+
 def has_lost_records(file):
-    """Whether a script has no records, and its last copy has locked pages."""
-    return read(f"{file}.desk") is None and any(records_of(copy).get("pages") for copy in copies(file)[-1:])
+    """Whether a script has no records, and a copy of it has locked pages."""
+    return read(f"{file}.desk") is None and last_locked(file) is not None
+
+
+def name_before(file):
+    """The name that a script without locked pages may have had before: that of a script that isn't beside it, with records there that have
+    some. Of several the one whose records are of this text, and none where there is no such name."""
+    if records_of(file).get("pages"):
+        return None
+    raw, found = read(file), {}
+    for path in sorted(pathlib.Path(file).parent.glob("*.desk")):
+        script = path.with_suffix("")
+        with contextlib.suppress(OSError):
+            records = records_of(script)
+            if records.get("pages") and not script.exists():
+                found[script] = is_of(raw, records.get("digest"))
+    return max(found, key=found.get, default=None)
 
 
 def stop_without_records(file):
     """Ends where a script has lost its records, since all that comes then would be numbered anew."""
     if has_lost_records(file):
         recover = f"fountain-take-in --recover {shlex.quote(str(file))} puts it back"
-        stop(f"{file}.desk is gone, and pages are locked in {copies(file)[-1]}; {recover}, or move {folder_of(file)} away to lock anew")
+        stop(f"{file}.desk is gone, and pages are locked in {last_locked(file)}; {recover}, or move {folder_of(file)} away to lock anew")
+    name = name_before(file)
+    if name:
+        both = f"{name}.desk and {folder_of(name)}"
+        stop(f"{name}.desk has locked pages, and {name} is gone: if {file} is that script, rename {both} too; if not, move them away")
 
 
 def keep(file, text, records, number):
@@ -62,55 +86,60 @@ def add(file, text, records, number):
 
 
 @contextlib.contextmanager
-def kept_if_done(file):
-    """Takes away the copies that are kept in it where something there is refused or fails."""
-    before = copies(file)
+def all_or_nothing(file, text, made=()):
+    """Where something in it is refused or fails, all is left as it was: copies that were kept in it and the files that it made go, and the
+    script, if it has this text by then, gets back what it had. A desk that ended behind its save has done all of it."""
+    old, records, before = read(file), read(f"{file}.desk"), copies(file)
     try:
         yield
-    except (Refused, OSError):
+    except (Refused, OSError, SystemExit) as fault:
+        if isinstance(fault, SystemExit) and read(f"{file}.desk") != records:
+            raise
+        if read(file) == text != old:
+            # It was stored, and its records weren't.
+            write(file, old)
         for copy in copies(file)[len(before) :]:
             copy.unlink()
             pathlib.Path(f"{copy}.desk").unlink(missing_ok=True)
         if not before and folder_of(file).is_dir():
             folder_of(file).rmdir()
+        for path in made:
+            pathlib.Path(path).resolve().unlink(missing_ok=True)
         raise
 
 
 def save(file, desk, old, text, number, files={}):
     """Keeps a script, which has these old bytes, and the text that comes, which is in the round of this number; writes the other files; and
-    has the desk save. The text is kept before, so that records are always of a text that is there. Where something is refused or fails, all
-    is left as it was."""
+    has the desk save, all of it or nothing. The text is kept before, so that records are always of a text that is there."""
     if read(file) != old:
         stop(f"{file} was changed by another program in the meantime")
     made = [path for path in files if read(path) is None]
-    with kept_if_done(file):
-        try:
-            for path in made:
-                write(path, files[path])
-            keep(file, old, read(f"{file}.desk"), round_of(file))
-            copy = add(file, text, None, number)
-            reply = desk.ask(SAVE)
-        except (Refused, OSError):
-            if read(file) == text != old:
-                # It was stored, and its records weren't.
-                write(file, old)
-            for path in made:
-                pathlib.Path(path).unlink(missing_ok=True)
-            raise
+    with all_or_nothing(file, text, made):
+        for path in made:
+            write(path, files[path])
+        keep(file, old, read(f"{file}.desk"), round_of(file))
+        copy = add(file, text, None, number)
+        reply = desk.ask(SAVE)
     if reply["digest"] != digest_of(text):
         stop(f"{file} was changed by another program in the meantime: {folder_of(file)} has what it was")
-    write(f"{copy}.desk", read(f"{file}.desk"))
+    try:
+        write(f"{copy}.desk", read(f"{file}.desk"))
+    except OSError as fault:
+        say(f"{fault.filename}: {fault.strerror}; {file} is saved, and that copy of it has no records")
 
 
 def begun(file, records):
-    """The copy of the script as its present round began: the first of those kept in this round, where no edit had come yet."""
+    """The copy of the script as its present round began: the first of those that were last kept in this round, one after the other, where no
+    edit had come yet. Copies of a later round are of a hand-out that was taken back, and one of another text than its records was changed."""
     base = None
     for copy in reversed(copies(file)):
         of = records_of(copy)
         if of.get("round") != records["round"]:
-            break
+            if base:
+                break
+            continue
         is_edited = records["round"] in of["marks"] or records["round"] in [page[3] for page in of["pages"] or ()]
-        if of["scenes"] == records["scenes"] and not is_edited:
+        if of["scenes"] == records["scenes"] and not is_edited and is_of(read(copy), of["digest"]):
             base = copy
     return base
 
@@ -135,9 +164,9 @@ def git(file, *words):
 
 
 def texts_in_git(file):
-    """The names of what the file was in any branch, stash or commit of its repository, and in the index, the last first."""
+    """The names of what the file was in the index and in any commit of its repository: of a branch, of a stash or left behind by others."""
     said = git(file, "ls-files", "-s", "--", None)
-    said += git(file, "log", "--all", "-m", "--root", "--format=", "--raw", "--no-abbrev", "--", None)
+    said += git(file, "log", "--all", "--reflog", "-m", "--root", "--format=", "--raw", "--no-abbrev", "--", None)
     return list(dict.fromkeys(re.findall(rb"\b[0-9a-f]{40,64}\b", said)))
 
 
