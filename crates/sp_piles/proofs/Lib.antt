@@ -1,2 +1,3 @@
+pub mod SettlingLaws
 pub mod PileLaws
 pub mod GapPlaces

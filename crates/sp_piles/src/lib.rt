@@ -1,10 +1,13 @@
-//! Stanzas in two piles with a gap between them: how many lines the piles have, where the gap goes, and which of the stanzas behind it stay.
+//! Stanzas in two piles with a gap between them: how many lines the piles have, which of their stanzas have headings or speeches, where the
+//! gap goes, and which of the stanzas behind it stay.
 #![tactic(auto)]
 
 mod pile;
 mod seek;
+mod settling;
 mod window;
 
 pub use pile::Pile;
 pub use seek::{seek_line, seek_stanza};
+pub use settling::{next_settling, settled_before, stanza_settles};
 pub use window::{ends, pass};

@@ -1,18 +1,23 @@
 //! Stanzas in a pile.
-ghost use Rattle.std.specs.Prelude.{◌≡◌, ◌<◌, ◌≤◌, ◌+◌, ◌-◌, ◌++◌, ◌∷◌, [], Some, length, take, slice_get, slice_index, slice_set, OnOk, IsOk};
+ghost use Rattle.std.specs.Prelude.{◌≡◌, ◌<◌, ◌≤◌, ◌+◌, ◌-◌, ◌++◌, ◌∷◌, [], Some, false, length, take, drop, slice_get, slice_set, IfNone, IfSome, OnOk, IsOk};
+ghost use Rattle.std.specs.List.{list_any};
+ghost use Rattle.spec_reread.specs.Settling.{IsNextSettling, IsSettledBefore, stanza_settles};
 ghost use Rattle.spec_reread.specs.Windows.{stanza_lines_in};
-ghost use Rattle.sp_piles.specs.Piles.{PileState, line_counts};
+ghost use Rattle.sp_piles.specs.Gaps.{IsShifted};
+ghost use Rattle.sp_piles.specs.Piles.{IsSettledWith, PileState, summaries, summary_of};
 
+use crate::stanza_settles;
 use sp_block_values::Stanza;
 use sp_runs::make_room;
 use std::alloc::{AllocError, Global};
 use std::marker::Model;
 use std::mem;
 
-/// A stanza, and how many lines it and those before it have.
+/// A stanza, how many lines it and those before it have, and the place behind the last of them that has a heading or a speech, or 0.
 #[derive(Drop)]
 pub struct Entry {
     end: usize,
+    settled: usize,
     stanza: Stanza,
 }
 
@@ -21,10 +26,10 @@ impl Model for Entry {
 
     ghost Value = { EntryOf };
 
-    ghost view = { λ e. record { end = e.end; stanza = e.stanza } };
+    ghost view = { λ e. record { end = e.end; settled = e.settled; stanza = e.stanza } };
 }
 
-/// Stanzas one after another. How many lines the first of them have is told at once.
+/// Stanzas one after another. How many lines the first of them have, and which of them was the last to settle who spoke, is told at once.
 #[derive(Drop)]
 pub struct Pile {
     entries: Vec<Entry>,
@@ -32,13 +37,13 @@ pub struct Pile {
 
 impl Model for Pile {
     ghost use Rattle.std.specs.Prelude.{map, vec_capacity};
-    ghost use Rattle.sp_piles.specs.Piles.{PileState, IsSummed, stanza_in};
+    ghost use Rattle.sp_piles.specs.Piles.{AreSettled, IsSummed, PileState, stanza_in};
 
     ghost Value = { PileState };
 
     ghost view = { λ p. record { stanzas = map stanza_in p.entries.items; room = vec_capacity p.entries } };
 
-    ghost invariant = { λ p. IsSummed p.entries.items };
+    ghost invariant = { λ p. IsSummed p.entries.items × AreSettled p.entries.items };
 }
 
 impl Pile {
@@ -78,6 +83,42 @@ impl Pile {
         }
     }
 
+    /// The place behind the last of the first `count` stanzas that has a heading or a speech, or 0.
+    pub fn settled_in(&self, count: usize) -> usize
+        requires { count ≤ length self.now.stanzas }
+        ensures { IsSettledBefore self.now.stanzas count result }
+    {
+        if count == 0 {
+            0
+        } else {
+            let entry = &self.entries[count - 1];
+            entry.settled
+        }
+    }
+
+    /// The first stanza from a place on that has a heading or a speech. It is found by halves.
+    pub fn next_settling(&self, from: usize) -> Option<usize>
+        requires { from ≤ length self.now.stanzas }
+        ensures some { IfSome result (IsNextSettling self.now.stanzas from) }
+        ensures none { IfNone result (list_any stanza_settles (drop from self.now.stanzas) ≡ false) }
+    {
+        let count = self.len();
+        if self.settled_in(count) <= from {
+            return None;
+        }
+        let mut low = from;
+        let mut high = count;
+        while high - low > 1 {
+            let middle = low + (high - low) / 2;
+            if self.settled_in(middle) > from {
+                high = middle;
+            } else {
+                low = middle;
+            }
+        }
+        Some(low)
+    }
+
     /// Lends the stanza at a place, from 0.
     pub fn stanza(&self, i: usize) -> &Stanza
         requires { i < length self.now.stanzas }
@@ -104,17 +145,60 @@ impl Pile {
         ensures stanzas { self.new.stanzas ≡ self.old.stanzas ++ stanza ∷ [] }
         ensures room { self.new.room ≡ self.old.room }
     {
-        let end = self.lines_in(self.len()) + stanza.lines as usize;
-        self.entries.push_reserved(Entry { end, stanza });
+        let settles = stanza_settles(&stanza);
+        self.push_told(stanza, settles);
     }
 
-    /// Exchanges a stanza with another of as many lines. The others keep their places and their lines.
+    /// The same of a stanza of which it is known whether it has a heading or a speech.
+    fn push_told(&mut self, stanza: Stanza, settles: bool)
+        requires room { length self.old.stanzas < self.old.room }
+        requires low { stanza_lines_in self.old.stanzas + stanza.lines ≤ 18446744073709551615 }
+        requires told { settles ≡ stanza_settles stanza }
+        ensures stanzas { self.new.stanzas ≡ self.old.stanzas ++ stanza ∷ [] }
+        ensures room { self.new.room ≡ self.old.room }
+    {
+        let end = self.lines_in(self.len()) + stanza.lines as usize;
+        let settled = self.settled_with(settles);
+        self.entries.push_reserved(Entry {
+            end,
+            settled,
+            stanza,
+        });
+    }
+
+    /// The place behind the last stanza that has a heading or a speech, or 0, once another stanza came.
+    fn settled_with(&self, settles: bool) -> usize
+        ensures { IsSettledWith self.now.stanzas settles result }
+    {
+        let count = self.len();
+        if settles {
+            count + 1
+        } else {
+            self.settled_in(count)
+        }
+    }
+
+    /// Moves the last stanza onto another pile, which has room for it.
+    pub fn shift(&mut self, to: &mut Pile)
+        requires some { 0 < length self.old.stanzas }
+        requires room { length to.old.stanzas < to.old.room }
+        requires low { stanza_lines_in self.old.stanzas + stanza_lines_in to.old.stanzas ≤ 18446744073709551615 }
+        ensures shifted { IsShifted self.old.stanzas to.old.stanzas self.new.stanzas to.new.stanzas }
+        ensures from_room { self.new.room ≡ self.old.room }
+        ensures to_room { to.new.room ≡ to.old.room }
+    {
+        let count = self.len();
+        let settles = self.settled_in(count) == count;
+        to.push_told(self.take_last(), settles);
+    }
+
+    /// Exchanges a stanza with another of as many lines that has a heading or a speech where it has one. The others keep their places
+    /// and their lines.
     pub fn swap(&mut self, i: usize, stanza: &mut Stanza)
-        requires place { i < length self.old.stanzas }
-        requires lines { slice_index (line_counts self.old.stanzas) i ≡ stanza.old.lines }
+        requires { slice_get (summaries self.old.stanzas) i ≡ Some (summary_of stanza.old) }
         ensures stanzas { self.new.stanzas ≡ slice_set self.old.stanzas i stanza.old }
         ensures stanza { slice_get self.old.stanzas i ≡ Some stanza.new }
-        ensures counts { line_counts self.new.stanzas ≡ line_counts self.old.stanzas }
+        ensures summaries { summaries self.new.stanzas ≡ summaries self.old.stanzas }
         ensures room { self.new.room ≡ self.old.room }
     {
         swap_stanza(&mut self.entries[i], stanza);
@@ -133,7 +217,7 @@ impl Pile {
 
 /// Exchanges the stanza of an entry.
 fn swap_stanza(entry: &mut Entry, stanza: &mut Stanza)
-    ensures entry { entry.new ≡ record { end = entry.old.end; stanza = stanza.old } }
+    ensures entry { entry.new ≡ record { end = entry.old.end; settled = entry.old.settled; stanza = stanza.old } }
     ensures stanza { stanza.new ≡ entry.old.stanza }
 {
     mem::swap(&mut entry.stanza, stanza);

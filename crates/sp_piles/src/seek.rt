@@ -2,21 +2,9 @@
 ghost use Rattle.std.specs.Prelude.{◌≡◌, ◌<◌, ◌≤◌, ◌+◌, ◌-◌, length, take};
 ghost use Rattle.std.specs.Bool.{OnTrue, OnFalse};
 ghost use Rattle.spec_reread.specs.Windows.{stanza_lines_in};
-ghost use Rattle.sp_piles.specs.Gaps.{gap_list, IsShifted, AtGap, SameGap};
+ghost use Rattle.sp_piles.specs.Gaps.{gap_list, AtGap, SameGap};
 
 use crate::Pile;
-
-/// Moves the last stanza of one pile onto the other.
-fn shift(from: &mut Pile, to: &mut Pile)
-    requires some { 0 < length from.old.stanzas }
-    requires room { length to.old.stanzas < to.old.room }
-    requires low { stanza_lines_in from.old.stanzas + stanza_lines_in to.old.stanzas ≤ 18446744073709551615 }
-    ensures shifted { IsShifted from.old.stanzas to.old.stanzas from.new.stanzas to.new.stanzas }
-    ensures from_room { from.new.room ≡ from.old.room }
-    ensures to_room { to.new.room ≡ to.old.room }
-{
-    to.push_reserved(from.take_last());
-}
 
 /// Whether the gap must go back: stanzas before it end behind `first`, or none is behind it.
 fn is_past(front: &Pile, back: &Pile, first: usize) -> bool
@@ -62,10 +50,10 @@ pub fn seek_line(front: &mut Pile, back: &mut Pile, first: usize)
     ensures back_room { back.new.room ≡ back.old.room }
 {
     while is_past(front, back, first) {
-        shift(front, back);
+        front.shift(back);
     }
     while goes_on(front, back, first) {
-        shift(back, front);
+        back.shift(front);
     }
 }
 
@@ -79,9 +67,9 @@ pub fn seek_stanza(front: &mut Pile, back: &mut Pile, at: usize)
     ensures at { length front.new.stanzas ≡ at }
 {
     while front.len() > at {
-        shift(front, back);
+        front.shift(back);
     }
     while front.len() < at {
-        shift(back, front);
+        back.shift(front);
     }
 }

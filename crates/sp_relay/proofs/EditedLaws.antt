@@ -16,11 +16,12 @@ use Rattle.spec_pages.specs.Rows.{ElementOf, line_state}
 use Rattle.spec_layout.specs.Speakers.{Spoken, spoken_elements, text_elements}
 use Rattle.spec_layout.proofs.RowLaws.{IsText-texts}
 use Rattle.spec_layout.proofs.SpokenLaws.{spoken_elements-off}
+use Rattle.spec_reread.specs.Settling.{stanza_settles}
 use Rattle.spec_reread.specs.Windows.{stanza_lines_in}
 use Rattle.spec_reread.proofs.Counts.{count-from}
 use Rattle.spec_relay.specs.Moved.{moved_place, moved_group, speaker_behind}
 use Rattle.spec_relay.specs.RelaidBlocks.{AreRelaid}
-use Rattle.spec_relay.specs.RelaidStanzas.{OpensApart, StanzasRelaid, stanza_settles}
+use Rattle.spec_relay.specs.RelaidStanzas.{OpensApart, StanzasRelaid}
 use Rattle.spec_relay.proofs.PlacedElements.{element_first, spoken-firsts}
 use Rattle.spec_relay.proofs.LayoutParts.{laid_of, laid-append, rows_in, breaks-append}
 use Rattle.spec_relay.proofs.RelaidParts.{ElementsRelaid, elements-relaid}

@@ -10,7 +10,8 @@ use Rattle.spec_script.specs.Stanzas.{PlacedBlock}
 use Rattle.spec_script.specs.Elements.{is_speech_block}
 use Rattle.spec_layout.specs.Speakers.{Spoken, cue_text, is_last_speaker, is_pair, name_in, named_block, named_from, settled_element, speaker_after, speaker_by, spoken_elements}
 use Rattle.spec_layout.proofs.SpokenLaws.{spoken_elements-off}
-use Rattle.spec_relay.specs.Moved.{settles, settles_kind, speaker_behind}
+use Rattle.spec_reread.specs.Settling.{settles_kind}
+use Rattle.spec_relay.specs.Moved.{settles, speaker_behind}
 
 -- Behind blocks without a heading and a speech the same one spoke last as before them.
 passed-by : (kind : Kind) (name : List ℕ) (last : Option (List ℕ)) → settles_kind kind ≡ false → speaker_by kind name last ≡ last

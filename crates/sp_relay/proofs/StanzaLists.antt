@@ -1,13 +1,10 @@
 -- Parts of lists of stanzas.
 use Rattle.std.proofs.Common.{◌≡◌, ℕ, suc, ◌+◌, ◌-◌, ◌<◌, ◌≤◌, Bool, true, false, ◌||◌, List, [], ◌∷◌, ◌++◌, take, drop, slice_get, slice_range, Some, refl, sym, ap, ap₂, subst, ◌∙◌, arith, append_assoc, take-add, drop-drop}
-use Rattle.std.specs.List.{list_any}
 use Rattle.std.proofs.Math.Bool.{or-false}
-use Rattle.std.proofs.lemmas.Bool.{or_left, or_right}
-use Rattle.std.proofs.lemmas.List.{drop_more}
-use Rattle.std.proofs.lemmas.List.Folds.{list_any-append}
-use Rattle.std.proofs.lemmas.Option.{slice_get_within, get_or_from_slice_get}
 use Rattle.spec_script.specs.BlockValues.{StanzaOf}
-use Rattle.spec_relay.specs.RelaidStanzas.{first_apart, OpensApart, stanza_settles}
+use Rattle.spec_reread.specs.Settling.{stanza_settles}
+use Rattle.spec_relay.specs.RelaidStanzas.{first_apart, OpensApart}
+use Rattle.sp_piles.proofs.SettlingLaws.{drop-at, settles-next, settles-none}
 use Rattle.sp_relay.specs.Edges.{opens_first, settled_by}
 
 pub take-split : {X : Type 0} (xs : List X) (i j : ℕ) → i ≤ j → take j xs ≡ take i xs ++ slice_range xs i j
@@ -34,11 +31,6 @@ opens-slice stanzas i j order is =
     let count : suc (j - i - 1) ≡ j - i = omega (arith, order) in
     subst (λ n. OpensApart (take n (drop i stanzas))) count (opens-take (j - i - 1) (drop i stanzas) is)
 
--- The stanza at a place, and those behind it.
-pub drop-at : (stanzas : List StanzaOf) (i : ℕ) (s : StanzaOf) → slice_get stanzas i ≡ Some s → drop i stanzas ≡ s ∷ drop (i + 1) stanzas
-drop-at stanzas i s at =
-    drop_more stanzas i s (slice_get_within stanzas i s at) ∙ ap (λ (it : StanzaOf). it ∷ drop (i + 1) stanzas) (get_or_from_slice_get stanzas i s s at)
-
 pub opens-at : (stanzas : List StanzaOf) (i : ℕ) (s : StanzaOf) → slice_get stanzas i ≡ Some s → first_apart s.blocks ≡ true → OpensApart (drop i stanzas)
 opens-at stanzas i s at is = subst OpensApart (sym (drop-at stanzas i s at)) is
 
@@ -53,41 +45,6 @@ opens-window stanzas at stands s is some =
 
 pub opens-none : (stanzas : List StanzaOf) (at stands : ℕ) → stands ≤ 0 → opens_first (slice_range stanzas at (at + stands)) ≡ false
 opens-none stanzas at stands none = let count : at + stands - at ≡ 0 = omega (arith, none) in ap (λ n. opens_first (take n (drop at stanzas))) count
-
--- Whether one of them has a heading or a speech, up to a place and with the next one.
-pub settles-none : (stanzas : List StanzaOf) (i : ℕ) → list_any stanza_settles (slice_range stanzas i i) ≡ false
-settles-none stanzas i = let none : i - i ≡ 0 = omega arith in ap (λ n. list_any stanza_settles (take n (drop i stanzas))) none
-
-pub settles-split : (stanzas : List StanzaOf) (i j k : ℕ) → i ≤ j → j ≤ k
-    → list_any stanza_settles (slice_range stanzas i k) ≡ (list_any stanza_settles (slice_range stanzas i j) || list_any stanza_settles (slice_range stanzas j k))
-settles-split stanzas i j k one two = ap (list_any stanza_settles) (slice-split stanzas i j k one two) ∙ list_any-append stanza_settles (slice_range stanzas i j) (slice_range stanzas j k)
-
-pub settles-one : (stanzas : List StanzaOf) (i : ℕ) (s : StanzaOf) → slice_get stanzas i ≡ Some s → list_any stanza_settles (slice_range stanzas i (i + 1)) ≡ stanza_settles s
-settles-one stanzas i s at =
-    let one : i + 1 - i ≡ 1 = omega arith in
-    let own : slice_range stanzas i (i + 1) ≡ s ∷ [] = ap₂ (λ n (ss : List StanzaOf). take n ss) one (drop-at stanzas i s at) in
-    ap (list_any stanza_settles) own ∙ or-false (stanza_settles s)
-
-pub settles-next : (stanzas : List StanzaOf) (i j : ℕ) (s : StanzaOf) → i ≤ j → slice_get stanzas j ≡ Some s
-    → list_any stanza_settles (slice_range stanzas i (j + 1)) ≡ (list_any stanza_settles (slice_range stanzas i j) || stanza_settles s)
-settles-next stanzas i j s order at = settles-split stanzas i j (j + 1) order (omega arith) ∙ ap (λ b. list_any stanza_settles (slice_range stanzas i j) || b) (settles-one stanzas j s at)
-
--- The same of the one before a place, and with those behind it.
-pub settles-last : (stanzas : List StanzaOf) (i : ℕ) (s : StanzaOf) → 0 < i → slice_get stanzas (i - 1) ≡ Some s → list_any stanza_settles (slice_range stanzas (i - 1) i) ≡ stanza_settles s
-settles-last stanzas i s some at =
-    let next : i ≡ i - 1 + 1 = omega (arith, some) in
-    ap (λ n. list_any stanza_settles (slice_range stanzas (i - 1) n)) next ∙ settles-one stanzas (i - 1) s at
-
-pub settles-before : (stanzas : List StanzaOf) (i j : ℕ) (s : StanzaOf) → 0 < i → i ≤ j → slice_get stanzas (i - 1) ≡ Some s
-    → list_any stanza_settles (slice_range stanzas (i - 1) j) ≡ (stanza_settles s || list_any stanza_settles (slice_range stanzas i j))
-settles-before stanzas i j s some order at =
-    settles-split stanzas (i - 1) i j (omega arith) order ∙ ap (λ b. b || list_any stanza_settles (slice_range stanzas i j)) (settles-last stanzas i s some at)
-
--- The stanza at a place settles it for those round it.
-pub settles-in : (stanzas : List StanzaOf) (i j k : ℕ) (s : StanzaOf) → i ≤ j → j < k → slice_get stanzas j ≡ Some s → stanza_settles s ≡ true → list_any stanza_settles (slice_range stanzas i k) ≡ true
-settles-in stanzas i j k s low order at is =
-    settles-split stanzas i (j + 1) k (omega (arith, low)) (omega (arith, order))
-    ∙ or_left _ (list_any stanza_settles (slice_range stanzas (j + 1) k)) (settles-next stanzas i j s low at ∙ or_right (list_any stanza_settles (slice_range stanzas i j)) (stanza_settles s) is)
 
 -- Who spoke last is the same, right behind the window and with the next stanza.
 pub settled-none : (stanzas : List StanzaOf) (to : ℕ) (quiet : Bool) → quiet ≡ settled_by stanzas to quiet to

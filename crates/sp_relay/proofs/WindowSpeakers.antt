@@ -8,9 +8,9 @@ use Rattle.spec_script.specs.Elements.{PlacedLies}
 use Rattle.spec_script.specs.Stanzas.{PlacedBlock, blocks_from, blocks_of, stanzas_of}
 use Rattle.spec_script.proofs.BlockPlaces.{blocks_of-lie}
 use Rattle.spec_layout.proofs.RowLaws.{IsText-texts}
+use Rattle.spec_reread.specs.Settling.{stanza_settles}
 use Rattle.spec_reread.specs.Windows.{stanza_lines_in}
 use Rattle.spec_relay.specs.Moved.{speaker_behind}
-use Rattle.spec_relay.specs.RelaidStanzas.{stanza_settles}
 use Rattle.spec_relay.proofs.Parts.{behind-settled}
 use Rattle.spec_relay.proofs.StanzaBlocks.{any-blocks, blocks-three, lines-append}
 use Rattle.sp_layout.specs.Speaking.{SpeakersOf, speakers_after}

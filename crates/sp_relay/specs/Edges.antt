@@ -2,9 +2,10 @@
 use Rattle.std.specs.Prelude.{◌≡◌, ◌⊎◌, ℕ, ◌+◌, ◌<◌, ◌≤◌, true, false, Bool, ◌||◌, ◌&&◌, List, [], ◌∷◌, ◌++◌, length, take, drop, slice_range, slice_index, AllPairs}
 use Rattle.std.specs.List.{list_any}
 use Rattle.spec_script.specs.BlockValues.{StanzaOf}
+use Rattle.spec_reread.specs.Settling.{stanza_settles}
 use Rattle.spec_reread.specs.Windows.{stanza_lines_in}
 use Rattle.spec_relay.specs.Moved.{moved_place}
-use Rattle.spec_relay.specs.RelaidStanzas.{OpensApart, first_apart, stanza_settles}
+use Rattle.spec_relay.specs.RelaidStanzas.{OpensApart, first_apart}
 use Rattle.sp_elements.specs.Places.{ArePartedAt, CountsBefore, CountsBelow}
 use Rattle.sp_layout.specs.LaidOut.{LayoutOf}
 use Rattle.sp_reread.specs.Cache.{SwappedState}

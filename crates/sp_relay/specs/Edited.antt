@@ -6,8 +6,8 @@ use Rattle.spec_script.specs.BlockValues.{StanzaOf}
 use Rattle.spec_script.specs.Stanzas.{PlacedBlock, blocks_from, stanzas_of}
 use Rattle.spec_layout.specs.Speakers.{spoken_elements}
 use Rattle.spec_layout.specs.Layout.{layout_of}
+use Rattle.spec_reread.specs.Settling.{stanza_settles}
 use Rattle.spec_reread.specs.Windows.{stanza_lines_in}
-use Rattle.spec_relay.specs.RelaidStanzas.{stanza_settles}
 use Rattle.sp_layout.specs.LaidOut.{LayoutOf, keyed}
 use Rattle.sp_layout.specs.Speaking.{SpeakersOf, speakers_after}
 use Rattle.sp_reread.specs.Cache.{GivesBack, SwappedState}

@@ -1,15 +1,16 @@
 //! Where the part of a layout that an edit changes begins and ends.
 ghost use Rattle.std.specs.Prelude.{◌≡◌, ◌<◌, ◌≤◌, ◌+◌, length, take, IfNone, IfSome};
+ghost use Rattle.spec_reread.specs.Settling.{stanza_settles};
 ghost use Rattle.spec_reread.specs.Windows.{stanza_lines_in};
-ghost use Rattle.spec_relay.specs.RelaidStanzas.{OpensApart, block_settles, first_apart, stanza_settles};
+ghost use Rattle.spec_relay.specs.RelaidStanzas.{OpensApart, first_apart};
 ghost use Rattle.sp_relay.specs.Edges.{BreaksAt, CanBegin, CanEnd, CanPart, IsEdge, IsNearestEnd, IsNearestStart, IsPartBegin, IsPartEnd, IsPartStart, opens_first, windows_open};
 ghost use Rattle.sp_relay.specs.Kept.{laid_of};
 
 use crate::KeptLayout;
-use sp_block_values::{Block, Stanza};
+use sp_block_values::Stanza;
 use sp_elements::{count_below, elements_before};
+use sp_piles::stanza_settles;
 use sp_reread::{Stanzas, Swapped};
-use spec_script::Kind;
 
 /// Where a part of a layout begins or ends: before which stanza, before which element of the title page and which of the
 /// body, and before which page break.
@@ -29,25 +30,6 @@ fn opens_apart(stanza: &Stanza) -> bool
         Some(block) => !block.caret,
         None => false,
     }
-}
-
-/// Whether it doesn't matter behind a block who spoke before it.
-fn block_settles(block: &Block) -> bool
-    ensures { result ≡ block_settles block.now }
-{
-    matches!(block.kind, Kind::Heading | Kind::Speech)
-}
-
-/// The same of a stanza.
-pub fn stanza_settles(stanza: &Stanza) -> bool
-    ensures { result ≡ stanza_settles stanza.now }
-{
-    for block in &stanza.blocks {
-        if block_settles(block) {
-            return true;
-        }
-    }
-    false
 }
 
 /// The edge before a stanza that begins at a line of the layout's text, unless a page break stands right there.

@@ -5,19 +5,20 @@ ghost use Rattle.spec_text.specs.Lines.{line_texts};
 ghost use Rattle.spec_script.specs.Stanzas.{blocks_from, stanzas_of};
 ghost use Rattle.spec_script.specs.Elements.{is_speech_block};
 ghost use Rattle.spec_layout.specs.Layout.{layout_of};
+ghost use Rattle.spec_reread.specs.Settling.{stanza_settles};
 ghost use Rattle.spec_reread.specs.Windows.{stanza_lines_in};
 ghost use Rattle.sp_layout.specs.LaidOut.{keyed};
 ghost use Rattle.sp_layout.specs.Speaking.{speakers_after};
-ghost use Rattle.spec_relay.specs.RelaidStanzas.{stanza_settles};
 ghost use Rattle.sp_relay.specs.Edges.{edge_places};
 ghost use Rattle.sp_relay.specs.Edited.{AreAlike, IsEdited, LastStays, WasLaid, old_speakers, windows_settle};
 ghost use Rattle.sp_relay.specs.Kept.{CanSwap, HasPartRoom, KeepsRoom, laid_of, with_part};
 ghost use Rattle.sp_relay.specs.Outside.{StaysOutside};
 
-use crate::edges::{PartEdge, part_begin, part_end, stanza_settles};
+use crate::edges::{PartEdge, part_begin, part_end};
 use crate::{KeptLayout, LayoutPart, PartPlaces, relay};
 use sp_block_values::{PlacedBlock, Stanza, is_speech_block};
 use sp_layout::Speakers;
+use sp_piles::stanza_settles;
 use sp_reread::{Stanzas, Swapped, placed_blocks_between, placed_blocks_of};
 use sp_text::{Lines, OldLines};
 use std::alloc::{AllocError, Global};
@@ -65,23 +66,6 @@ fn windows_settle(stanzas: &Stanzas, swapped: &Swapped) -> bool
     any_settles(swapped.stanzas()) || settles_between(stanzas, at, at + swapped.stands())
 }
 
-/// The place behind the last stanza up to here that has a heading or a speech, or 0.
-fn settled_before(stanzas: &Stanzas, to: usize) -> usize
-    requires { to ≤ length stanzas.now.stanzas }
-    ensures within { result ≤ to }
-    ensures settles { (result ≡ 0) ⊎ (list_any stanza_settles (slice_range stanzas.now.stanzas (result - 1) result) ≡ true) }
-    ensures last { list_any stanza_settles (slice_range stanzas.now.stanzas result to) ≡ false }
-{
-    let mut place = to;
-    while place > 0 {
-        if stanza_settles(stanzas.stanza(place - 1)) {
-            return place;
-        }
-        place -= 1;
-    }
-    place
-}
-
 /// Who spoke last before a stanza. Of those before it, only the last one with a heading or a speech tells it. The error is want
 /// of memory alone.
 fn speakers_before(
@@ -96,7 +80,7 @@ fn speakers_before(
     ensures { IfOk result (λ it. it ≡ speakers_after (line_texts lines.now.lines) speakers (blocks_from 0 (take to stanzas.now.stanzas))) }
 {
     let _count = lines.len();
-    let past = settled_before(stanzas, to);
+    let past = stanzas.settled_before(to);
     let blocks = placed_blocks_between(alloc, stanzas, past.saturating_sub(1), past)?;
     Speakers::behind(alloc, lines, &blocks, speakers)
 }

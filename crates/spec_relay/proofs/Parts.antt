@@ -9,9 +9,10 @@ use Rattle.spec_script.specs.declared.Kind.TheVariants as kinds
 use Rattle.spec_script.specs.LongestRuns.{longest_runs}
 use Rattle.spec_script.specs.Stanzas.{PlacedBlock}
 use Rattle.spec_script.specs.Elements.{is_speech_kind, is_dual}
+use Rattle.spec_reread.specs.Settling.{settles_kind}
 use Rattle.spec_reread.proofs.Splits.{Parted, runs-append}
 use Rattle.spec_layout.specs.Speakers.{Spoken, named_block, named_from, speaker_after, speaker_by, is_pair, settled_element, spoken_elements}
-use Rattle.spec_relay.specs.Moved.{speaker_behind, BeginsApart, settles, settles_kind}
+use Rattle.spec_relay.specs.Moved.{speaker_behind, BeginsApart, settles}
 
 -- A block without a caret is joined with none before it.
 and-none : (b : Bool) → (b && false) ≡ false

@@ -12,12 +12,13 @@ use Rattle.spec_script.specs.BlockValues.{StanzaOf}
 use Rattle.spec_script.specs.Stanzas.{PlacedBlock, blocks_from, blocks_of, stanzas_of}
 use Rattle.spec_pages.specs.Rows.{line_state}
 use Rattle.spec_layout.proofs.ElementPlaces.{LinesRise, placed_from, placed_to, blocks_of-stand}
+use Rattle.spec_reread.specs.Settling.{stanza_settles}
 use Rattle.spec_reread.specs.Windows.{HasFrom, stanza_lines_in}
 use Rattle.spec_reread.proofs.Places.{at_place, front-between, has-all}
 use Rattle.spec_relayout.proofs.WindowSides.{EndsBy, StandsIn, between-in, front-ends}
 use Rattle.spec_relay.specs.Moved.{moved_place, moved_block, BlockStays, speaker_behind, BeginsApart}
 use Rattle.spec_relay.specs.RelaidBlocks.{AreRelaid}
-use Rattle.spec_relay.specs.RelaidStanzas.{OpensApart, StanzasRelaid, stanza_settles}
+use Rattle.spec_relay.specs.RelaidStanzas.{OpensApart, StanzasRelaid}
 use Rattle.spec_relay.proofs.Parts.{behind-append}
 use Rattle.spec_relay.proofs.StayingBlocks.{speakers-settled}
 use Rattle.spec_relay.proofs.StanzaBlocks.{lines-append, blocks-three, blocks-moved, blocks-past, places-rise, any-blocks, opens-begin, opens-apart, opens-more}

@@ -10,10 +10,11 @@ use Rattle.spec_script.specs.BlockValues.{StanzaOf, BlockOf}
 use Rattle.spec_script.specs.Stanzas.{PlacedBlock, blocks_from}
 use Rattle.spec_script.specs.Elements.{placed_at, PlacesRise}
 use Rattle.spec_script.proofs.BlockPlaces.{stanza-rises}
+use Rattle.spec_reread.specs.Settling.{block_settles, stanza_settles}
 use Rattle.spec_reread.specs.Windows.{stanza_lines_in}
 use Rattle.spec_reread.proofs.WindowBlocks.{blocks-append}
 use Rattle.spec_relay.specs.Moved.{moved_place, moved_block, BeginsApart, settles}
-use Rattle.spec_relay.specs.RelaidStanzas.{first_apart, OpensApart, block_settles, stanza_settles}
+use Rattle.spec_relay.specs.RelaidStanzas.{first_apart, OpensApart}
 
 pub lines-append : (xs ys : List StanzaOf) → stanza_lines_in (xs ++ ys) ≡ stanza_lines_in xs + stanza_lines_in ys
 lines-append xs ys = sum_by-append (λ (s : StanzaOf). s.lines) xs ys

@@ -1,12 +1,11 @@
 -- Blocks and elements of a text that stand elsewhere in another text (docs/RULES.md, "Windows").
-use Rattle.std.specs.Prelude.{◌≡◌, ℕ, ◌+◌, ◌-◌, ◌<◌, ◌≤◌, Bool, true, false, List, [], ◌∷◌, map, fold, Option}
+use Rattle.std.specs.Prelude.{◌≡◌, ℕ, ◌+◌, ◌-◌, ◌<◌, ◌≤◌, Bool, false, List, [], ◌∷◌, map, fold, Option}
 use Rattle.spec_text.specs.Lines.{LineState}
-use Rattle.spec_script.specs.declared.Kind.{Kind}
-use Rattle.spec_script.specs.declared.Kind.TheVariants as kinds
 use Rattle.spec_script.specs.LongestRuns.{Group}
 use Rattle.spec_script.specs.Stanzas.{PlacedBlock}
 use Rattle.spec_script.specs.Elements.{placed_at}
 use Rattle.spec_pages.specs.Rows.{ElementOf, line_state}
+use Rattle.spec_reread.specs.Settling.{settles_kind}
 use Rattle.spec_layout.specs.Speakers.{Spoken, speaker_after}
 use Rattle.spec_layout.proofs.ElementPlaces.{LinesRise}
 
@@ -43,10 +42,5 @@ BeginsApart [] = Unit {0}
 BeginsApart (placed ∷ blocks) = placed.block.caret ≡ false
 
 -- Behind such a block it doesn't matter who spoke before it.
-abbrev pub settles_kind : Kind → Bool
-settles_kind kinds.Heading = true
-settles_kind kinds.Speech = true
-settles_kind _ = false
-
 abbrev pub settles : PlacedBlock → Bool
 settles placed = settles_kind placed.block.kind

@@ -5,8 +5,9 @@ use Rattle.spec_text.specs.Lines.{LineState, line_texts}
 use Rattle.spec_script.specs.BlockValues.{BlockOf, StanzaOf}
 use Rattle.spec_script.specs.Stanzas.{stanzas_of}
 use Rattle.spec_pages.specs.Rows.{line_state}
+use Rattle.spec_reread.specs.Settling.{stanza_settles}
 use Rattle.spec_reread.specs.Windows.{stanza_lines_in}
-use Rattle.spec_relay.specs.Moved.{moved_place, settles_kind}
+use Rattle.spec_relay.specs.Moved.{moved_place}
 
 -- The first of these blocks has no caret, so it is joined with none before it.
 abbrev pub first_apart : List BlockOf → Bool
@@ -17,13 +18,6 @@ first_apart (block ∷ blocks) = not block.caret
 abbrev pub OpensApart : List StanzaOf → Type 0
 OpensApart [] = ⊥
 OpensApart (stanza ∷ stanzas) = first_apart stanza.blocks ≡ true
-
--- Behind such a block, and behind a stanza with one, it doesn't matter who spoke before.
-abbrev pub block_settles : BlockOf → Bool
-block_settles block = settles_kind block.kind
-
-abbrev pub stanza_settles : StanzaOf → Bool
-stanza_settles stanza = list_any block_settles stanza.blocks
 
 -- The stanzas of a text before an edit and after it. In front are those that stay. Then come those before the window that are laid
 -- out anew with it, those that go and those that come, those behind the window that are laid out anew, and the rest. The window

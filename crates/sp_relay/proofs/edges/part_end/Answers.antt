@@ -1,7 +1,8 @@
 use Rattle.std.proofs.Common.{◌≡◌, ◌-◌, ◌+◌, ◌||◌, true, take, drop, inl, inr, sym, ap, subst, ◌∙◌, arith}
 use Rattle.std.proofs.lemmas.Bool.{cases_eq, true≢false}
+use Rattle.spec_reread.specs.Settling.{stanza_settles}
 use Rattle.spec_reread.specs.Windows.{stanza_lines_in}
-use Rattle.spec_relay.specs.RelaidStanzas.{OpensApart, stanza_settles}
+use Rattle.spec_relay.specs.RelaidStanzas.{OpensApart}
 use Rattle.sp_relay.specs.Kept.{laid_of}
 use Rattle.sp_relay.specs.Edges.{BreaksAt, CanPart, settled_by}
 use Rattle.sp_relay.proofs.StanzaLists.{opens-at, opens-first, settled-none, settled-next}

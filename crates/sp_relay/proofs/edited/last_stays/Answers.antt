@@ -1,7 +1,7 @@
 use Rattle.std.proofs.Common.{◌≡◌, ◌+◌, Bool, false, refl, sym, subst, ◌∙◌, slice_range}
 use Rattle.std.specs.List.{list_any}
 use Rattle.std.proofs.lemmas.Bool.{or_parts}
-use Rattle.spec_relay.specs.RelaidStanzas.{stanza_settles}
+use Rattle.spec_reread.specs.Settling.{stanza_settles}
 use Rattle.sp_relay.specs.Edited.{LastStays, windows_settle}
 use Rattle.sp_relay.proofs.WindowSpeakers.{stays-quiet}
 use Rattle.sp_relay.proofs.edited.last_stays.Goals as goal

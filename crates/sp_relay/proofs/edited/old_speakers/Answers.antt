@@ -5,8 +5,8 @@ use Rattle.spec_text.specs.Lines.{line_texts}
 use Rattle.spec_script.specs.BlockValues.{StanzaOf}
 use Rattle.spec_script.specs.Elements.{PlacedLies}
 use Rattle.spec_script.specs.Stanzas.{blocks_from}
+use Rattle.spec_reread.specs.Settling.{stanza_settles}
 use Rattle.spec_reread.specs.Windows.{stanza_lines_in}
-use Rattle.spec_relay.specs.RelaidStanzas.{stanza_settles}
 use Rattle.sp_layout.specs.Speaking.{speakers_after}
 use Rattle.sp_relay.specs.Edited.{old_speakers, window_start}
 use Rattle.sp_relay.proofs.WindowSpeakers.{gone-few, gone-lie, told-before, told-by-gone}

@@ -1,6 +1,6 @@
 use Rattle.std.proofs.Common.{sym, ◌∙◌, arith}
 use Rattle.std.proofs.lemmas.Bool.{or_from}
-use Rattle.sp_relay.proofs.StanzaLists.{settles-none, settles-next, settles-in}
+use Rattle.sp_piles.proofs.SettlingLaws.{settles-none, settles-next, settles-in}
 use Rattle.sp_relay.proofs.edited.settles_between.Goals as goal
 
 pub loop-place-init : goal.loop-place-init

@@ -1,6 +1,6 @@
 use Rattle.std.proofs.Common.{◌≡◌, false, slice_range}
 use Rattle.std.specs.List.{list_any}
-use Rattle.spec_relay.specs.RelaidStanzas.{stanza_settles}
+use Rattle.spec_reread.specs.Settling.{stanza_settles}
 use Rattle.sp_relay.proofs.edited.settles_between.Given as goal
 
 -- No stanza so far settles it.

@@ -4,7 +4,7 @@ use Rattle.std.proofs.lemmas.Result.{IfOk-weaker}
 use Rattle.spec_text.specs.Lines.{line_texts}
 use Rattle.spec_script.specs.Elements.{PlacedLies}
 use Rattle.spec_script.specs.Stanzas.{blocks_from}
-use Rattle.spec_relay.specs.RelaidStanzas.{stanza_settles}
+use Rattle.spec_reread.specs.Settling.{stanza_settles}
 use Rattle.sp_text.specs.Gap.{text_of}
 use Rattle.sp_layout.specs.Speaking.{speakers_after}
 use Rattle.sp_relay.proofs.EditedLaws.{slice-lies, speakers-kept, speakers-told}

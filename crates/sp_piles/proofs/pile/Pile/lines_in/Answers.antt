@@ -10,5 +10,5 @@ returns-else-count-eq0 c =
     let entries = c.self.inside.entries.items in
     let low : c.args.count ≤ length (map stanza_in entries) = rw (← c.self.view_is) at c.requires in
     let get = slice_get_read entries (length entries) (c.args.count - 1) c.index-entry.result.now refl (omega (arith, low, length-map entries stanza_in, c.if-count-eq0.false)) c.index-entry.ensures in
-    let at = summed-at entries c.index-entry.result.now c.args.count (c.args.count - 1) c.self.invariant (omega (arith, c.if-count-eq0.false)) get in
+    let at = summed-at entries c.index-entry.result.now c.args.count (c.args.count - 1) c.self.invariant.0 (omega (arith, c.if-count-eq0.false)) get in
     rw (← c.self.view_is) (rw (← c.entry.view_is) at at)

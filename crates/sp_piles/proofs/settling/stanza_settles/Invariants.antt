@@ -1,7 +1,7 @@
 use Rattle.std.proofs.Common.{◌≡◌, false, take}
 use Rattle.std.specs.List.{list_any}
-use Rattle.spec_relay.specs.RelaidStanzas.{block_settles}
-use Rattle.sp_relay.proofs.edges.stanza_settles.Given as goal
+use Rattle.spec_reread.specs.Settling.{block_settles}
+use Rattle.sp_piles.proofs.settling.stanza_settles.Given as goal
 
 -- No block so far settles it.
 abbrev pub invariant-loop-block : goal.invariant-loop-block
