@@ -1,22 +1,21 @@
 -- Rows of elements of which some made way for others.
-use Rattle.std.proofs.Common.{◌≡◌, ℕ, zero, suc, ◌+◌, ◌-◌, ◌<◌, ◌≤◌, List, [], ◌∷◌, ◌++◌, length, map, take, drop, get_or, refl, sym, ap, ap₂, subst, ◌∙◌, arith, length-append, length-drop, take_at, drop_at, take-append-drop}
+use Rattle.std.proofs.Common.{◌≡◌, ℕ, zero, suc, ◌+◌, ◌-◌, ◌<◌, ◌≤◌, Option, Some, None, List, [], ◌∷◌, ◌++◌, length, map, take, drop, get_or, refl, sym, ap, ap₂, subst, ◌∙◌, arith, length-drop, take-append-drop}
 use Rattle.std.proofs.Math.ListN.{get_or-append}
-use Rattle.std.proofs.lemmas.List.{drop-drop, drop-take, take-take, get_or-append-add, get_or-drop, get_or-map, length-map, length-take-le, map-append}
-use Rattle.std.specs.Prelude.{slice_range, All}
-use Rattle.spec_text.specs.Lines.{LineState}
+use Rattle.std.proofs.lemmas.List.{drop-take, take-take, get_or_default, get_or-append-add, get_or-drop, get_or-map, length-map, length-take-le}
+use Rattle.std.specs.Prelude.{All, IfSome}
 use Rattle.spec_pages.specs.Rows.{Row, ElementOf, shifted_row}
 use Rattle.spec_labels.specs.declared.RowKey.{RowKey}
 use Rattle.spec_layout.specs.Layout.{placed_in}
-use Rattle.spec_state.specs.SameRows.{BareRow}
 use Rattle.sp_runs.specs.Runs.{exchanged}
 use Rattle.sp_splice.specs.Moves.{shifted}
 use Rattle.sp_elements.specs.Bodies.{KeyedElements, StandsIn, row_count}
-use Rattle.sp_elements.specs.Exchanges.{CanMove, moved_element, with_run}
+use Rattle.sp_elements.specs.Exchanges.{CanMove, moved_element, rows_at, with_run}
 use Rattle.sp_elements.proofs.BodyExchanges.{count-append, count-moved}
 use Rattle.sp_elements.proofs.BodyLaws.{placed_in-append}
-use Rattle.sp_compare.specs.BareRows.{AreSameAround, StayOutside, bare_row, bare_rows}
-use Rattle.sp_compare.proofs.RowLists.{map-slice}
-use Rattle.sp_compare.proofs.RowPlaces.{row-there}
+use Rattle.sp_compare.specs.declared.old_rows.RunPlaces.{RunPlaces}
+use Rattle.sp_compare.specs.OldElements.{AreOtherRows, OtherRowsOf, elements_before, with_others}
+use Rattle.sp_compare.proofs.OtherRowLaws.{others-all, others-at, others-count, others-front, others-size}
+use Rattle.sp_compare.proofs.RowPlaces.{row-inside, row-there}
 
 -- ---- how many rows
 
@@ -28,7 +27,7 @@ take-more xs n k =
     sym (take-append-drop n (take (n + k) xs))
     ∙ ap₂ (λ (us vs : List _). us ++ vs) (take-take n (n + k) xs (omega arith)) (drop-take n k xs)
 
-count-more : (elements : List ElementOf) (n k : ℕ) → row_count (take (n + k) elements) ≡ row_count (take n elements) + row_count (take k (drop n elements))
+pub count-more : (elements : List ElementOf) (n k : ℕ) → row_count (take (n + k) elements) ≡ row_count (take n elements) + row_count (take k (drop n elements))
 count-more elements n k = ap row_count (take-more elements n k) ∙ count-append (take n elements) (take k (drop n elements))
 
 pub count-rises : (elements : List ElementOf) (n m : ℕ) → n ≤ m → row_count (take n elements) ≤ row_count (take m elements)
@@ -37,25 +36,37 @@ count-rises elements n m low =
     let more = ap (λ k. row_count (take k elements)) (sym sum) ∙ count-more elements n (m - n) in
     omega (arith, more)
 
-map-take : {X Y : Type 0} (f : X → Y) (n : ℕ) (xs : List X) → map f (take n xs) ≡ take n (map f xs)
+pub map-take : {X Y : Type 0} (f : X → Y) (n : ℕ) (xs : List X) → map f (take n xs) ≡ take n (map f xs)
 map-take f zero xs = refl
 map-take f (suc n) [] = refl
 map-take {Y = Y} f (suc n) (x ∷ xs) = ap (λ (ys : List Y). f x ∷ ys) (map-take f n xs)
 
-pub count-old : (body gone : KeyedElements) (from to less more : ℕ)
+count-run : (body gone : KeyedElements) (from to less more : ℕ)
     → row_count (with_run body from to gone less more).elements ≡ row_count (take from body.elements) + (row_count gone.elements + row_count (drop to body.elements))
-count-old body gone from to less more =
+count-run body gone from to less more =
     let moved = map (moved_element less more) (drop to body.elements) in
     let one = count-append (take from body.elements) (gone.elements ++ moved) in
     let two = count-append gone.elements moved in
     let three = count-moved less more (drop to body.elements) in
     omega (arith, one, two, three)
 
+pub count-old : (body gone : KeyedElements) (others : Option OtherRowsOf) (at : RunPlaces) → IfSome others (AreOtherRows body.elements at.to)
+    → row_count (elements_before body others at gone).elements ≡ row_count (take at.from body.elements) + (row_count gone.elements + row_count (drop at.to body.elements))
+count-old body gone others at are =
+    let was = with_others body others in
+    let all = count-run was gone at.from at.to at.less at.more in
+    let front = others-count body at.to others are at.from in
+    let till = others-count body at.to others are at.to in
+    let sum = others-all body at.to others are in
+    let one = count-parts was.elements at.to in
+    let two = count-parts body.elements at.to in
+    omega (arith, all, front, till, sum, one, two)
+
 -- ---- rows by their places
 
-pub rows-old : (body gone : KeyedElements) (from to less more : ℕ)
+rows-run : (body gone : KeyedElements) (from to less more : ℕ)
     → placed_in (with_run body from to gone less more).elements ≡ placed_in (take from body.elements) ++ (placed_in gone.elements ++ placed_in (map (moved_element less more) (drop to body.elements)))
-rows-old body gone from to less more =
+rows-run body gone from to less more =
     let moved = map (moved_element less more) (drop to body.elements) in
     placed_in-append (take from body.elements) (gone.elements ++ moved)
     ∙ ap (λ (rows : List Row). placed_in (take from body.elements) ++ rows) (placed_in-append gone.elements moved)
@@ -63,32 +74,37 @@ rows-old body gone from to less more =
 rows-parts : (elements : List ElementOf) (place : ℕ) → placed_in elements ≡ placed_in (take place elements) ++ placed_in (drop place elements)
 rows-parts elements place = ap placed_in (sym (take-append-drop place elements)) ∙ placed_in-append (take place elements) (drop place elements)
 
-pub row-front : (body gone : KeyedElements) (from to less more row : ℕ) (d : Row) → row < row_count (take from body.elements)
-    → get_or (placed_in (with_run body from to gone less more).elements) row d ≡ get_or (placed_in body.elements) row d
-row-front body gone from to less more row d here =
-    let front = placed_in (take from body.elements) in
-    let moved = placed_in (map (moved_element less more) (drop to body.elements)) in
-    ap (λ (rows : List Row). get_or rows row d) (rows-old body gone from to less more)
-    ∙ get_or-append front (placed_in gone.elements ++ moved) d row here
-    ∙ sym (ap (λ (rows : List Row). get_or rows row d) (rows-parts body.elements from) ∙ get_or-append front (placed_in (drop from body.elements)) d row here)
+module _ (body gone : KeyedElements) (others : Option OtherRowsOf) (at : RunPlaces) (order : at.from ≤ at.to) (are : IfSome others (AreOtherRows body.elements at.to)) where
+  -- The elements behind the run, with their other rows, and moved.
+  abbrev pub later : List ElementOf
+  later = map (moved_element at.less at.more) (drop at.to (with_others body others).elements)
 
-pub row-gone : (body gone : KeyedElements) (from to less more row inside : ℕ) (d : Row) → inside < row_count gone.elements → row ≡ row_count (take from body.elements) + inside
-    → get_or (placed_in (with_run body from to gone less more).elements) row d ≡ get_or (placed_in gone.elements) inside d
-row-gone body gone from to less more row inside d here at =
-    let front = placed_in (take from body.elements) in
-    let moved = placed_in (map (moved_element less more) (drop to body.elements)) in
-    ap₂ (λ (rows : List Row) n. get_or rows n d) (rows-old body gone from to less more) at
-    ∙ get_or-append-add front (placed_in gone.elements ++ moved) inside d
-    ∙ get_or-append (placed_in gone.elements) moved d inside here
+  -- All rows: the elements in front of the run have those that they have after the change.
+  rows-old : placed_in (elements_before body others at gone).elements ≡ placed_in (take at.from body.elements) ++ (placed_in gone.elements ++ placed_in later)
+  rows-old =
+      rows-run (with_others body others) gone at.from at.to at.less at.more
+      ∙ ap (λ (those : List ElementOf). placed_in those ++ (placed_in gone.elements ++ placed_in later)) (others-front body at.to others are at.from order)
 
-pub row-moved : (body gone : KeyedElements) (from to less more row behind : ℕ) (d : Row) → row ≡ row_count (take from body.elements) + (row_count gone.elements + behind)
-    → get_or (placed_in (with_run body from to gone less more).elements) row d ≡ get_or (placed_in (map (moved_element less more) (drop to body.elements))) behind d
-row-moved body gone from to less more row behind d at =
-    let front = placed_in (take from body.elements) in
-    let moved = placed_in (map (moved_element less more) (drop to body.elements)) in
-    ap₂ (λ (rows : List Row) n. get_or rows n d) (rows-old body gone from to less more) at
-    ∙ get_or-append-add front (placed_in gone.elements ++ moved) (row_count gone.elements + behind) d
-    ∙ get_or-append-add (placed_in gone.elements) moved behind d
+  pub row-front : (row : ℕ) (d : Row) → row < row_count (take at.from body.elements) → get_or (placed_in (elements_before body others at gone).elements) row d ≡ get_or (placed_in body.elements) row d
+  row-front row d here =
+      let front = placed_in (take at.from body.elements) in
+      ap (λ (rows : List Row). get_or rows row d) rows-old
+      ∙ get_or-append front (placed_in gone.elements ++ placed_in later) d row here
+      ∙ sym (ap (λ (rows : List Row). get_or rows row d) (rows-parts body.elements at.from) ∙ get_or-append front (placed_in (drop at.from body.elements)) d row here)
+
+  pub row-gone : (row inside : ℕ) (d : Row) → inside < row_count gone.elements → row ≡ row_count (take at.from body.elements) + inside
+      → get_or (placed_in (elements_before body others at gone).elements) row d ≡ get_or (placed_in gone.elements) inside d
+  row-gone row inside d here place =
+      ap₂ (λ (rows : List Row) n. get_or rows n d) rows-old place
+      ∙ get_or-append-add (placed_in (take at.from body.elements)) (placed_in gone.elements ++ placed_in later) inside d
+      ∙ get_or-append (placed_in gone.elements) (placed_in later) d inside here
+
+  pub row-moved : (row behind : ℕ) (d : Row) → row ≡ row_count (take at.from body.elements) + (row_count gone.elements + behind)
+      → get_or (placed_in (elements_before body others at gone).elements) row d ≡ get_or (placed_in later) behind d
+  row-moved row behind d place =
+      ap₂ (λ (rows : List Row) n. get_or rows n d) rows-old place
+      ∙ get_or-append-add (placed_in (take at.from body.elements)) (placed_in gone.elements ++ placed_in later) (row_count gone.elements + behind) d
+      ∙ get_or-append-add (placed_in gone.elements) (placed_in later) behind d
 
 -- An element behind a place, and the rows that it has there.
 pub at-or-behind : (elements : List ElementOf) (to row place : ℕ) → StandsIn elements (row_count (take to elements) + row) place → to ≤ place
@@ -102,7 +118,7 @@ at-or-behind elements to row place stands = by (to - place) refl
         let past = stands.to in
         absurd (omega (arith, rises, past))
 
-pub row-behind : (elements : List ElementOf) (to less more row place start : ℕ) (element : ElementOf) (it d : Row)
+row-behind : (elements : List ElementOf) (to less more row place start : ℕ) (element : ElementOf) (it d : Row)
     → StandsIn elements (row_count (take to elements) + row) place → start ≡ row_count (take place elements)
     → element ≡ get_or elements place element → it ≡ get_or element.rows (row_count (take to elements) + row - start) it
     → get_or (placed_in (map (moved_element less more) (drop to elements))) row d ≡ shifted_row (shifted less more element.first) it
@@ -135,6 +151,52 @@ row-behind elements to less more row place start element it d stands begin is ow
     row-there moved row k (start - row_count (take to elements)) (moved_element less more element) it d at begins got
     (own ∙ ap (λ n. get_or element.rows n it) row_is)
 
+-- A row stands in the same element, at the same place of it, where this one or another had other rows.
+record IsThere (elements : List ElementOf) (row place start : ℕ) (element : ElementOf) : Type 0 where
+  pub stands : StandsIn elements row place
+  pub begin : start ≡ row_count (take place elements)
+  pub is : element ≡ get_or elements place element
+
+was-there : (body : KeyedElements) (others : Option OtherRowsOf) (to row place start : ℕ) (element : ElementOf) → IfSome others (AreOtherRows body.elements to)
+    → StandsIn body.elements row place → start ≡ row_count (take place body.elements) → element ≡ get_or body.elements place element
+    → let olds = (with_others body others).elements in IsThere olds row place start (record { first = element.first; rows = rows_at olds place })
+was-there body others to row place start element are stands begin is =
+    let olds = (with_others body others).elements in
+    let count = others-count body to others are in
+    let was : ElementOf = record { first = element.first; rows = rows_at olds place } in
+    let size = others-size body others in
+    let inside = stands.inside in
+    let from = stands.from in
+    let till = stands.to in
+    record {
+      stands = record {
+        inside = omega (arith, inside, size);
+        from = omega (arith, from, count place);
+        to = omega (arith, till, count (place + 1));
+      };
+      begin = begin ∙ sym (count place);
+      is = ap (λ (e : ElementOf). record { first = e.first; rows = rows_at olds place }) (is ∙ get_or_default body.elements place element was inside) ∙ sym (others-at body others place was inside);
+    }
+
+pub was-inside : (body : KeyedElements) (others : Option OtherRowsOf) (to row place start : ℕ) (element : ElementOf) → IfSome others (AreOtherRows body.elements to)
+    → StandsIn body.elements row place → start ≡ row_count (take place body.elements) → element ≡ get_or body.elements place element → row - start < length (rows_at (with_others body others).elements place)
+was-inside body others to row place start element are stands begin is =
+    let olds = (with_others body others).elements in
+    let there = was-there body others to row place start element are stands begin is in
+    row-inside olds row place start (record { first = element.first; rows = rows_at olds place }) there.stands there.begin there.is
+
+pub row-later : (body : KeyedElements) (others : Option OtherRowsOf) (to less more row place start : ℕ) (element : ElementOf) (it d : Row) → IfSome others (AreOtherRows body.elements to)
+    → StandsIn body.elements (row_count (take to body.elements) + row) place → start ≡ row_count (take place body.elements) → element ≡ get_or body.elements place element
+    → it ≡ get_or (rows_at (with_others body others).elements place) (row_count (take to body.elements) + row - start) it
+    → get_or (placed_in (map (moved_element less more) (drop to (with_others body others).elements))) row d ≡ shifted_row (shifted less more element.first) it
+row-later body others to less more row place start element it d are stands begin is own =
+    let olds = (with_others body others).elements in
+    let count = others-count body to others are to in
+    let there = was-there body others to (row_count (take to body.elements) + row) place start element are stands begin is in
+    row-behind olds to less more row place start (record { first = element.first; rows = rows_at olds place }) it d
+    (subst (λ n. StandsIn olds (n + row) place) (sym count) there.stands) there.begin there.is
+    (own ∙ ap (λ n. get_or (rows_at olds place) (n + row - start) it) (sym count))
+
 -- Its lines can be moved.
 pub moves-here : (elements : List ElementOf) (to less more row place : ℕ) (element : ElementOf) → StandsIn elements (row_count (take to elements) + row) place → element ≡ get_or elements place element
     → All (CanMove less more) (drop to elements) → CanMove less more element
@@ -147,6 +209,18 @@ moves-here elements to less more row place element stands is all =
     (all (place - to) element (omega (arith, inside, low, left)))
 
 -- ---- keys
+
+-- Other rows have the keys of those after the change, and so stand where these stand.
+pub keys-old : (body gone : KeyedElements) (others : Option OtherRowsOf) (at : RunPlaces) → IfSome others (AreOtherRows body.elements at.to)
+    → (elements_before body others at gone).keys ≡ exchanged body.keys (row_count (take at.from body.elements)) (row_count (take at.to body.elements)) gone.keys
+keys-old body gone others at are =
+    let front = others-count body at.to others are at.from in
+    let till = others-count body at.to others are at.to in
+    ap₂ (λ n m. exchanged (with_others body others).keys n m gone.keys) front till ∙ ap (λ (keys : List RowKey). exchanged keys (row_count (take at.from body.elements)) (row_count (take at.to body.elements)) gone.keys) (same others)
+  where
+    same : (those : Option OtherRowsOf) → (with_others body those).keys ≡ body.keys
+    same None = refl
+    same (Some it) = refl
 
 pub key-front : (keys others : List RowKey) (row end i : ℕ) (d : RowKey) → row ≤ length keys → i < row → get_or (exchanged keys row end others) i d ≡ get_or keys i d
 key-front keys others row end i d within here =
@@ -168,71 +242,3 @@ key-moved keys others row end i behind d within at =
     ap (λ n. get_or (exchanged keys row end others) n d) e
     ∙ get_or-append-add (take row keys) (others ++ drop end keys) (length others + behind) d
     ∙ get_or-append-add others (drop end keys) behind d ∙ get_or-drop end keys behind d
-
--- ---- rows that stay
-
-abbrev bare : List LineState → List ElementOf → List BareRow
-bare lines elements = map (bare_row lines) (placed_in elements)
-
-bare-append : (lines : List LineState) (one other : List ElementOf) → bare lines (one ++ other) ≡ bare lines one ++ bare lines other
-bare-append lines one other = ap (map (bare_row lines)) (placed_in-append one other) ∙ map-append (bare_row lines) (placed_in one) (placed_in other)
-
-bare-size : (lines : List LineState) (elements : List ElementOf) → length (bare lines elements) ≡ row_count elements
-bare-size lines elements = length-map (placed_in elements) (bare_row lines)
-
--- Rows outside the exchanged elements are the same around the rows of these.
-pub outside-around : (old new : List LineState) (body gone : KeyedElements) (from to less more same_to old_from new_from : ℕ) → StayOutside old new body.elements from to less more
-    → same_to ≡ row_count (take from body.elements) → old_from ≡ row_count (take from body.elements) + row_count gone.elements → new_from ≡ row_count (take to body.elements)
-    → AreSameAround old (with_run body from to gone less more).elements new body.elements same_to old_from new_from
-outside-around old new body gone from to less more same_to old_from new_from outside same_is old_is new_is =
-    let front = take from body.elements in
-    let till = take to body.elements in
-    let behind = drop to body.elements in
-    let moved = map (moved_element less more) behind in
-    let all = count-old body gone from to less more in
-    let sum = count-parts body.elements to in
-    let olds = bare-append old front (gone.elements ++ moved) ∙ ap (λ (rows : List BareRow). bare old front ++ rows) (bare-append old gone.elements moved) in
-    let one = ap (bare new) (sym (take-append-drop from body.elements)) ∙ bare-append new front (drop from body.elements) in
-    let two = ap (bare new) (sym (take-append-drop to body.elements)) ∙ bare-append new till behind in
-    let three = olds ∙ sym (append3 (bare old front) (bare old gone.elements) (bare old moved)) in
-    let size : length (bare old front ++ bare old gone.elements) ≡ old_from =
-    omega (arith, length-append (bare old front) (bare old gone.elements), bare-size old front, bare-size old gone.elements, old_is) in
-    record {
-      old_low = omega (arith, all, old_is);
-      new_low = omega (arith, sum, new_is);
-      front = ap (take same_to) olds ∙ take_at (bare old front) (bare old gone.elements ++ bare old moved) same_to (bare-size old front ∙ sym same_is)
-          ∙ outside.front ∙ sym (ap (take same_to) one ∙ take_at (bare new front) (bare new (drop from body.elements)) same_to (bare-size new front ∙ sym same_is));
-      behind = ap (drop old_from) three ∙ drop_at (bare old front ++ bare old gone.elements) (bare old moved) old_from size
-          ∙ outside.behind ∙ sym (ap (drop new_from) two ∙ drop_at (bare new till) (bare new behind) new_from (bare-size new till ∙ sym new_is));
-    }
-  where
-    append3 : (xs ys zs : List BareRow) → (xs ++ ys) ++ zs ≡ xs ++ (ys ++ zs)
-    append3 [] ys zs = refl
-    append3 (x ∷ xs) ys zs = ap (λ (rows : List BareRow). x ∷ rows) (append3 xs ys zs)
-
-module _ (old : List LineState) (olds : List ElementOf) (new : List LineState) (news : List ElementOf) (same_to old_from new_from : ℕ) (around : AreSameAround old olds new news same_to old_from new_from) where
-  -- Rows before those that may differ.
-  pub aside-front : (from to start : ℕ) → from ≤ to → from ≡ start → to ≤ same_to → bare_rows old olds from to ≡ bare_rows new news start (start + (to - from))
-  aside-front from to start order same within =
-      let end : start + (to - from) ≡ to = omega (arith, order, same) in
-      let count : from + (to - from) ≡ to = omega (arith, order) in
-      let cut : (rows : List BareRow) → slice_range rows from to ≡ drop from (take to (take same_to rows)) =
-      λ rows. sym (ap (λ n. drop from (take n (take same_to rows))) (sym count) ∙ drop-take from (to - from) (take same_to rows) ∙ dropped rows (to - from) (omega (arith, count, within))) in
-      map-slice (bare_row old) (placed_in olds) from to ∙ cut (bare old olds) ∙ ap (λ (rows : List BareRow). drop from (take to rows)) around.front
-      ∙ sym (cut (bare new news)) ∙ sym (map-slice (bare_row new) (placed_in news) from to)
-      ∙ ap₂ (λ n m. bare_rows new news n m) same (sym end)
-    where
-      dropped : (rows : List BareRow) (k : ℕ) → from + k ≤ same_to → take k (drop from (take same_to rows)) ≡ take k (drop from rows)
-      dropped rows k low = sym (drop-take from k (take same_to rows)) ∙ ap (drop from) (take-take (from + k) same_to rows low) ∙ drop-take from k rows
-
-  -- Rows behind those that may differ.
-  pub aside-behind : (from to start : ℕ) → from ≤ to → old_from ≤ from → new_from ≤ start → from - old_from ≡ start - new_from → bare_rows old olds from to ≡ bare_rows new news start (start + (to - from))
-  aside-behind from to start order low behind same =
-      let k = from - old_from in
-      let one : old_from + k ≡ from = omega (arith, low) in
-      let other : new_from + k ≡ start = omega (arith, behind, same) in
-      let count : start + (to - from) - start ≡ to - from = omega arith in
-      map-slice (bare_row old) (placed_in olds) from to
-      ∙ ap (take (to - from)) (ap (λ n. drop n (bare old olds)) (sym one) ∙ sym (drop-drop k old_from (bare old olds)) ∙ ap (drop k) around.behind ∙ drop-drop k new_from (bare new news) ∙ ap (λ n. drop n (bare new news)) other)
-      ∙ ap (λ n. take n (drop start (bare new news))) (sym count)
-      ∙ sym (map-slice (bare_row new) (placed_in news) start (start + (to - from)))

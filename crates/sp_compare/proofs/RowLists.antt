@@ -1,7 +1,9 @@
 -- Rows, compared one by one.
 use Rattle.std.proofs.Common.{◌≡◌, ◌≢◌, ℕ, zero, suc, ◌+◌, ◌-◌, ◌<◌, ◌≤◌, Bool, true, false, Option, List, [], ◌∷◌, ◌++◌, length, map, take, drop, get_or, refl, sym, ap, ap₂, ◌∙◌, arith, length-drop}
 use Rattle.std.specs.Prelude.{◌&&◌, nat_eq, slice_range}
+use Rattle.std.proofs.Math.Bool.{and_assoc}
 use Rattle.std.proofs.lemmas.Bool.{and_left}
+use Rattle.spec_script.proofs.FirstMarks.{and-true}
 use Rattle.std.proofs.lemmas.List.{drop_more, get_or-map, length-map, length-take, map-append}
 use Rattle.spec_text.specs.Lines.{LineState, line_texts}
 use Rattle.spec_pages.specs.Rows.{Row, ElementOf, placed_rows, shifted_row}
@@ -11,6 +13,8 @@ use Rattle.spec_layout.specs.Cells.{ShownCell}
 use Rattle.spec_layout.specs.Layout.{placed_in}
 use Rattle.spec_layout.specs.Shown.{element_cue, heading_label, labels_behind, row_key, shown_of, shown_rows}
 use Rattle.spec_state.specs.SameRows.{BareRow, bare_of, same_cells, same_key, same_list, same_row, same_shape}
+use Rattle.spec_state.proofs.SameLaws.{list-itself}
+use Rattle.sp_runs.proofs.RunLaws.{slice-parts}
 use Rattle.sp_elements.specs.Bodies.{KeyedElements, row_count}
 use Rattle.sp_compare.specs.BareRows.{AreLaid, bare_cells, bare_row, bare_rows}
 
@@ -83,6 +87,47 @@ pub rows-step : (old new : List LineState) (olds news : List ElementOf) (from to
     ≡ (same_row (bare_row old (get_or (placed_in olds) from d)) (bare_row new (get_or (placed_in news) start d)) && same_list (bare_rows old olds (from + 1) to) (bare_rows new news (start + 1) end))
 rows-step old new olds news from to start end d order within order' within' =
     ap₂ (λ (xs ys : List Row). same_list (map (bare_row old) xs) (map (bare_row new) ys)) (slice-more (placed_in olds) from to d order within) (slice-more (placed_in news) start end d order' within')
+
+-- Rows in three parts, of which the first and the last are the same.
+list-append : (one other ones others : List BareRow) → length one ≡ length other → same_list (one ++ ones) (other ++ others) ≡ (same_list one other && same_list ones others)
+list-append [] [] ones others size = refl
+list-append [] (y ∷ other) ones others size = absurd (omega (arith, size))
+list-append (x ∷ one) [] ones others size = absurd (omega (arith, size))
+list-append (x ∷ one) (y ∷ other) ones others size =
+    ap (λ (b : Bool). same_row x y && b) (list-append one other ones others (omega (arith, size))) ∙ sym (and_assoc (same_row x y) (same_list one other) (same_list ones others))
+
+list-between : (front one other back : List BareRow) → length one ≡ length other → same_list (front ++ (one ++ back)) (front ++ (other ++ back)) ≡ same_list one other
+list-between front one other back size =
+    list-append front front (one ++ back) (other ++ back) refl ∙ ap (λ (b : Bool). b && same_list (one ++ back) (other ++ back)) (list-itself front)
+    ∙ list-append one other back back size ∙ ap (λ (b : Bool). same_list one other && b) (list-itself back) ∙ and-true (same_list one other)
+
+rows-three : (lines : List LineState) (elements : List ElementOf) (from first last to : ℕ) → from ≤ first → first ≤ last → last ≤ to
+    → bare_rows lines elements from to ≡ bare_rows lines elements from first ++ (bare_rows lines elements first last ++ bare_rows lines elements last to)
+rows-three lines elements from first last to low order high =
+    let rows = placed_in elements in
+    ap (map (bare_row lines)) (sym (slice-parts rows from first to low (omega (arith, order, high))) ∙ ap (λ (those : List Row). slice_range rows from first ++ those) (sym (slice-parts rows first last to order high)))
+    ∙ map-append (bare_row lines) (slice_range rows from first) (slice_range rows first last ++ slice_range rows last to)
+    ∙ ap (λ (those : List BareRow). bare_rows lines elements from first ++ those) (map-append (bare_row lines) (slice_range rows first last) (slice_range rows last to))
+
+-- Only the second part has to be compared.
+pub rows-between : (old new : List LineState) (olds news : List ElementOf) (from start count first last : ℕ) → first ≤ last → last ≤ count → from + count ≤ row_count olds → start + count ≤ row_count news
+    → bare_rows old olds from (from + first) ≡ bare_rows new news start (start + first) → bare_rows old olds (from + last) (from + count) ≡ bare_rows new news (start + last) (start + count)
+    → same_list (bare_rows old olds from (from + count)) (bare_rows new news start (start + count)) ≡ same_list (bare_rows old olds (from + first) (from + last)) (bare_rows new news (start + first) (start + last))
+rows-between old new olds news from start count first last order high within within' front back =
+    let one = bare_rows old olds (from + first) (from + last) in
+    let other = bare_rows new news (start + first) (start + last) in
+    let ahead = bare_rows new news start (start + first) in
+    let rest = bare_rows new news (start + last) (start + count) in
+    let size : length one ≡ length other = omega (
+      arith,
+      order,
+      length-bare old olds (from + first) (from + last) (omega (arith, order)) (omega (arith, high, within)),
+      length-bare new news (start + first) (start + last) (omega (arith, order)) (omega (arith, high, within')),
+    ) in
+    ap₂ same_list
+    (rows-three old olds from (from + first) (from + last) (from + count) (omega arith) (omega (arith, order)) (omega (arith, high)) ∙ ap₂ (λ (xs ys : List BareRow). xs ++ (one ++ ys)) front back)
+    (rows-three new news start (start + first) (start + last) (start + count) (omega arith) (omega (arith, order)) (omega (arith, high)))
+    ∙ list-between ahead one other rest size
 
 -- ---- a row, by what stands of it in its element
 

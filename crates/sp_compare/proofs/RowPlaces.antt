@@ -7,9 +7,14 @@ use Rattle.spec_layout.specs.Layout.{placed_in}
 use Rattle.sp_elements.specs.Bodies.{StandsIn, row_count}
 use Rattle.sp_elements.proofs.BodyLaws.{placed_in-push}
 
-pub row-there : (elements : List ElementOf) (row place start : ℕ) (element : ElementOf) (it d : Row) → StandsIn elements row place → start ≡ row_count (take place elements)
-    → element ≡ get_or elements place element → it ≡ get_or element.rows (row - start) it → get_or (placed_in elements) row d ≡ shifted_row element.first it
-row-there elements row place start element it d stands begin is own =
+-- An element that was read from a list, by its fields.
+pub element-read : (elements all : List ElementOf) (place : ℕ) (read element : ElementOf) → element ≡ read → read ≡ get_or all place read → all ≡ elements → element ≡ get_or elements place element
+element-read elements all place read element own is are = own ∙ is ∙ ap (λ (those : List ElementOf). get_or those place read) are ∙ ap (get_or elements place) (sym own)
+
+-- A row stands among the rows of its element.
+pub row-inside : (elements : List ElementOf) (row place start : ℕ) (element : ElementOf) → StandsIn elements row place → start ≡ row_count (take place elements) → element ≡ get_or elements place element
+    → row - start < length element.rows
+row-inside elements row place start element stands begin is =
     let inside = stands.inside in
     let from = stands.from in
     let to = stands.to in
@@ -17,7 +22,15 @@ row-there elements row place start element it d stands begin is own =
     ap row_count (take_more elements place element inside ∙ ap (λ (e : ElementOf). take place elements ++ e ∷ []) (sym is)) ∙ ap length (placed_in-push (take place elements) element) in
     let both = length-append (placed_in (take place elements)) (placed_rows element) in
     let size = length-map element.rows (shifted_row element.first) in
-    let low : row - start < length element.rows = omega (arith, begin, from, to, more, both, size) in
+    omega (arith, begin, from, to, more, both, size)
+
+pub row-there : (elements : List ElementOf) (row place start : ℕ) (element : ElementOf) (it d : Row) → StandsIn elements row place → start ≡ row_count (take place elements)
+    → element ≡ get_or elements place element → it ≡ get_or element.rows (row - start) it → get_or (placed_in elements) row d ≡ shifted_row element.first it
+row-there elements row place start element it d stands begin is own =
+    let inside = stands.inside in
+    let from = stands.from in
+    let low = row-inside elements row place start element stands begin is in
+    let size = length-map element.rows (shifted_row element.first) in
     let here : row - start < length (placed_rows (get_or elements place element)) =
     subst (λ (e : ElementOf). row - start < length (placed_rows e)) is (omega (arith, low, size)) in
     let at : row ≡ row_count (take place elements) + (row - start) = omega (arith, begin, from) in

@@ -1,5 +1,5 @@
 -- Rows of elements as an edit sees them (docs/RULES.md, "Edits and records").
-use Rattle.std.specs.Prelude.{◌≡◌, ◌+◌, ◌≤◌, ℕ, if◌then◌else◌, List, [], ◌∷◌, map, take, drop, slice_range, All}
+use Rattle.std.specs.Prelude.{◌≡◌, ◌+◌, ◌-◌, ◌≤◌, ℕ, if◌then◌else◌, List, [], ◌∷◌, map, take, drop, slice_range, All}
 use Rattle.spec_text.specs.Lines.{LineState, line_texts}
 use Rattle.spec_script.specs.declared.Run.{Run}
 use Rattle.spec_pages.specs.Rows.{Cell, Row, ElementOf, shifted_cell}
@@ -37,12 +37,20 @@ pub record AreLaid (lines : List LineState) (body : KeyedElements) : Type 0 wher
 abbrev pub bare_rows : List LineState → List ElementOf → ℕ → ℕ → List BareRow
 bare_rows lines elements from to = map (bare_row lines) (slice_range (placed_in elements) from to)
 
--- The first rows of two texts are the same, and those from some row of the one on are those from some row of the other on.
-pub record AreSameAround (old : List LineState) (olds : List ElementOf) (new : List LineState) (news : List ElementOf) (same_to old_from new_from : ℕ) : Type 0 where
+-- So many rows of two texts, from some row of each on, are the same.
+abbrev pub AreSameRun : List LineState → List ElementOf → List LineState → List ElementOf → ℕ → ℕ → ℕ → Type 0
+AreSameRun old olds new news from start count = bare_rows old olds from (from + count) ≡ bare_rows new news start (start + count)
+
+-- The first rows of two texts are the same, and those from some row of the one on are those from some row of the other on, but for those
+-- of the other from one to before another.
+pub record AreSameAround (old : List LineState) (olds : List ElementOf) (new : List LineState) (news : List ElementOf) (same_to old_from new_from others_from others_to : ℕ) : Type 0 where
   pub old_low : old_from ≤ row_count olds
-  pub new_low : new_from ≤ row_count news
-  pub front : take same_to (map (bare_row old) (placed_in olds)) ≡ take same_to (map (bare_row new) (placed_in news))
-  pub behind : drop old_from (map (bare_row old) (placed_in olds)) ≡ drop new_from (map (bare_row new) (placed_in news))
+  pub behind_run : new_from ≤ others_from
+  pub order : others_from ≤ others_to
+  pub within : others_to ≤ row_count news
+  pub front : AreSameRun old olds new news 0 0 same_to
+  pub until : AreSameRun old olds new news old_from new_from (others_from - new_from)
+  pub behind : AreSameRun old olds new news (old_from + (others_to - new_from)) others_to (row_count news - others_to)
 
 -- An edit left the rows of elements but for those from one place to before another, whose lines were less and more by so much
 -- behind these.

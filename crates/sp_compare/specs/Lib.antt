@@ -1,2 +1,3 @@
 pub mod BareRows
+pub mod OldElements
 pub mod Raised

@@ -1,23 +1,23 @@
 //! A text laid out before a change of its lines and after it.
-ghost use Rattle.std.specs.Prelude.{◌≡◌, ◌+◌, ◌-◌, ◌<◌, ◌≤◌, All, Option, List, drop, length, slice_index_or, slice_range};
-ghost use Rattle.std.specs.Bool.{OnTrue};
+ghost use Rattle.std.specs.Prelude.{◌≡◌, ◌+◌, ◌<◌, ◌≤◌, All, IfSome, Option, List, drop, length, slice_index_or, slice_range};
 ghost use Rattle.spec_labels.specs.Labels.{LabelOf};
 ghost use Rattle.spec_layout.specs.Layout.{placed_in};
 ghost use Rattle.spec_layout.specs.Shown.{no_row, shown_rows};
 ghost use Rattle.spec_state.specs.SameRows.{same_list, same_row, same_rows};
 ghost use Rattle.sp_elements.specs.Bodies.{keyed_elements, row_count};
-ghost use Rattle.sp_elements.specs.Exchanges.{CanMove, with_run};
+ghost use Rattle.sp_elements.specs.Exchanges.{CanMove};
 ghost use Rattle.sp_compare.specs.BareRows.{AreLaid, StayOutside, bare_row, bare_rows};
+ghost use Rattle.sp_compare.specs.OldElements.{AreOtherRows, elements_before};
 
 use crate::cells::same_cells;
-use crate::old_rows::{OldRows, row_at};
+use crate::old_rows::{OldRows, OtherRows, RunPlaces, row_at, rows_of_others};
 use crate::shapes::{same_key, same_shape};
 use sp_elements::Body;
 use sp_text::{Lines, OldLines};
 use std::marker::Model;
 
 /// A text laid out before a change of its lines and after it. The first rows of both are the same, and those from some row
-/// of the one on are those from some row of the other on.
+/// of the one on are those from some row of the other on, but for the rows of one element among these.
 #[derive(Drop)]
 pub struct BothTexts<'a> {
     old: OldLines<'a>,
@@ -27,6 +27,8 @@ pub struct BothTexts<'a> {
     same_to: usize,
     old_from: usize,
     new_from: usize,
+    others_from: usize,
+    others_to: usize,
 }
 
 impl<'a> Model for BothTexts<'a> {
@@ -38,34 +40,34 @@ impl<'a> Model for BothTexts<'a> {
     ghost view = { λ b. record { old = b.old; olds = b.olds.elements; new = b.new.now.lines; news = b.news.now.elements } };
 
     ghost invariant = { λ b. AreLaid b.old b.olds × AreLaid b.new.now.lines (keyed_elements b.news.now)
-        × AreSameAround b.old b.olds.elements b.new.now.lines b.news.now.elements b.same_to b.old_from b.new_from };
+        × AreSameAround b.old b.olds.elements b.new.now.lines b.news.now.elements b.same_to b.old_from b.new_from b.others_from b.others_to };
 }
 
 impl<'a> BothTexts<'a> {
-    /// A text before a change and after it, where the elements of `news` from one place to before another stand in the place
-    /// of `gone`, and the lines of those behind them were `less` less and `more` more. No row is copied.
+    /// A text before a change and after it, where the elements of `news` at some places stand in the place of `gone`, and one
+    /// behind these had other rows, or none. No row is copied.
     pub fn exchanged(
         old: OldLines<'a>,
         gone: &'a Body,
-        from: usize,
-        to: usize,
-        less: u64,
-        more: u64,
+        at: RunPlaces,
+        others: Option<OtherRows<'a>>,
         new: &'a Lines,
         news: &'a Body,
     ) -> BothTexts<'a>
-        requires order { from ≤ to }
-        requires within { to ≤ length news.now.elements }
-        requires later { All (CanMove less more) (drop to news.now.elements) }
-        requires few { row_count (with_run (keyed_elements news.now) from to (keyed_elements gone.now) less more).elements ≤ 9223372036854775807 }
-        requires olds { AreLaid old (with_run (keyed_elements news.now) from to (keyed_elements gone.now) less more) }
+        requires order { at.from ≤ at.to }
+        requires within { at.to ≤ length news.now.elements }
+        requires later { All (CanMove at.less at.more) (drop at.to news.now.elements) }
+        requires others { IfSome others (AreOtherRows news.now.elements at.to) }
+        requires few { row_count (elements_before (keyed_elements news.now) others at (keyed_elements gone.now)).elements ≤ 9223372036854775807 }
+        requires olds { AreLaid old (elements_before (keyed_elements news.now) others at (keyed_elements gone.now)) }
         requires news { AreLaid new.now.lines (keyed_elements news.now) }
-        requires outside { StayOutside old new.now.lines news.now.elements from to less more }
-        ensures { result ≡ record { old = old.entry; olds = (with_run (keyed_elements news.now) from to (keyed_elements gone.now) less more).elements; new = new.now.lines; news = news.now.elements } }
+        requires outside { StayOutside old new.now.lines news.now.elements at.from at.to at.less at.more }
+        ensures { result ≡ record { old = old.entry; olds = (elements_before (keyed_elements news.now) others.entry at (keyed_elements gone.now)).elements; new = new.now.lines; news = news.now.elements } }
     {
-        let same_to = news.rows_before(from);
-        let new_from = news.rows_before(to);
-        let olds = OldRows::new(news, gone, from, to, less, more);
+        let same_to = news.rows_before(at.from);
+        let new_from = news.rows_before(at.to);
+        let (others_from, others_to) = rows_of_others(news, at.to, &others);
+        let olds = OldRows::new(news, gone, at, others);
         let _rows = olds.rows();
         let old_from = same_to + gone.rows();
         BothTexts {
@@ -76,6 +78,8 @@ impl<'a> BothTexts<'a> {
             same_to,
             old_from,
             new_from,
+            others_from,
+            others_to,
         }
     }
 
@@ -133,24 +137,33 @@ impl<'a> BothTexts<'a> {
         true
     }
 
-    /// Whether rows stand where the rows of both texts are the same.
-    fn are_aside(&self, from: usize, to: usize, start: usize) -> bool
-        requires old { from ≤ to }
-        requires old_within { to ≤ row_count self.now.olds }
-        ensures { OnTrue result (bare_rows self.now.old self.now.olds from to ≡ bare_rows self.now.new self.now.news start (start + (to - from))) }
+    /// Which of so many rows are compared, from one to before another: the others are the same before the change and after it.
+    fn compared(&self, from: usize, start: usize, count: usize) -> (usize, usize)
+        requires old { from + count ≤ row_count self.now.olds }
+        requires new { start + count ≤ row_count self.now.news }
+        ensures order { result.0 ≤ result.1 }
+        ensures within { result.1 ≤ count }
+        ensures front { bare_rows self.now.old self.now.olds from (from + result.0) ≡ bare_rows self.now.new self.now.news start (start + result.0) }
+        ensures behind { bare_rows self.now.old self.now.olds (from + result.1) (from + count) ≡ bare_rows self.now.new self.now.news (start + result.1) (start + count) }
     {
-        if from == start && to <= self.same_to {
-            return true;
+        let _olds = self.olds.rows();
+        if from == start && from + count <= self.same_to {
+            return (0, 0);
         }
         if from < self.old_from || start < self.new_from {
-            return false;
+            return (0, count);
         }
-        from - self.old_from == start - self.new_from
+        if from - self.old_from != start - self.new_from {
+            return (0, count);
+        }
+        let first = self.others_from.saturating_sub(start);
+        let end = self.others_to.saturating_sub(start);
+        (first.min(count), end.min(count))
     }
 
     /// Whether the rows from one to before another, before the change, are the same as those after it: by their keys,
     /// shapes, marks, and cells without scene numbers (docs/RULES.md, "Edits and records"). Each row is looked at once, and
-    /// none where all stand where the change left them.
+    /// none where all stand where the change left them, but for those of the element that had other rows.
     pub fn same_rows(&self, from: usize, to: usize, start: usize, end: usize) -> bool
         requires old { from ≤ to }
         requires old_within { to ≤ row_count self.now.olds }
@@ -161,9 +174,9 @@ impl<'a> BothTexts<'a> {
         if to - from != end - start {
             return false;
         }
-        if self.are_aside(from, to, start) {
-            return true;
-        }
-        self.same_run(from, start, to - from)
+        let _olds = self.olds.rows();
+        let _news = self.news.rows();
+        let (first, last) = self.compared(from, start, to - from);
+        self.same_run(from + first, start + first, last - first)
     }
 }

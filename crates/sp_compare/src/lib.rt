@@ -9,4 +9,5 @@ mod raising;
 mod shapes;
 
 pub use both::BothTexts;
+pub use old_rows::{OtherRows, RunPlaces};
 pub use raising::raises;

@@ -1,14 +1,40 @@
 //! The rows of a text before a change.
-ghost use Rattle.std.specs.Prelude.{◌≡◌, ◌+◌, ◌<◌, ◌≤◌, All, drop, length, map, slice_index_or, take};
+ghost use Rattle.std.specs.Prelude.{◌≡◌, ◌+◌, ◌<◌, ◌≤◌, All, IfSome, drop, length, map, slice_index_or, take};
 ghost use Rattle.spec_labels.specs.declared.RowKey.{RowKey as RowKeyValue};
 ghost use Rattle.spec_layout.specs.Layout.{placed_in};
 ghost use Rattle.spec_pages.specs.Rows.{Row as RowValue, shifted_row};
 ghost use Rattle.sp_elements.specs.Bodies.{keyed_elements, row_count};
-ghost use Rattle.sp_elements.specs.Exchanges.{CanMove, moved_element, with_run};
+ghost use Rattle.sp_elements.specs.Exchanges.{CanMove, moved_element, rows_at};
+ghost use Rattle.sp_compare.specs.OldElements.{AreOtherRows, elements_before, others_from, others_to, with_others};
 
 use sp_elements::{Body, Row};
 use spec_labels::RowKey;
 use std::marker::Model;
+
+/// From which place to before which other elements stand in the place of those that a change took out. Before it the lines of
+/// those behind were less and more by so much.
+#[derive(Clone, Copy)]
+pub struct RunPlaces {
+    pub from: usize,
+    pub to: usize,
+    pub less: u64,
+    pub more: u64,
+}
+
+/// Rows that an element had before a change, and which of those after it that is.
+#[derive(Drop)]
+pub struct OtherRows<'a> {
+    pub element: usize,
+    pub rows: &'a [Row],
+}
+
+impl<'a> Model for OtherRows<'a> {
+    ghost use Rattle.sp_compare.specs.OldElements.{OtherRowsOf};
+
+    ghost Value = { OtherRowsOf };
+
+    ghost view = { λ o. record { element = o.element; rows = o.rows.now } };
+}
 
 /// A row, its key, and the line from which it counts its lines.
 #[derive(Drop)]
@@ -34,75 +60,118 @@ pub(crate) fn row_at(body: &Body, row: usize) -> KeyedRow<'_>
     }
 }
 
+/// The rows that the element at a place had.
+fn old_rows_at<'a>(body: &'a Body, others: &Option<OtherRows<'a>>, place: usize) -> &'a [Row]
+    requires { place < length body.now.elements }
+    ensures { result.now ≡ rows_at (with_others (keyed_elements body.now) others.now).elements place }
+{
+    if let Some(others) = others {
+        if others.element == place {
+            return others.rows;
+        }
+    }
+    let element = &body.elements()[place];
+    &element.rows
+}
+
 /// A row behind the elements before a place, with the lines that it had before these were moved.
-fn row_behind(body: &Body, to: usize, less: u64, more: u64, row: usize) -> KeyedRow<'_>
-    requires within { to ≤ length body.now.elements }
-    requires later { All (CanMove less more) (drop to body.now.elements) }
-    requires row { row_count (take to body.now.elements) + row < row_count body.now.elements }
-    ensures row { (d : RowValue) → slice_index_or (placed_in (map (moved_element less more) (drop to body.now.elements))) row d ≡ shifted_row result.first result.row.now }
-    ensures key { (d : RowKeyValue) → slice_index_or body.now.keys (row_count (take to body.now.elements) + row) d ≡ result.key }
+fn row_behind<'a>(
+    body: &'a Body,
+    others: &Option<OtherRows<'a>>,
+    at: RunPlaces,
+    row: usize,
+) -> KeyedRow<'a>
+    requires within { at.to ≤ length body.now.elements }
+    requires later { All (CanMove at.less at.more) (drop at.to body.now.elements) }
+    requires others { IfSome others.now (AreOtherRows body.now.elements at.to) }
+    requires row { row_count (take at.to body.now.elements) + row < row_count body.now.elements }
+    ensures row { (d : RowValue) → slice_index_or (placed_in (map (moved_element at.less at.more) (drop at.to (with_others (keyed_elements body.now) others.now).elements))) row d ≡ shifted_row result.first result.row.now }
+    ensures key { (d : RowKeyValue) → slice_index_or body.now.keys (row_count (take at.to body.now.elements) + row) d ≡ result.key }
 {
     let _len = body.len();
-    let place = body.rows_before(to) + row;
+    let place = body.rows_before(at.to) + row;
     let it = body.element_of_row(place);
     let start = body.row_start(it);
     let element = &body.elements()[it];
+    let first = element.first - at.less + at.more;
+    let rows = old_rows_at(body, others, it);
     KeyedRow {
-        first: element.first - less + more,
-        row: &element.rows[place - start],
+        first,
+        row: &rows[place - start],
         key: *body.keys().at(place),
     }
 }
 
-/// The elements of a text before a change, by those after it: some of these stand in the place of others, and the lines of
-/// those behind them were less and more by so much. No row is copied.
+/// From which row to before which other the element stands that has other rows; the row behind a place twice, where there is none.
+pub(crate) fn rows_of_others(
+    body: &Body,
+    to: usize,
+    others: &Option<OtherRows<'_>>,
+) -> (usize, usize)
+    requires within { to ≤ length body.now.elements }
+    requires others { IfSome others.now (AreOtherRows body.now.elements to) }
+    ensures from { result.0 ≡ others_from body.now.elements to others.now }
+    ensures to { result.1 ≡ others_to body.now.elements to others.now }
+{
+    match others {
+        Some(others) => {
+            let place = others.element;
+            let _len = body.len();
+            (body.rows_before(place), body.rows_before(place + 1))
+        }
+        None => {
+            let row = body.rows_before(to);
+            (row, row)
+        }
+    }
+}
+
+/// The elements of a text before a change, by those after it: some of these stand in the place of others, the lines of those
+/// behind them were less and more by so much, and one of these may have had other rows. No row is copied.
 #[derive(Drop)]
 pub struct OldRows<'a> {
     news: &'a Body,
     gone: &'a Body,
-    from: usize,
-    to: usize,
-    less: u64,
-    more: u64,
+    at: RunPlaces,
+    others: Option<OtherRows<'a>>,
 }
 
 impl<'a> Model for OldRows<'a> {
-    ghost use Rattle.std.specs.Prelude.{◌≤◌, All, drop, length};
+    ghost use Rattle.std.specs.Prelude.{◌≤◌, All, IfSome, drop, length};
     ghost use Rattle.sp_elements.specs.Bodies.{KeyedElements, keyed_elements, row_count};
-    ghost use Rattle.sp_elements.specs.Exchanges.{CanMove, with_run};
+    ghost use Rattle.sp_elements.specs.Exchanges.{CanMove};
+    ghost use Rattle.sp_compare.specs.OldElements.{AreOtherRows, elements_before};
 
     ghost Value = { KeyedElements };
 
-    ghost view = { λ o. with_run (keyed_elements o.news.now) o.from o.to (keyed_elements o.gone.now) o.less o.more };
+    ghost view = { λ o. elements_before (keyed_elements o.news.now) o.others o.at (keyed_elements o.gone.now) };
 
-    ghost invariant = { λ o. (o.from ≤ o.to) × (o.to ≤ length o.news.now.elements) × All (CanMove o.less o.more) (drop o.to o.news.now.elements)
-        × (row_count (with_run (keyed_elements o.news.now) o.from o.to (keyed_elements o.gone.now) o.less o.more).elements ≤ 9223372036854775807) };
+    ghost invariant = { λ o. (o.at.from ≤ o.at.to) × (o.at.to ≤ length o.news.now.elements) × All (CanMove o.at.less o.at.more) (drop o.at.to o.news.now.elements)
+        × IfSome o.others (AreOtherRows o.news.now.elements o.at.to)
+        × (row_count (elements_before (keyed_elements o.news.now) o.others o.at (keyed_elements o.gone.now)).elements ≤ 9223372036854775807) };
 }
 
 impl<'a> OldRows<'a> {
-    /// The elements before a change that put those from one place to before another of `news` in the place of `gone`, and
-    /// before which the lines of those behind them were `less` less and `more` more.
+    /// The elements before a change that put those of `news` at some places in the place of `gone`, where one behind these had
+    /// other rows, or none.
     pub fn new(
         news: &'a Body,
         gone: &'a Body,
-        from: usize,
-        to: usize,
-        less: u64,
-        more: u64,
+        at: RunPlaces,
+        others: Option<OtherRows<'a>>,
     ) -> OldRows<'a>
-        requires order { from ≤ to }
-        requires within { to ≤ length news.now.elements }
-        requires later { All (CanMove less more) (drop to news.now.elements) }
-        requires few { row_count (with_run (keyed_elements news.now) from to (keyed_elements gone.now) less more).elements ≤ 9223372036854775807 }
-        ensures { result ≡ with_run (keyed_elements news.now) from to (keyed_elements gone.now) less more }
+        requires order { at.from ≤ at.to }
+        requires within { at.to ≤ length news.now.elements }
+        requires later { All (CanMove at.less at.more) (drop at.to news.now.elements) }
+        requires others { IfSome others (AreOtherRows news.now.elements at.to) }
+        requires few { row_count (elements_before (keyed_elements news.now) others at (keyed_elements gone.now)).elements ≤ 9223372036854775807 }
+        ensures { result ≡ elements_before (keyed_elements news.now) others.entry at (keyed_elements gone.now) }
     {
         OldRows {
             news,
             gone,
-            from,
-            to,
-            less,
-            more,
+            at,
+            others,
         }
     }
 
@@ -110,8 +179,8 @@ impl<'a> OldRows<'a> {
     pub(crate) fn rows(&self) -> usize
         ensures { result ≡ row_count self.now.elements }
     {
-        let front = self.news.rows_before(self.from);
-        let till = self.news.rows_before(self.to);
+        let front = self.news.rows_before(self.at.from);
+        let till = self.news.rows_before(self.at.to);
         front + self.gone.rows() + (self.news.rows() - till)
     }
 
@@ -123,7 +192,7 @@ impl<'a> OldRows<'a> {
     {
         let _news = self.news.len();
         let _gone = self.gone.len();
-        let front = self.news.rows_before(self.from);
+        let front = self.news.rows_before(self.at.from);
         if row < front {
             return row_at(self.news, row);
         }
@@ -132,6 +201,6 @@ impl<'a> OldRows<'a> {
         if inside < count {
             return row_at(self.gone, inside);
         }
-        row_behind(self.news, self.to, self.less, self.more, inside - count)
+        row_behind(self.news, &self.others, self.at, inside - count)
     }
 }

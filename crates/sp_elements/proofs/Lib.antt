@@ -3,3 +3,4 @@ pub mod BodyExchanges
 pub mod BodyLaws
 pub mod ElementCounts
 pub mod Halves
+pub mod RowSwaps

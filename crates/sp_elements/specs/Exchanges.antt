@@ -1,6 +1,6 @@
 -- Elements of a body exchanged for others (docs/RULES.md, "Windows").
-use Rattle.std.specs.Prelude.{ℕ, ◌++◌, map, take, drop, slice_range}
-use Rattle.spec_pages.specs.Rows.{ElementOf}
+use Rattle.std.specs.Prelude.{◌≡◌, ℕ, zero, suc, List, [], ◌∷◌, ◌++◌, map, take, drop, slice_range}
+use Rattle.spec_pages.specs.Rows.{Row, ElementOf}
 use Rattle.sp_runs.specs.Runs.{exchanged}
 use Rattle.sp_splice.specs.Moves.{shifted, CanShift}
 use Rattle.sp_elements.specs.Bodies.{KeyedElements, row_count}
@@ -26,3 +26,23 @@ with_run body from to others less more = record {
   elements = take from body.elements ++ (others.elements ++ map (moved_element less more) (drop to body.elements));
   keys = exchanged body.keys (rows_before body from) (rows_before body to) others.keys;
 }
+
+-- Elements of which the one at a place has other rows.
+abbrev pub with_rows_at : List ElementOf → ℕ → List Row → List ElementOf
+with_rows_at [] place rows = []
+with_rows_at (element ∷ elements) zero rows = record { first = element.first; rows = rows } ∷ elements
+with_rows_at (element ∷ elements) (suc place) rows = element ∷ with_rows_at elements place rows
+
+abbrev pub with_rows : KeyedElements → ℕ → List Row → KeyedElements
+with_rows body place rows = record { elements = with_rows_at body.elements place rows; keys = body.keys }
+
+-- The rows of the element at a place; none where there is no such element.
+abbrev pub rows_at : List ElementOf → ℕ → List Row
+rows_at [] place = []
+rows_at (element ∷ elements) zero = element.rows
+rows_at (element ∷ elements) (suc place) = rows_at elements place
+
+-- Rows with the same shapes and marks, one by one: to page ends, and by their stars, they are alike.
+pub record AreRowsAlike (rows others : List Row) : Type 0 where
+  pub shapes : map (λ (row : Row). row.shape) rows ≡ map (λ (row : Row). row.shape) others
+  pub marks : map (λ (row : Row). row.mark) rows ≡ map (λ (row : Row). row.mark) others

@@ -6,7 +6,7 @@ ghost use Rattle.spec_pages.specs.Rows.{Row as RowValue, placed_rows, shifted_ro
 ghost use Rattle.spec_labels.specs.Labels.{LabelOf};
 ghost use Rattle.spec_layout.specs.Shown.{heading_count, is_heading_element, labels_past, row_key, shown_rows};
 ghost use Rattle.sp_elements.specs.Bodies.{IsPageOf, StandsIn, headings_of, keyed_elements, marks_in, no_elements, row_count, shapes_in, with_element};
-ghost use Rattle.sp_elements.specs.Exchanges.{CanMove, run_of, with_run};
+ghost use Rattle.sp_elements.specs.Exchanges.{AreRowsAlike, CanMove, rows_at, run_of, with_rows, with_rows_at, with_run};
 ghost use Rattle.sp_runs.specs.Runs.{exchanged};
 
 use crate::moves::move_elements;
@@ -20,6 +20,7 @@ use spec_labels::RowKey;
 use spec_pages::Shape;
 use std::alloc::{AllocError, Global};
 use std::marker::Model;
+use std::mem;
 
 /// Whether the element is a heading: its first row is the first of one (docs/RULES.md, "Elements"). Takes no memory.
 pub fn is_heading_element(element: &Element) -> bool
@@ -225,6 +226,16 @@ fn exchange_rows(
     keys.exchange(from, to, other_keys);
 }
 
+/// Exchanges the rows of an element for others.
+fn swap_rows_at(elements: &mut Vec<Element>, place: usize, rows: &mut Vec<Row>)
+    requires { place < vec_len elements.old }
+    ensures elements { elements.new.items ≡ with_rows_at elements.old.items place rows.old.items }
+    ensures rows { rows.new.items ≡ rows_at elements.old.items place }
+    ensures room { vec_capacity elements.new ≡ vec_capacity elements.old }
+{
+    mem::swap(&mut elements[place].rows, rows);
+}
+
 /// The elements from one place to before another.
 fn part_of(elements: &[Element], from: usize, to: usize) -> &[Element]
     requires order { from ≤ to }
@@ -339,6 +350,21 @@ impl Body {
         ensures { result.now ≡ self.now.elements }
     {
         &self.elements
+    }
+
+    /// The elements by themselves.
+    pub fn into_elements(self) -> Vec<Element>
+        ensures { result.items ≡ self.elements }
+    {
+        let Body {
+            elements,
+            shapes: _shapes,
+            marks: _marks,
+            keys: _keys,
+            row_starts: _row_starts,
+            heading_starts: _heading_starts,
+        } = self;
+        elements
     }
 
     /// The row before which an element begins: how many rows stand before it.
@@ -463,6 +489,17 @@ impl Body {
         );
         exchange(&mut self.elements, from, to, &mut other.elements);
         move_elements(&mut self.elements, from + count, less, more);
+    }
+
+    /// Exchanges the rows of an element for others that are alike to page ends. It copies no rows and takes no memory.
+    pub fn swap_rows(&mut self, place: usize, rows: &mut Vec<Row>)
+        requires inside { place < length self.old.elements }
+        requires alike { AreRowsAlike rows.old.items (rows_at self.old.elements place) }
+        ensures elements { keyed_elements self.new ≡ with_rows (keyed_elements self.old) place rows.old.items }
+        ensures rows { rows.new.items ≡ rows_at self.old.elements place }
+        ensures room { (self.new.room ≡ self.old.room) × (self.new.row_room ≡ self.old.row_room) }
+    {
+        swap_rows_at(&mut self.elements, place, rows);
     }
 
     /// The elements that the rows from one to before another stand in.
