@@ -1,5 +1,5 @@
--- Where in the text before an edit the stanzas on both sides of the gap stand.
-use Rattle.std.proofs.Common.{◌≡◌, ℕ, ◌+◌, ◌-◌, ◌<◌, ◌≤◌, suc, List, [], ◌∷◌, ◌++◌, length, take, drop, reverse, sym, ap, subst, ◌∙◌, inl, inr, arith, append_assoc, length-append, length-drop}
+-- Where in the text before an edit the stanzas on both sides of a place stand.
+use Rattle.std.proofs.Common.{◌≡◌, ℕ, ◌+◌, ◌-◌, ◌<◌, ◌≤◌, suc, List, [], ◌∷◌, ◌++◌, length, take, drop, reverse, sym, ap, subst, ◌∙◌, inl, inr, arith, append_assoc, drop-drop, length-append, length-drop, length-take}
 use Rattle.std.proofs.lemmas.Bool.{cases_lt}
 use Rattle.std.proofs.lemmas.List.{take-append-drop, reverse-append, reverse-reverse, length-reverse, take_at, take-take, nil_from_length}
 use Rattle.std.proofs.lemmas.List.Sorted.{IsPermutation-reverse, sum_by-IsPermutation}
@@ -11,7 +11,7 @@ use Rattle.spec_reread.specs.Windows.{IsCut, IsFreshPoint, IsGreatest, MayStart,
 use Rattle.spec_reread.proofs.Counts.{count-from}
 use Rattle.spec_reread.proofs.Insides.{none-inside}
 use Rattle.spec_reread.proofs.Places.{at_place, has-all}
-use Rattle.sp_piles.specs.Gaps.{gap_list, AtGap}
+use Rattle.sp_piles.specs.Gaps.{gap_list, AtLine}
 
 abbrev lines_of : StanzaOf → ℕ
 lines_of s = s.lines
@@ -57,7 +57,7 @@ pub sum-take-le : (back : List StanzaOf) (i j : ℕ) → i ≤ j → stanza_line
 sum-take-le back i j low =
     subst (λ xs. stanza_lines_in xs ≤ stanza_lines_in (take j back)) (take-take i j back low) (sum_by-take-le lines_of (take j back) i)
 
--- The stanzas behind the gap have a line each; so none is behind it where no line is.
+-- The stanzas behind the place have a line each; so none is behind it where no line is.
 pub some-back : (before : List (List ℕ)) (front back : List StanzaOf) → gap_list front back ≡ stanzas_of before → 0 < length back → stanza_lines_in front < length before
 some-back before front back all some =
     let has = has-behind before front (reverse back) all in
@@ -68,7 +68,7 @@ some-back before front back all some =
           absurd (omega (arith, some, length-reverse back, ap length none))
     ]
 
--- What stands behind the gap, where the text goes on there.
+-- What stands behind the place, where the text goes on there.
 pub record BackTop (before : List (List ℕ)) (a : ℕ) (back : List StanzaOf) : Type 0 where
   pub top : stanza_lines_in (take (length back - 1) back) + (stanza_at before a).lines ≡ stanza_lines_in back
   pub count : 0 < length back
@@ -90,8 +90,8 @@ back-top before a back low are =
       count = omega (arith, count);
     }
 
--- The gap is where the window begins.
-pub start-greatest : (before after : List (List ℕ)) (first old new : ℕ) (front back : List StanzaOf) → IsBefore (gap_list front back) before after first old new → AtGap front back first → IsGreatest (MayStart before first) (stanza_lines_in front)
+-- The place is where the window begins.
+pub start-greatest : (before after : List (List ℕ)) (first old new : ℕ) (front back : List StanzaOf) → IsBefore (gap_list front back) before after first old new → AtLine front back first → IsGreatest (MayStart before first) (stanza_lines_in front)
 start-greatest before after first old new front back b gap =
     let a = stanza_lines_in front in
     let has = has-behind before front (reverse back) b.all in
@@ -151,3 +151,38 @@ first-behind front back i low high =
     let count : length (reverse (drop m back)) ≡ k = omega (arith, length-reverse (drop m back), length-drop m back, high, low) in
     let some : take k (reverse back) ≡ reverse (drop m back) = ap (take k) (reverse-parts back m) ∙ take_at (reverse (drop m back)) (reverse (take m back)) k count in
     omega (arith, ap stanza_lines_in parts, sum-append front (take k (reverse back)), ap stanza_lines_in some, sum-reverse (drop m back), sum_by-take-drop lines_of back m)
+
+-- How many lines stand on both sides of a place of a list, and how many the last stanzas have.
+pub sides-lines : (xs : List StanzaOf) (at : ℕ) → stanza_lines_in (take at xs) + stanza_lines_in (reverse (drop at xs)) ≡ stanza_lines_in xs
+sides-lines xs at = omega (arith, sum-reverse (drop at xs), sum_by-take-drop lines_of xs at)
+
+pub last-lines : (xs : List StanzaOf) (at count : ℕ) → at + count ≤ length xs → stanza_lines_in (take (length xs - count) xs) + stanza_lines_in (take count (reverse (drop at xs))) ≡ stanza_lines_in xs
+last-lines xs at count low =
+    let m = length xs - count in
+    let place : at + (m - at) ≡ m = omega (arith, low) in
+    let rest : drop (m - at) (drop at xs) ≡ drop m xs = drop-drop (m - at) at xs ∙ ap (λ n. drop n xs) place in
+    let parts : reverse (drop at xs) ≡ reverse (drop m xs) ++ reverse (take (m - at) (drop at xs)) =
+    reverse-parts (drop at xs) (m - at) ∙ ap (λ ys. reverse ys ++ reverse (take (m - at) (drop at xs))) rest
+    in
+    let many : length (reverse (drop m xs)) ≡ count = omega (arith, length-reverse (drop m xs), length-drop m xs, low) in
+    let last : take count (reverse (drop at xs)) ≡ reverse (drop m xs) = ap (take count) parts ∙ take_at (reverse (drop m xs)) (reverse (take (m - at) (drop at xs))) count many in
+    omega (arith, ap stanza_lines_in last, sum-reverse (drop m xs), sum_by-take-drop lines_of xs m)
+
+-- Halves that met found the place.
+pub met-place : (xs : List StanzaOf) (first at high : ℕ) → at ≤ high → high ≤ at + 1 → high ≤ length xs → (0 < length xs → at < high) → stanza_lines_in (take at xs) ≤ first → (high < length xs → first < stanza_lines_in (take high xs)) → AtLine (take at xs) (reverse (drop at xs)) first
+met-place xs first at high order near within met low past =
+    let behind : length (reverse (drop at xs)) ≡ length xs - at = omega (arith, length-reverse (drop at xs), length-drop at xs) in
+    record {
+      low = low;
+      some = λ none.
+          elim (cases_lt 0 (length xs)) [
+            | inl some ↦ absurd (omega (arith, none, behind, met some, within))
+            | inr empty ↦ omega (arith, empty, length-take at xs)
+          ];
+      next = λ more.
+          let next : at + 1 ≡ high = omega (arith, more, behind, met (omega (arith, more, behind)), near) in
+          let count = length (reverse (drop at xs)) - 1 in
+          let place : length xs - count ≡ high = omega (arith, behind, more, next) in
+          let lines : stanza_lines_in (take (length xs - count) xs) ≡ stanza_lines_in (take high xs) = ap (λ n. stanza_lines_in (take n xs)) place in
+          omega (arith, last-lines xs at count (omega (arith, behind, more)), lines, past (omega (arith, behind, more, next)), sides-lines xs at);
+    }

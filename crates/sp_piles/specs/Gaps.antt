@@ -1,4 +1,4 @@
--- The gap between two piles of stanzas, and which of those behind it stay after an edit.
+-- The gap between two piles of stanzas, the sides of a place, and which of the stanzas behind it stay after an edit.
 use Rattle.std.specs.Prelude.{◌≡◌, ℕ, ◌+◌, ◌-◌, ◌<◌, ◌≤◌, List, [], ◌∷◌, ◌++◌, length, take, reverse}
 use Rattle.spec_script.specs.BlockValues.{StanzaOf}
 use Rattle.spec_reread.specs.Windows.{stanza_lines_in}
@@ -8,19 +8,24 @@ use Rattle.sp_piles.specs.Piles.{PileState}
 abbrev pub gap_list : List StanzaOf → List StanzaOf → List StanzaOf
 gap_list front back = front ++ reverse back
 
+-- The stanzas on both sides of a place, those behind it backwards.
+pub record SidesState : Type 0 where
+  pub front : List StanzaOf
+  pub back : List StanzaOf
+
 -- The last stanza of one pile went onto the other.
 pub record IsShifted (from to from' to' : List StanzaOf) : Type 0 where
   pub stanza : StanzaOf
   pub taken : from ≡ from' ++ stanza ∷ []
   pub put : to' ≡ to ++ stanza ∷ []
 
--- The gap is at the greatest place, not behind `first`, where a stanza begins.
-pub record AtGap (front back : List StanzaOf) (first : ℕ) : Type 0 where
+-- The place between them is the greatest one, not behind `first`, where a stanza begins.
+pub record AtLine (front back : List StanzaOf) (first : ℕ) : Type 0 where
   pub low : stanza_lines_in front ≤ first
   pub some : length back ≡ 0 → length front ≡ 0
   pub next : 1 < length back → first + stanza_lines_in (take (length back - 1) back) < stanza_lines_in front + stanza_lines_in back
 
--- The number of stanzas behind the gap that have no more lines than are left of the text.
+-- The number of stanzas behind the place that have no more lines than are left of the text.
 pub record IsPassed (back : List StanzaOf) (left kept : ℕ) : Type 0 where
   pub within : kept ≤ length back
   pub low : stanza_lines_in (take kept back) ≤ left
@@ -34,7 +39,7 @@ pub record SameGap (front back front' back' : PileState) : Type 0 where
   pub front_room : front'.room ≡ front.room
   pub back_room : back'.room ≡ back.room
 
--- The number of stanzas behind the gap: all that come behind them in the pile have more lines than are left of the text.
+-- The number of stanzas behind the place: all that come behind them in the pile have more lines than are left of the text.
 pub record IsAbove (back : List StanzaOf) (left kept : ℕ) : Type 0 where
   pub within : kept ≤ length back
   pub above : (j : ℕ) → kept < j → j ≤ length back → left < stanza_lines_in (take j back)
