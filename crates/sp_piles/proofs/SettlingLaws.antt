@@ -12,10 +12,10 @@ use Rattle.spec_script.specs.BlockValues.{StanzaOf}
 use Rattle.spec_reread.specs.Settling.{IsNextSettling, IsSettledBefore, stanza_settles}
 use Rattle.sp_piles.specs.Gaps.{gap_list}
 
--- The stanza at a place, and those behind it.
-pub drop-at : (stanzas : List StanzaOf) (i : ℕ) (s : StanzaOf) → slice_get stanzas i ≡ Some s → drop i stanzas ≡ s ∷ drop (i + 1) stanzas
-drop-at stanzas i s at =
-    drop_more stanzas i s (slice_get_within stanzas i s at) ∙ ap (λ (it : StanzaOf). it ∷ drop (i + 1) stanzas) (get_or_from_slice_get stanzas i s s at)
+-- The item at a place, and those behind it.
+pub drop-at : {X : Type 0} (xs : List X) (i : ℕ) (x : X) → slice_get xs i ≡ Some x → drop i xs ≡ x ∷ drop (i + 1) xs
+drop-at {X} xs i x at =
+    drop_more xs i x (slice_get_within xs i x at) ∙ ap (λ (it : X). it ∷ drop (i + 1) xs) (get_or_from_slice_get xs i x x at)
 
 -- Whether one of them has a heading or a speech, up to a place and with the next one.
 pub settles-none : (stanzas : List StanzaOf) (i : ℕ) → list_any stanza_settles (slice_range stanzas i i) ≡ false

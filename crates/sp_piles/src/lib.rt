@@ -10,6 +10,6 @@ mod window;
 
 pub use pile::Pile;
 pub use seek::seek_stanza;
-pub use settling::{next_settling, settled_before, stanza_settles};
+pub use settling::{block_settles, next_settling, settled_before, stanza_settles};
 pub use sides::{Sides, lines_before};
 pub use window::{ends, pass};

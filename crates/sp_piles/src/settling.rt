@@ -9,7 +9,7 @@ use sp_block_values::{Block, Stanza};
 use spec_script::Kind;
 
 /// Whether it doesn't matter behind a block who spoke before it.
-fn block_settles(block: &Block) -> bool
+pub fn block_settles(block: &Block) -> bool
     ensures { result ≡ block_settles block.now }
 {
     matches!(block.kind, Kind::Heading | Kind::Speech)

@@ -1,11 +1,10 @@
 -- Parts of lists of stanzas.
-use Rattle.std.proofs.Common.{◌≡◌, ℕ, suc, ◌+◌, ◌-◌, ◌<◌, ◌≤◌, Bool, true, false, ◌||◌, List, [], ◌∷◌, ◌++◌, take, drop, slice_get, slice_range, Some, refl, sym, ap, ap₂, subst, ◌∙◌, arith, append_assoc, take-add, drop-drop}
-use Rattle.std.proofs.Math.Bool.{or-false}
+use Rattle.std.proofs.Common.{◌≡◌, ℕ, suc, ◌+◌, ◌-◌, ◌<◌, ◌≤◌, true, false, List, [], ◌∷◌, ◌++◌, take, drop, slice_get, slice_range, Some, sym, ap, ap₂, subst, ◌∙◌, arith, append_assoc, take-add, drop-drop}
+use Rattle.std.proofs.lemmas.Option.{get_or_from_slice_get}
 use Rattle.spec_script.specs.BlockValues.{StanzaOf}
-use Rattle.spec_reread.specs.Settling.{stanza_settles}
 use Rattle.spec_relay.specs.RelaidStanzas.{first_apart, OpensApart}
-use Rattle.sp_piles.proofs.SettlingLaws.{drop-at, settles-next, settles-none}
-use Rattle.sp_relay.specs.Edges.{opens_first, settled_by}
+use Rattle.sp_piles.proofs.SettlingLaws.{drop-at}
+use Rattle.sp_relay.specs.Edges.{opens_first}
 
 pub take-split : {X : Type 0} (xs : List X) (i j : ℕ) → i ≤ j → take j xs ≡ take i xs ++ slice_range xs i j
 take-split xs i j order =
@@ -46,11 +45,6 @@ opens-window stanzas at stands s is some =
 pub opens-none : (stanzas : List StanzaOf) (at stands : ℕ) → stands ≤ 0 → opens_first (slice_range stanzas at (at + stands)) ≡ false
 opens-none stanzas at stands none = let count : at + stands - at ≡ 0 = omega (arith, none) in ap (λ n. opens_first (take n (drop at stanzas))) count
 
--- Who spoke last is the same, right behind the window and with the next stanza.
-pub settled-none : (stanzas : List StanzaOf) (to : ℕ) (quiet : Bool) → quiet ≡ settled_by stanzas to quiet to
-settled-none stanzas to quiet = sym (ap (λ b. quiet || b) (settles-none stanzas to) ∙ or-false quiet)
-
-pub settled-next : (stanzas : List StanzaOf) (to : ℕ) (quiet : Bool) (place : ℕ) (s : StanzaOf) → to ≤ place → slice_get stanzas place ≡ Some s
-    → settled_by stanzas to quiet (place + 1) ≡ (settled_by stanzas to quiet place || stanza_settles s)
-settled-next stanzas to true place s order at = refl
-settled-next stanzas to false place s order at = settles-next stanzas to place s order at
+-- At a place stands one item.
+pub one-there : {X : Type 0} (xs : List X) (i : ℕ) (x y : X) → slice_get xs i ≡ Some x → slice_get xs i ≡ Some y → x ≡ y
+one-there xs i x y one other = sym (get_or_from_slice_get xs i x x one) ∙ get_or_from_slice_get xs i y x other

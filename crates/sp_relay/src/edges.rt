@@ -1,6 +1,5 @@
 //! Where the part of a layout that an edit changes begins and ends.
 ghost use Rattle.std.specs.Prelude.{◌≡◌, ◌<◌, ◌≤◌, ◌+◌, length, take, IfNone, IfSome};
-ghost use Rattle.spec_reread.specs.Settling.{stanza_settles};
 ghost use Rattle.spec_reread.specs.Windows.{stanza_lines_in};
 ghost use Rattle.spec_relay.specs.RelaidStanzas.{OpensApart, first_apart};
 ghost use Rattle.sp_relay.specs.Edges.{BreaksAt, CanBegin, CanEnd, CanPart, IsEdge, IsNearestEnd, IsNearestStart, IsPartBegin, IsPartEnd, IsPartStart, opens_first, windows_open};
@@ -9,7 +8,6 @@ ghost use Rattle.sp_relay.specs.Kept.{laid_of};
 use crate::KeptLayout;
 use sp_block_values::Stanza;
 use sp_elements::{count_below, elements_before};
-use sp_piles::stanza_settles;
 use sp_reread::{Stanzas, Swapped};
 
 /// Where a part of a layout begins or ends: before which stanza, before which element of the title page and which of the
@@ -115,32 +113,21 @@ fn part_start(stanzas: &Stanzas, at: usize, kept: &KeptLayout) -> PartEdge
 }
 
 /// Where the part ends, behind the window that ends before the stanza `to`: with the line `end`, which was the line `was`.
-/// `quiet` tells that the same one spoke last behind the window in both texts.
-pub fn part_end(
-    stanzas: &Stanzas,
-    to: usize,
-    was: usize,
-    end: usize,
-    quiet: bool,
-    kept: &KeptLayout,
-) -> PartEdge
+pub fn part_end(stanzas: &Stanzas, to: usize, was: usize, end: usize, kept: &KeptLayout) -> PartEdge
     requires within { to ≤ length stanzas.now.stanzas }
     requires end { end ≡ stanza_lines_in (take to stanzas.now.stanzas) }
     requires low { was + stanza_lines_in stanzas.now.stanzas ≤ 9223372036854775807 }
     requires can { CanEnd stanzas.now.stanzas to was end (laid_of kept.now) }
-    ensures is { IsPartEnd stanzas.now.stanzas to was end quiet (laid_of kept.now) result }
-    ensures nearest { IsNearestEnd stanzas.now.stanzas to was end quiet (laid_of kept.now) result.stanza }
+    ensures is { IsPartEnd stanzas.now.stanzas to was end (laid_of kept.now) result }
+    ensures nearest { IsNearestEnd stanzas.now.stanzas to was end (laid_of kept.now) result.stanza }
 {
-    let mut settled = quiet;
     for place in to..stanzas.len() {
-        let stanza = stanzas.stanza(place);
-        if settled && opens_apart(stanza) {
+        if opens_apart(stanzas.stanza(place)) {
             let line = stanzas.lines_before(place) - end + was;
             if let Some(edge) = edge_at(kept, place, line) {
                 return edge;
             }
         }
-        settled = settled || stanza_settles(stanza);
     }
     PartEdge {
         stanza: stanzas.len(),
