@@ -1,5 +1,5 @@
 -- A layout in an edit, and the rows that the edit exchanges (docs/RULES.md, "Windows").
-use Rattle.std.specs.Prelude.{◌≡◌, ℕ, List}
+use Rattle.std.specs.Prelude.{◌≡◌, ℕ, List, Option, None, Some}
 use Rattle.spec_text.specs.Lines.{LineState}
 use Rattle.spec_text.specs.Edits.{Replacement}
 use Rattle.spec_text.specs.Ranges.{range_of}
@@ -13,16 +13,22 @@ use Rattle.sp_reread.specs.Cache.{SwappedState}
 use Rattle.sp_elements.specs.Bodies.{KeyedElements}
 use Rattle.sp_layout.specs.LaidOut.{LayoutOf}
 use Rattle.sp_refill.specs.Edits.{IsOfEdit}
-use Rattle.sp_relay.specs.Kept.{PartOf, laid_of, with_part}
+use Rattle.sp_compare.specs.OldElements.{OtherRowsOf}
+use Rattle.sp_relay.specs.Changes.{ChangeOf, SpeechOf, with_change}
 
 -- Some edit of the state left these lines and stanzas, and displaced these stanzas.
 pub record IsSomeEditOf (state : State) (lines : List LineState) (stanzas : List StanzaOf) (swapped : SwappedState) : Type 0 where
   pub it : Replacement
   pub is : IsOfEdit state it lines stanzas swapped
 
--- The body before an edit, by the layout after it and the part that the edit took out.
-abbrev pub body_before : LayoutOf → PartOf → KeyedElements
-body_before layout gone = (with_part layout gone.places (laid_of gone.kept)).body
+-- The body before an edit, by the layout after it and what the edit changed of it.
+abbrev pub body_before : LayoutOf → ChangeOf → KeyedElements
+body_before layout gone = (with_change layout gone).body
+
+-- The rows of a speech as those that an element of the body had.
+abbrev pub others_of : Option SpeechOf → Option OtherRowsOf
+others_of None = None
+others_of (Some speech) = Some (record { element = speech.element; rows = speech.rows })
 
 -- An exchange of rows is that of an edit.
 pub record IsExchangeOf (state : State) (it : Replacement) (edit : Exchange) : Type 0 where

@@ -12,18 +12,19 @@ ghost use Rattle.sp_text.specs.Gap.{text_of};
 ghost use Rattle.sp_compare.specs.BareRows.{AreLaid};
 ghost use Rattle.sp_compare.specs.Raised.{AreSegments};
 ghost use Rattle.sp_elements.specs.Bodies.{row_count};
-ghost use Rattle.sp_relay.specs.Kept.{CanSwap, laid_of, with_part};
+ghost use Rattle.sp_relay.specs.Changes.{CanChange, with_change};
+ghost use Rattle.sp_relay.specs.Kept.{laid_of};
 ghost use Rattle.sp_relay.specs.Outside.{StaysOutside};
 ghost use Rattle.sp_made_parts.specs.Firsts.{IsLaidOf, first_rows};
 ghost use Rattle.sp_text_entry.specs.TextEntries.{had_by};
 ghost use Rattle.sp_text_entry.specs.Raised.{AreCarried, FitPages, put_back_in, raises_in, records_carried, records_raised, state_before};
-ghost use Rattle.sp_text_entry.specs.Relaid.{body_before};
+ghost use Rattle.sp_text_entry.specs.Relaid.{body_before, others_of};
 
-use sp_compare::{BothTexts, raises};
+use sp_compare::{BothTexts, OtherRows, RunPlaces, raises};
 use sp_locks::{carry, put_back};
 use sp_made_parts::laid_firsts;
 use sp_records::Records;
-use sp_relay::{KeptLayout, LayoutPart};
+use sp_relay::{KeptLayout, LayoutChange, SpeechRows};
 use sp_text::{Displaced, Lines, OldLines};
 use spec_labels::Moved;
 use std::alloc::{AllocError, Global};
@@ -60,31 +61,50 @@ pub(crate) fn put_back_pages(records: &mut Records, moved: &mut Vec<Moved>)
     }
 }
 
-/// A text before an edit and after it, with its rows. `gone` is the part of the layout that the edit took out.
+/// The rows of a speech as those that an element of the body had.
+fn other_rows(speech: &Option<SpeechRows>) -> Option<OtherRows<'_>>
+    ensures { result ≡ others_of speech.now }
+{
+    match speech {
+        Some(speech) => Some(OtherRows {
+            element: speech.element,
+            rows: &speech.rows,
+        }),
+        None => None,
+    }
+}
+
+/// A text before an edit and after it, with its rows. `gone` is what the edit changed of the layout.
 fn both_texts<'a>(
     lines: &'a Lines,
     displaced: &'a Displaced,
     layout: &'a KeptLayout,
-    gone: &'a LayoutPart,
+    gone: &'a LayoutChange,
 ) -> BothTexts<'a>
     requires place { displaced.now.first + displaced.now.stands ≤ length lines.now.lines }
     requires text { IsText (restored (text_of lines.now) (displaced_of displaced.now)) }
     requires news { AreLaid lines.now.lines (laid_of layout.now).body }
-    requires swaps { CanSwap (laid_of layout.now) gone.now.places (laid_of gone.now.kept) }
+    requires can_change { CanChange (laid_of layout.now) gone.now }
     requires few { row_count (body_before (laid_of layout.now) gone.now).elements ≤ size_limit }
     requires olds { AreLaid (restored (text_of lines.now) (displaced_of displaced.now)).lines (body_before (laid_of layout.now) gone.now) }
-    requires outside { StaysOutside (restored (text_of lines.now) (displaced_of displaced.now)).lines lines.now.lines (laid_of layout.now).body.elements gone.now.places }
+    requires outside { StaysOutside (restored (text_of lines.now) (displaced_of displaced.now)).lines lines.now.lines (laid_of layout.now).body.elements gone.now.part.places }
     ensures { result ≡ record { old = (restored (text_of lines.now) (displaced_of displaced.now)).lines; olds = (body_before (laid_of layout.now) gone.now).elements; new = lines.now.lines; news = (laid_of layout.now).body.elements } }
 {
-    let places = gone.places;
-    let olds = &gone.kept;
+    let part = &gone.part;
+    let places = part.places;
+    let olds = &part.kept;
+    let at = RunPlaces {
+        from: places.from,
+        to: places.to,
+        less: places.less,
+        more: places.more,
+    };
+    let others = other_rows(&gone.speech);
     BothTexts::exchanged(
         OldLines::new(lines, displaced),
         &olds.body,
-        places.from,
-        places.to,
-        places.less,
-        places.more,
+        at,
+        others,
         lines,
         &layout.body,
     )
@@ -98,7 +118,7 @@ struct Raised {
 }
 
 /// The rounds that the page records get whose rows differ, and the first rows of the records; none where pages aren't locked.
-/// `gone` is the part of the layout that the edit took out, and `before` the first rows that the records had.
+/// `gone` is what the edit changed of the layout, and `before` the first rows that the records had.
 fn raises_among(
     alloc: Global,
     lines: &Lines,
@@ -106,16 +126,16 @@ fn raises_among(
     records: &Records,
     before: &[usize],
     layout: &KeptLayout,
-    gone: &LayoutPart,
+    gone: &LayoutChange,
 ) -> Result<Raised, AllocError>
     requires whole { IsWhole (state_of (text_of lines.now) records.now) }
     requires place { displaced.now.first + displaced.now.stands ≤ length lines.now.lines }
     requires text { IsText (restored (text_of lines.now) (displaced_of displaced.now)) }
     requires laid { IsLaidOf (state_of (text_of lines.now) records.now) (laid_of layout.now) }
-    requires swaps { CanSwap (laid_of layout.now) gone.now.places (laid_of gone.now.kept) }
+    requires can_change { CanChange (laid_of layout.now) gone.now }
     requires few { row_count (body_before (laid_of layout.now) gone.now).elements ≤ size_limit }
     requires olds { AreLaid (restored (text_of lines.now) (displaced_of displaced.now)).lines (body_before (laid_of layout.now) gone.now) }
-    requires outside { StaysOutside (restored (text_of lines.now) (displaced_of displaced.now)).lines lines.now.lines (laid_of layout.now).body.elements gone.now.places }
+    requires outside { StaysOutside (restored (text_of lines.now) (displaced_of displaced.now)).lines lines.now.lines (laid_of layout.now).body.elements gone.now.part.places }
     requires before { IfSome records.now.pages (λ those. AreSegments (row_count (body_before (laid_of layout.now) gone.now).elements) (length those) before.now) }
     ensures raised { IfOk result (λ it. (labels : Option (List LabelOf)) → it.raised.items ≡ raises_in (segment_rows (shown_rows (restored (text_of lines.now) (displaced_of displaced.now)).lines labels (body_before (laid_of layout.now) gone.now).elements) before.now) (state_of (text_of lines.now) records.now) records.now.pages) }
     ensures firsts { IfOk result (λ it. it.firsts.items ≡ first_rows (state_of (text_of lines.now) records.now)) }
@@ -140,8 +160,8 @@ pub(crate) struct Carried {
     pub firsts: Vec<usize>,
 }
 
-/// Carries page records after an edit, and gives those the round whose rows differ. `gone` is the part of the layout that the
-/// edit took out, and `before` the first rows that the records had.
+/// Carries page records after an edit, and gives those the round whose rows differ. `gone` is what the edit changed of the
+/// layout, and `before` the first rows that the records had.
 pub(crate) fn carry_and_raise(
     alloc: Global,
     lines: &Lines,
@@ -149,16 +169,16 @@ pub(crate) fn carry_and_raise(
     records: &mut Records,
     before: &[usize],
     layout: &KeptLayout,
-    gone: &LayoutPart,
+    gone: &LayoutChange,
 ) -> Result<Carried, AllocError>
     requires place { displaced.now.first + displaced.now.stands ≤ length lines.now.lines }
     requires whole { IsWhole (state_before (text_of lines.now) (displaced_of displaced.now) records.old) }
     requires carried { IsWhole (state_of (text_of lines.now) (records_carried (text_of lines.now) (displaced_of displaced.now) records.old)) }
     requires can { AreCarried lines.now.lines displaced.now.lines records.old }
     requires laid { IsLaidOf (state_of (text_of lines.now) records.old) (laid_of layout.now) }
-    requires swaps { CanSwap (laid_of layout.now) gone.now.places (laid_of gone.now.kept) }
-    requires was { IsLaidOf (state_before (text_of lines.now) (displaced_of displaced.now) records.old) (with_part (laid_of layout.now) gone.now.places (laid_of gone.now.kept)) }
-    requires outside { StaysOutside (restored (text_of lines.now) (displaced_of displaced.now)).lines lines.now.lines (laid_of layout.now).body.elements gone.now.places }
+    requires can_change { CanChange (laid_of layout.now) gone.now }
+    requires was { IsLaidOf (state_before (text_of lines.now) (displaced_of displaced.now) records.old) (with_change (laid_of layout.now) gone.now) }
+    requires outside { StaysOutside (restored (text_of lines.now) (displaced_of displaced.now)).lines lines.now.lines (laid_of layout.now).body.elements gone.now.part.places }
     requires before { before.now ≡ first_rows (state_before (text_of lines.now) (displaced_of displaced.now) records.old) }
     ensures records { OnOk result (records.new ≡ records_raised (text_of lines.now) (displaced_of displaced.now) records.old) }
     ensures raised { IfOk result (λ it. FitPages records.new it.raised.items) }

@@ -5,5 +5,5 @@ mod carrying;
 mod relaying;
 mod text_entry;
 
-pub use relaying::swap_in_room;
+pub use relaying::change_in_room;
 pub use text_entry::{EditedText, TextEntry, UnturnedText, edit_entry, redo_entry, undo_entry};

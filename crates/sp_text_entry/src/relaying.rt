@@ -6,7 +6,8 @@ ghost use Rattle.sp_text.specs.DisplacedLines.{displaced_of};
 ghost use Rattle.sp_text.specs.Gap.{text_of};
 ghost use Rattle.sp_exchange.specs.Restoring.{text_stanzas};
 ghost use Rattle.sp_relay.specs.Edited.{WasLaidOf};
-ghost use Rattle.sp_relay.specs.Kept.{CanSwap, HasPartRoom, laid_of, with_part};
+ghost use Rattle.sp_relay.specs.Changes.{CanChange, HasChangeRoom, with_change};
+ghost use Rattle.sp_relay.specs.Kept.{laid_of};
 ghost use Rattle.sp_refill.specs.Edits.{IsOfEdit};
 ghost use Rattle.sp_made_parts.specs.Firsts.{IsLaidOf, first_rows};
 ghost use Rattle.sp_text_entry.specs.Raised.{AreCarried, FitPages, put_back_in, records_carried, records_raised, state_before};
@@ -15,21 +16,21 @@ ghost use Rattle.sp_text_entry.specs.Relaid.{IsExchangeOf, IsSomeEditOf};
 use crate::carrying::{Carried, carry_and_raise};
 use sp_records::Records;
 use sp_refill::{ExchangedRows, exchanged_rows, rows_ahead};
-use sp_relay::{KeptLayout, LayoutPart, relay_edit};
+use sp_relay::{KeptLayout, LayoutChange, relay_edit};
 use sp_reread::{Stanzas, Swapped};
 use sp_text::{Displaced, Lines, OldLines};
 use spec_labels::Moved;
 use std::alloc::{AllocError, Global};
 
-/// Puts a part of a layout back where there is room for it, and answers the part that stood in its place. It takes no memory.
-pub fn swap_in_room(layout: &mut KeptLayout, part: LayoutPart) -> LayoutPart
-    requires can { CanSwap (laid_of layout.old) part.places (laid_of part.kept) }
-    requires room { HasPartRoom layout.old part.places part.kept }
-    ensures layout { laid_of layout.new ≡ with_part (laid_of layout.old) part.places (laid_of part.kept) }
-    ensures back { with_part (laid_of layout.new) result.places (laid_of result.kept) ≡ laid_of layout.old }
-    ensures can { CanSwap (laid_of layout.new) result.places (laid_of result.kept) }
+/// Makes a change of a layout where there is room for it, and answers what leads back. It takes no memory.
+pub fn change_in_room(layout: &mut KeptLayout, change: LayoutChange) -> LayoutChange
+    requires can { CanChange (laid_of layout.old) change }
+    requires room { HasChangeRoom layout.old change }
+    ensures layout { laid_of layout.new ≡ with_change (laid_of layout.old) change }
+    ensures back { with_change (laid_of layout.new) result ≡ laid_of layout.old }
+    ensures can { CanChange (laid_of layout.new) result }
 {
-    match layout.swap(part) {
+    match layout.change(change) {
         Ok(other) => other,
         Err(_) => unreachable!(),
     }
@@ -38,7 +39,7 @@ pub fn swap_in_room(layout: &mut KeptLayout, part: LayoutPart) -> LayoutPart
 /// What an edit displaced of a layout and of page records, the rows that it exchanged, and the first rows of the page records.
 #[derive(Drop)]
 pub(crate) struct Relaid {
-    pub part: LayoutPart,
+    pub change: LayoutChange,
     pub moved: Vec<Moved>,
     pub raised: Vec<Moved>,
     pub rows: ExchangedRows,
@@ -66,9 +67,9 @@ pub(crate) fn relay_and_raise(
     requires edit { IsSomeEditOf (state_before (text_of lines.now) (displaced_of displaced.now) records.old) lines.now.lines stanzas.now.stanzas swapped.now }
     requires before { before.now ≡ first_rows (state_before (text_of lines.now) (displaced_of displaced.now) records.old) }
     ensures laid { OnOk result (IsLaidOf (state_of (text_of lines.now) records.new) (laid_of layout.new)) }
-    ensures part { IfOk result (λ it. with_part (laid_of layout.new) it.part.places (laid_of it.part.kept) ≡ laid_of layout.old) }
-    ensures swaps { IfOk result (λ it. CanSwap (laid_of layout.new) it.part.places (laid_of it.part.kept)) }
-    ensures room { IfOk result (λ it. HasPartRoom layout.new it.part.places it.part.kept) }
+    ensures layout_back { IfOk result (λ it. with_change (laid_of layout.new) it.change ≡ laid_of layout.old) }
+    ensures can_change { IfOk result (λ it. CanChange (laid_of layout.new) it.change) }
+    ensures room { IfOk result (λ it. HasChangeRoom layout.new it.change) }
     ensures rows { (edit : Replacement) → IsOfEdit (state_before (text_of lines.now) (displaced_of displaced.now) records.old) edit lines.now.lines stanzas.now.stanzas swapped.now → IfOk result (λ it. IsExchangeOf (state_before (text_of lines.now) (displaced_of displaced.now) records.old) edit it.rows) }
     ensures records { OnOk result (records.new ≡ records_raised (text_of lines.now) (displaced_of displaced.now) records.old) }
     ensures raised { IfOk result (λ it. FitPages records.new it.raised.items) }
@@ -81,7 +82,7 @@ pub(crate) fn relay_and_raise(
     let _count = lines.len();
     let ahead = rows_ahead(lines, stanzas, swapped, &layout.body);
     let old = OldLines::new(lines, displaced);
-    let part = relay_edit(
+    let change = relay_edit(
         alloc,
         lines,
         &old,
@@ -90,7 +91,7 @@ pub(crate) fn relay_and_raise(
         records.speakers,
         layout,
     )?;
-    match carry_and_raise(alloc, lines, displaced, records, before, layout, &part) {
+    match carry_and_raise(alloc, lines, displaced, records, before, layout, &change) {
         Ok(
             Carried {
                 moved,
@@ -100,7 +101,7 @@ pub(crate) fn relay_and_raise(
         ) => {
             let rows = exchanged_rows(&ahead, lines, stanzas, swapped, &layout.body);
             Ok(Relaid {
-                part,
+                change,
                 moved,
                 raised,
                 rows,
@@ -108,7 +109,7 @@ pub(crate) fn relay_and_raise(
             })
         }
         Err(error) => {
-            let _other = swap_in_room(layout, part);
+            let _other = change_in_room(layout, change);
             Err(error)
         }
     }

@@ -9,7 +9,8 @@ ghost use Rattle.sp_text.specs.Gap.{text_of};
 ghost use Rattle.sp_exchange.specs.Reads.{IsRefused};
 ghost use Rattle.sp_exchange.specs.Restoring.{CanRestoreText, HasRoomFor, text_before, text_stanzas};
 ghost use Rattle.sp_text_entry.specs.TextEntries.{CanUndoText, CanRedoText, HasTextRoom, IsTextRedone, IsSameTextEntry, IsTextUndone, LeadsTextBack, LeadsTextForth, undone_text, redone_text, undone_lines, done_lines};
-ghost use Rattle.sp_relay.specs.Kept.{CanSwap, HasPartRoom, laid_of, with_part};
+ghost use Rattle.sp_relay.specs.Changes.{CanChange, HasChangeRoom, with_change};
+ghost use Rattle.sp_relay.specs.Kept.{laid_of};
 ghost use Rattle.sp_made_parts.specs.Firsts.{IsLaidOf, first_rows};
 ghost use Rattle.sp_text_entry.specs.Relaid.{IsExchangeOf};
 ghost use Rattle.sp_text_entry.specs.Reads.{EditReads, EditReadsAtMost};
@@ -20,7 +21,7 @@ use sp_exchange::{UnrestoredText, change_text, restore_text};
 use sp_kit::Steps;
 use sp_records::Records;
 use sp_refill::ExchangedRows;
-use sp_relay::{KeptLayout, LayoutPart};
+use sp_relay::{KeptLayout, LayoutChange};
 use sp_reread::{Stanzas, Swapped};
 use sp_text::{Displaced, Edit, EditFault, Lines};
 use spec_labels::Moved;
@@ -70,7 +71,7 @@ fn restore_in_room(lines: &mut Lines, stanzas: &mut Stanzas, back: Displaced, sw
 #[derive(Drop)]
 pub struct EditedText {
     pub text: TextEntry,
-    pub layout: LayoutPart,
+    pub layout: LayoutChange,
     pub rows: ExchangedRows,
     pub firsts: Vec<usize>,
 }
@@ -100,9 +101,9 @@ pub fn edit_entry<S: Steps>(
     ensures room { IfOk result (λ it. HasTextRoom lines.new stanzas.new it.text) }
     ensures stanzas { stanzas.new.stanzas ≡ text_stanzas (text_of lines.new) }
     ensures laid { OnOk result (IsLaidOf (state_of (text_of lines.new) records.new) (laid_of layout.new)) }
-    ensures layout_back { IfOk result (λ it. with_part (laid_of layout.new) it.layout.places (laid_of it.layout.kept) ≡ laid_of layout.old) }
-    ensures swaps { IfOk result (λ it. CanSwap (laid_of layout.new) it.layout.places (laid_of it.layout.kept)) }
-    ensures layout_room { IfOk result (λ it. HasPartRoom layout.new it.layout.places it.layout.kept) }
+    ensures layout_back { IfOk result (λ it. with_change (laid_of layout.new) it.layout ≡ laid_of layout.old) }
+    ensures can_change { IfOk result (λ it. CanChange (laid_of layout.new) it.layout) }
+    ensures layout_room { IfOk result (λ it. HasChangeRoom layout.new it.layout) }
     ensures rows { IfOk result (λ it. IsExchangeOf (state_of (text_of lines.old) records.old) (replacement_of lines.old.lines (edit_of edit)) it.rows) }
     ensures firsts { IfOk result (λ it. it.firsts.items ≡ first_rows (state_of (text_of lines.new) records.new)) }
     ensures same { OnErr result (state_of (text_of lines.new) records.new ≡ state_of (text_of lines.old) records.old) }
@@ -120,7 +121,7 @@ pub fn edit_entry<S: Steps>(
     ) {
         Ok(
             Relaid {
-                part,
+                change,
                 moved,
                 raised,
                 rows,
@@ -133,7 +134,7 @@ pub fn edit_entry<S: Steps>(
                 moved,
                 raised,
             },
-            layout: part,
+            layout: change,
             rows,
             firsts,
         }),

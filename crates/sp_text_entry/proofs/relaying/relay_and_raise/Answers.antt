@@ -39,14 +39,14 @@ relay_edit-requires-clause-was c = record {
 
 pub carry_and_raise-requires-clause-laid : goal.carry_and_raise-requires-clause-laid
 carry_and_raise-requires-clause-laid c =
-    c.in_ok-part.ensures.layout ∙ ap (λ (r : RecordsOf). keyed c.args.lines.now.lines (layout_of r.speakers c.args.lines.now.lines)) c.records.view_is
+    c.in_ok-change.ensures.layout ∙ ap (λ (r : RecordsOf). keyed c.args.lines.now.lines (layout_of r.speakers c.args.lines.now.lines)) c.records.view_is
 
 pub carry_and_raise-requires-clause-was : goal.carry_and_raise-requires-clause-was
-carry_and_raise-requires-clause-was c = c.in_ok-part.ensures.back ∙ c.requires.was.was
+carry_and_raise-requires-clause-was c = c.in_ok-change.ensures.back ∙ c.requires.was.was
 
 pub carry_and_raise-requires-clause-outside : goal.carry_and_raise-requires-clause-outside
 carry_and_raise-requires-clause-outside c =
-    subst (λ (olds : List LineState). StaysOutside olds c.args.lines.now.lines (laid_of c.relay_edit.new.kept).body.elements c.in_ok-part.part.places) c.new-old.ensures c.in_ok-part.ensures.outside
+    subst (λ (olds : List LineState). StaysOutside olds c.args.lines.now.lines (laid_of c.relay_edit.new.kept).body.elements c.in_ok-change.change.part.places) c.new-old.ensures c.in_ok-change.ensures.outside
 
 pub exchanged_rows-rows-requires : goal.exchanged_rows-rows-requires
 exchanged_rows-rows-requires c =
@@ -55,7 +55,7 @@ exchanged_rows-rows-requires c =
     let before : State = state_before text back c.args.records.now in
     let edit = c.requires.edit in
     let was = ap (λ (l : LayoutOf). l.body.elements) (ap laid_of c.layout.view_is ∙ c.requires.was.was) in
-    let laid = ap laid_of c.layout-2.view_is ∙ c.in_ok-part.ensures.layout ∙ ap (λ (r : RecordsOf). keyed c.args.lines.now.lines (layout_of r.speakers c.args.lines.now.lines)) c.records.view_is in
+    let laid = ap laid_of c.layout-2.view_is ∙ c.in_ok-change.ensures.layout ∙ ap (λ (r : RecordsOf). keyed c.args.lines.now.lines (layout_of r.speakers c.args.lines.now.lines)) c.records.view_is in
     record {
       edit = record {
         state = before;
@@ -66,13 +66,13 @@ exchanged_rows-rows-requires c =
       };
     }
 
-pub returns-in_err-part : goal.returns-in_err-part
-returns-in_err-part c =
+pub returns-in_err-change : goal.returns-in_err-change
+returns-in_err-change c =
     let p = err_from_is_err_and c.from_residual.result c.from_residual.ensures.1 in
     rw p.1 (record {
       laid = tt;
-      part = tt;
-      swaps = tt;
+      layout_back = tt;
+      can_change = tt;
       room = tt;
       rows = λ it edit. tt;
       records = tt;
@@ -81,7 +81,7 @@ returns-in_err-part c =
       back = tt;
       firsts = tt;
       same = refl;
-      same_layout = c.in_err-part.ensures.same;
+      same_layout = c.in_err-change.ensures.same;
     })
 
 pub returns-in-Ok : goal.returns-in-Ok
@@ -89,15 +89,15 @@ returns-in-Ok c =
     let text = text_of c.args.lines.now in
     let back = displaced_of c.args.displaced.now in
     let before : State = state_before text back c.args.records.now in
-    let relaid = c.in_ok-part.ensures in
+    let relaid = c.in_ok-change.ensures in
     let carried = c.in-Ok.ensures in
     let was = ap (λ (l : LayoutOf). l.body.elements) (ap laid_of c.layout.view_is ∙ c.requires.was.was) in
     let speakers = ap (λ (r : RecordsOf). keyed c.args.lines.now.lines (layout_of r.speakers c.args.lines.now.lines)) c.records.view_is in
     let laid = ap laid_of c.layout-2.view_is ∙ relaid.layout ∙ speakers in
     record {
       laid = subst (λ (r : RecordsOf). IsLaidOf (state_of text r) (laid_of c.relay_edit.new.kept)) (sym carried.records) (relaid.layout ∙ speakers);
-      part = relaid.back;
-      swaps = relaid.again;
+      layout_back = relaid.back;
+      can_change = relaid.again;
       room = relaid.returns;
       rows = λ it edit. record {
         is = λ a b window. c.exchanged_rows-rows.ensures.found before it a b edit
@@ -116,8 +116,8 @@ returns-in-Ok c =
 pub returns-in-Err : goal.returns-in-Err
 returns-in-Err c = record {
   laid = tt;
-  part = tt;
-  swaps = tt;
+  layout_back = tt;
+  can_change = tt;
   room = tt;
   rows = λ it edit. tt;
   records = tt;
@@ -126,5 +126,5 @@ returns-in-Err c = record {
   back = tt;
   firsts = tt;
   same = c.in-Err.ensures.same;
-  same_layout = c.swap_in_room-other.ensures.layout ∙ c.in_ok-part.ensures.back;
+  same_layout = c.change_in_room-other.ensures.layout ∙ c.in_ok-change.ensures.back;
 }
