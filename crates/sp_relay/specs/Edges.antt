@@ -1,7 +1,6 @@
 -- Where a part of a layout that is laid out anew begins and ends (docs/RULES.md, "Windows").
 use Rattle.std.specs.Prelude.{◌≡◌, ◌⊎◌, ℕ, ◌+◌, ◌<◌, ◌≤◌, false, Bool, ◌&&◌, List, [], ◌∷◌, ◌++◌, length, take, drop, slice_range, slice_index, AllPairs}
 use Rattle.spec_script.specs.BlockValues.{StanzaOf}
-use Rattle.spec_reread.specs.Settling.{stanza_settles}
 use Rattle.spec_reread.specs.Windows.{stanza_lines_in}
 use Rattle.spec_relay.specs.Moved.{moved_place}
 use Rattle.spec_relay.specs.RelaidStanzas.{OpensApart, first_apart}
