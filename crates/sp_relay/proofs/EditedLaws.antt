@@ -463,6 +463,10 @@ module _ (was_lines : List LineState) (lines : TextState) (stanzas : List Stanza
       stays = (elements.stay new_last).each;
     }
 
+-- What is known at places that are those of the window.
+pub at-window : (P : ℕ → ℕ → ℕ → Type 0) {a b c d e f : ℕ} → a ≡ d → b ≡ e → c ≡ f → P a b c → P d e f
+at-window P {a} {b} {c} {d} {e} {f} one two three it = subst (P d e) three (subst (λ n. P d n c) two (subst (λ n. P n b c) one it))
+
 pub can-end-at : (was_lines : List LineState) (lines : TextState) (stanzas : List StanzaOf) (swapped : SwappedState) (on : Bool) (layout : LayoutOf) → WasLaid was_lines lines.lines stanzas swapped on layout → (upto was end : ℕ) → upto ≡ swapped.at + swapped.stands
     → was ≡ window_was stanzas swapped → end ≡ window_end stanzas swapped → CanEnd stanzas upto was end layout
 can-end-at was_lines lines stanzas swapped on layout it upto was end upto_is was_is end_is =

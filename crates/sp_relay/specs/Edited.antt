@@ -12,6 +12,10 @@ use Rattle.spec_relay.specs.Moved.{speaker_behind}
 use Rattle.sp_layout.specs.LaidOut.{LayoutOf, keyed}
 use Rattle.sp_layout.specs.Speaking.{SpeakersOf, speakers_after}
 use Rattle.sp_reread.specs.Cache.{GivesBack, SwappedState}
+use Rattle.sp_relay.specs.declared.edges.PartEdge.{PartEdge}
+use Rattle.sp_relay.specs.declared.kept.PartPlaces.{PartPlaces}
+use Rattle.sp_relay.specs.Kept.{places_back}
+use Rattle.sp_relay.specs.Edges.{IsNearestEnd, IsPartBegin, IsPartEnd, edge_places}
 use Rattle.sp_relay.specs.Speeches.{LastOf}
 
 -- The line with which the window of an edit begins, and the line behind it in the text after the edit and in that before it.
@@ -77,3 +81,14 @@ windows_settle stanzas swapped = list_any stanza_settles swapped.stanzas || list
 pub record AreAlike (lines : List LineState) (blocks : List PlacedBlock) (speakers others : SpeakersOf) : Type 0 where
   pub on : speakers.on ≡ others.on
   pub same : spoken_elements others.on lines speakers.last blocks ≡ spoken_elements others.on lines others.last blocks
+
+-- The part that an edit lays out anew begins with the window or in front of it, and ends at the first edge behind the window. Where it
+-- was put in, it stands at these places.
+pub record IsEditPart (stanzas : List StanzaOf) (swapped : SwappedState) (layout : LayoutOf) (places : PartPlaces) : Type 0 where
+  pub start : PartEdge
+  pub stop : PartEdge
+  pub come : LayoutOf
+  pub begins : IsPartBegin stanzas swapped layout start
+  pub ends : IsPartEnd stanzas (swapped.at + swapped.stands) (window_was stanzas swapped) (window_end stanzas swapped) layout stop
+  pub nearest : IsNearestEnd stanzas (swapped.at + swapped.stands) (window_was stanzas swapped) (window_end stanzas swapped) layout stop.stanza
+  pub at : places ≡ places_back (edge_places start stop (window_was stanzas swapped) (window_end stanzas swapped)) come

@@ -11,7 +11,7 @@ ghost use Rattle.sp_layout.specs.LaidOut.{keyed};
 ghost use Rattle.sp_layout.specs.Speaking.{speakers_after};
 ghost use Rattle.sp_relay.specs.Edges.{edge_places};
 ghost use Rattle.sp_relay.specs.Changes.{CanChange, HasChangeRoom, with_change};
-ghost use Rattle.sp_relay.specs.Edited.{AreAlike, AreLast, IsEdited, WasLaid, last_behind, old_speakers, windows_settle};
+ghost use Rattle.sp_relay.specs.Edited.{AreAlike, AreLast, IsEditPart, IsEdited, WasLaid, last_behind, old_speakers, windows_settle};
 ghost use Rattle.sp_relay.specs.Kept.{KeepsRoom, laid_of};
 ghost use Rattle.sp_relay.specs.Outside.{StaysOutside};
 ghost use Rattle.sp_relay.specs.Speeches.{IsSaidAnew};
@@ -228,6 +228,7 @@ pub fn relay_edit(
     requires list { stanzas.now.stanzas ≡ stanzas_of (line_texts lines.now.lines) }
     requires was { WasLaid old.now lines.now.lines stanzas.now.stanzas swapped.now speakers (laid_of kept.old) }
     ensures layout { OnOk result (laid_of kept.new ≡ keyed lines.now.lines (layout_of speakers lines.now.lines)) }
+    ensures part { IfOk result (λ it. IsEditPart stanzas.now.stanzas swapped.now (laid_of kept.old) it.part.places) }
     ensures outside { IfOk result (λ it. StaysOutside old.now lines.now.lines (laid_of kept.new).body.elements it.part.places) }
     ensures back { IfOk result (λ it. with_change (laid_of kept.new) it ≡ laid_of kept.old) }
     ensures again { IfOk result (CanChange (laid_of kept.new)) }

@@ -6,10 +6,11 @@ use Rattle.spec_layout.specs.Layout.{layout_in, layout_of}
 use Rattle.spec_reread.specs.Windows.{stanza_lines_in}
 use Rattle.spec_relay.proofs.StanzaBlocks.{places-rise}
 use Rattle.sp_text.specs.Gap.{text_of}
-use Rattle.sp_layout.specs.LaidOut.{LayoutOf, keyed}
+use Rattle.sp_layout.specs.LaidOut.{LayoutOf, keyed, layout_behind}
 use Rattle.sp_layout.specs.Speaking.{speakers_after}
 use Rattle.sp_relay.specs.declared.kept.PartPlaces.{PartPlaces}
-use Rattle.sp_relay.specs.Kept.{laid_of, with_part}
+use Rattle.sp_relay.specs.Kept.{laid_of, places_back, with_part}
+use Rattle.sp_relay.specs.Edges.{IsNearestEnd, IsPartEnd, edge_places}
 use Rattle.sp_relay.specs.Changes.{CanSpeak}
 use Rattle.sp_relay.specs.Relaid.{relaid_elements}
 use Rattle.sp_relay.specs.Outside.{StaysOutside}
@@ -17,7 +18,7 @@ use Rattle.sp_relay.specs.Edited.{AreAlike, window_was, window_end}
 use Rattle.sp_relay.proofs.ChangeLaws.{room-spoken, room-through, speak-from, undo-can, undone}
 use Rattle.sp_relay.proofs.EditDone.{IsEditDone, can-stand, edit-done}
 use Rattle.sp_relay.proofs.OutsideLaws.{outside-said}
-use Rattle.sp_relay.proofs.EditedLaws.{EditedPart, edited, edited-part, can-begin, can-begin-window, can-end-at, old-few, few-lines, slice-lies}
+use Rattle.sp_relay.proofs.EditedLaws.{EditedPart, at-window, edited, edited-part, can-begin, can-begin-window, can-end-at, old-few, few-lines, slice-lies}
 use Rattle.sp_relay.proofs.edited.relay_edit.Goals as goal
 
 pub lines_in-requires : goal.lines_in-requires
@@ -107,6 +108,27 @@ speak-at c = subst (λ n. CanSpeak (laid_of c.relay.new.kept) n c.speech_there-s
 
 pub returns-clause-layout : goal.returns-clause-layout
 returns-clause-layout c = c.exchange_speech-speech.ensures.kept ∙ (done-of c).layout_is
+
+pub returns-clause-part : goal.returns-clause-part
+returns-clause-part c =
+    let stanzas = c.args.stanzas.now.stanzas in
+    let at : c.at-at.result ≡ c.args.swapped.now.at = c.at-at.ensures in
+    let to : c.at-at.result + c.stands.result ≡ c.args.swapped.now.at + c.args.swapped.now.stands = omega (arith, at, c.stands.ensures) in
+    let was : c.lines_before.result + c.lines_in.result ≡ window_was stanzas c.args.swapped.now =
+    ap₂ (λ n m. n + m) (c.lines_before.ensures ∙ ap (λ n. stanza_lines_in (take n stanzas)) at) (c.lines_in.ensures ∙ ap stanza_lines_in c.stanzas.ensures) in
+    let end : c.lines_before-end.result ≡ window_end stanzas c.args.swapped.now = c.lines_before-end.ensures ∙ ap (λ n. stanza_lines_in (take n stanzas)) to in
+    let layout = laid_of c.args.kept.now in
+    let start = c.part_begin-start.result in
+    let stop = c.part_end-stop.result in
+    record {
+      start = start;
+      stop = stop;
+      come = layout_behind c.args.lines.now.lines c.in_ok-last.last c.deref-2.result.now;
+      begins = c.part_begin-start.ensures;
+      ends = at-window (λ n m k. IsPartEnd stanzas n m k layout stop) to was end c.part_end-stop.ensures.is;
+      nearest = at-window (λ n m k. IsNearestEnd stanzas n m k layout stop.stanza) to was end c.part_end-stop.ensures.nearest;
+      at = c.in_ok-part.ensures.places ∙ ap (λ (p : PartPlaces). places_back p (layout_behind c.args.lines.now.lines c.in_ok-last.last c.deref-2.result.now)) (c.places_between-places.ensures ∙ ap₂ (λ n m. edge_places start stop n m) was end);
+    }
 
 pub returns-clause-outside : goal.returns-clause-outside
 returns-clause-outside c =
