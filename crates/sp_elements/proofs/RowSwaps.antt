@@ -1,9 +1,9 @@
 -- Elements of which one has other rows.
-use Rattle.std.proofs.Common.{◌≡◌, ℕ, zero, suc, ◌+◌, ◌-◌, ◌<◌, ◌≤◌, Bool, true, false, cond, ◌&&◌, ◌==◌, List, [], ◌∷◌, ◌++◌, length, map, filter, take, drop, slice_range, get_or, set, All, refl, sym, ap, ap₂, subst, ◌∙◌, arith, append_assoc, length-append, length-take, sum_by}
+use Rattle.std.proofs.Common.{◌≡◌, ℕ, zero, suc, ◌+◌, ◌-◌, ◌<◌, ◌≤◌, Bool, true, false, cond, ◌&&◌, ◌==◌, List, [], ◌∷◌, ◌++◌, length, map, take, drop, slice_range, get_or, set, All, refl, sym, ap, ap₂, subst, ◌∙◌, arith, append_assoc, length-append, length-take, sum_by}
 use Rattle.std.proofs.lemmas.Bool.{true≢false}
 use Rattle.std.proofs.lemmas.List.{map-append, length-map}
 use Rattle.std.proofs.lemmas.List.Sums.{sum_by-cons}
-use Rattle.std.proofs.lemmas.List.Elements.{All-nil, All-cons, All-head, All-tail}
+use Rattle.std.proofs.lemmas.List.Elements.{All-cons, All-head, All-tail}
 use Rattle.spec_pages.specs.declared.Shape.{Shape}
 use Rattle.spec_pages.specs.Pages.{is_heading}
 use Rattle.spec_pages.specs.Rows.{Row, ElementOf, shifted_row, placed_rows}
@@ -11,7 +11,7 @@ use Rattle.spec_layout.specs.Layout.{placed_in}
 use Rattle.spec_layout.specs.Shown.{is_heading_element, heading_count, no_row}
 use Rattle.sp_runs.specs.Runs.{exchanged}
 use Rattle.sp_elements.specs.Bodies.{BodyParts, KeyedElements, IsBody, row_count, shapes_in, marks_in, starts_by, rows_of, headings_of}
-use Rattle.sp_elements.specs.Exchanges.{moved_element, with_rows_at, with_rows, rows_at, AreRowsAlike, run_of, with_run, rows_before}
+use Rattle.sp_elements.specs.Exchanges.{moved_element, with_rows_at, with_rows, rows_at, AreRowsAlike, run_of, with_run}
 use Rattle.sp_elements.proofs.BodyLaws.{sum-headings}
 
 -- ---- lists round the place

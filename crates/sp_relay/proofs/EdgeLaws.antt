@@ -1,5 +1,5 @@
 -- What stands before the edges of a part of a layout.
-use Rattle.std.proofs.Common.{◌≡◌, ℕ, ◌+◌, ◌-◌, ◌<◌, ◌≤◌, true, Bool, None, List, ◌++◌, length, get_or, take, drop, slice_range, inl, inr, refl, sym, ap, ap₂, subst, ◌∙◌, arith, length-append, take_at, All}
+use Rattle.std.proofs.Common.{◌≡◌, ℕ, ◌+◌, ◌-◌, ◌<◌, ◌≤◌, Bool, None, List, ◌++◌, length, get_or, take, drop, slice_range, inl, inr, refl, sym, ap, ap₂, subst, ◌∙◌, arith, length-append, take_at, All}
 use Rattle.std.specs.Prelude.{AllPairs}
 use Rattle.std.proofs.lemmas.Bool.{cases_lt}
 use Rattle.std.proofs.lemmas.List.{get_or_append_left, get_or-append_right}
@@ -27,7 +27,7 @@ use Rattle.sp_elements.specs.Places.{CountsBefore}
 use Rattle.sp_elements.proofs.ElementCounts.{counts-one, counts-parts}
 use Rattle.sp_relay.specs.declared.edges.PartEdge.{PartEdge}
 use Rattle.sp_relay.specs.Kept.{rows_to}
-use Rattle.sp_relay.specs.Edges.{CanPart, IsEdge, IsPartStart, IsPartEnd, last_edge, settled_by}
+use Rattle.sp_relay.specs.Edges.{CanPart, IsEdge, IsPartStart, IsPartEnd, last_edge}
 use Rattle.sp_relay.proofs.StanzaLists.{take-split, opens-slice}
 
 -- So many of these page breaks stand before a row, and none at it.
@@ -151,14 +151,13 @@ start-found stanzas at layout edge place line stanza low opens is it = record {
   );
 }
 
-pub end-found : (stanzas : List StanzaOf) (to was end : ℕ) (quiet : Bool) (layout : LayoutOf) (edge : PartEdge) (place line : ℕ) → edge.stanza ≡ place → to ≤ place → place < length stanzas → OpensApart (drop place stanzas)
-    → settled_by stanzas to quiet place ≡ true → line ≡ stanza_lines_in (take place stanzas) - end + was → IsEdge layout line edge → IsPartEnd stanzas to was end quiet layout edge
-end-found stanzas to was end quiet layout edge place line stanza low inside opens settles is it = record {
+pub end-found : (stanzas : List StanzaOf) (to was end : ℕ) (layout : LayoutOf) (edge : PartEdge) (place line : ℕ) → edge.stanza ≡ place → to ≤ place → place < length stanzas → OpensApart (drop place stanzas)
+    → line ≡ stanza_lines_in (take place stanzas) - end + was → IsEdge layout line edge → IsPartEnd stanzas to was end layout edge
+end-found stanzas to was end layout edge place line stanza low inside opens is it = record {
   low = omega (arith, stanza, low);
   within = omega (arith, stanza, inside);
   is = inr (
     subst (λ n. OpensApart (drop n stanzas)) (sym stanza) opens,
-    ap (settled_by stanzas to quiet) stanza ∙ settles,
     subst (λ n. IsEdge layout n edge) (is ∙ sym (ap (λ n. stanza_lines_in (take n stanzas) - end + was) stanza)) it,
   );
 }

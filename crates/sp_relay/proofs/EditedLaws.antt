@@ -1,7 +1,6 @@
 -- The part of a layout that an edit changes, by the stanzas round its window.
 use Rattle.std.proofs.Common.{◌≡◌, ◌⊎◌, ℕ, ◌+◌, ◌-◌, ◌<◌, ◌≤◌, Bool, true, false, cond, Option, None, List, [], ◌++◌, length, map, get_or, take, drop, slice_range, inl, inr, refl, sym, ap, ap₂, subst, ◌∙◌, arith, append_assoc, length-append, take-append-drop, get_or-take, get_or-drop, All}
 use Rattle.std.specs.List.{list_any}
-use Rattle.std.proofs.lemmas.Bool.{or_cases}
 use Rattle.std.proofs.lemmas.List.{append-nil, drop_all, length-map}
 use Rattle.std.proofs.lemmas.List.Elements.{All-append}
 use Rattle.std.proofs.lemmas.List.Folds.{drop_split}
@@ -18,15 +17,16 @@ use Rattle.spec_layout.proofs.RowLaws.{IsText-texts}
 use Rattle.spec_layout.proofs.SpokenLaws.{spoken_elements-off}
 use Rattle.spec_reread.specs.Windows.{stanza_lines_in}
 use Rattle.spec_reread.proofs.Counts.{count-from}
-use Rattle.spec_relay.specs.Moved.{moved_place, moved_group, speaker_behind}
+use Rattle.spec_relay.specs.Moved.{moved_place, moved_block, moved_group, speaker_behind}
 use Rattle.spec_relay.specs.RelaidBlocks.{AreRelaid}
 use Rattle.spec_relay.specs.RelaidStanzas.{OpensApart, StanzasRelaid, stanza_settles}
 use Rattle.spec_relay.proofs.PlacedElements.{element_first, spoken-firsts}
 use Rattle.spec_relay.proofs.LayoutParts.{laid_of, laid-append, rows_in, breaks-append}
 use Rattle.spec_relay.proofs.RelaidParts.{ElementsRelaid, elements-relaid}
-use Rattle.spec_relay.proofs.RelaidStanzas.{front-stands, stanzas-relaid}
+use Rattle.spec_relay.proofs.MovedElements.{GroupStays}
+use Rattle.spec_relay.proofs.RelaidStanzas.{front-stands, old-last, stanzas-relaid}
 use Rattle.spec_relay.proofs.Parts.{behind-append, behind-settled}
-use Rattle.spec_relay.proofs.StanzaBlocks.{lines-append, blocks-three, blocks-past, any-blocks, opens-more}
+use Rattle.spec_relay.proofs.StanzaBlocks.{lines-append, blocks-moved, blocks-three, blocks-past, any-blocks, opens-more}
 use Rattle.spec_reread.proofs.WindowBlocks.{blocks-append}
 use Rattle.spec_layout.specs.Layout.{is_title_element, in_body, breaks_from}
 use Rattle.sp_layout.specs.LaidOut.{LayoutOf, layout_behind}
@@ -36,11 +36,12 @@ use Rattle.sp_relay.specs.declared.edges.PartEdge.{PartEdge}
 use Rattle.sp_relay.specs.declared.kept.PartPlaces.{PartPlaces}
 use Rattle.sp_relay.specs.Kept.{CanSwap}
 use Rattle.sp_relay.specs.Relaid.{IsRelaid, places_of}
+use Rattle.sp_relay.specs.Speeches.{LastOf, blocks_behind}
 use Rattle.sp_relay.specs.Edges.{CanPart, CanBegin, CanEnd, IsEdge, IsPartBegin, IsPartEnd, edge_places}
-use Rattle.sp_relay.specs.Edited.{AreAlike, IsEdited, LastStays, WasLaid, window_start, window_end, window_was}
+use Rattle.sp_relay.specs.Edited.{AreAlike, IsEdited, WasLaid, last_behind, old_speakers, window_start, window_end, window_was}
 use Rattle.sp_relay.proofs.StanzaLists.{take-split, slice-split, part-four, opens-slice}
 use Rattle.sp_relay.proofs.SpeakerLaws.{behind-quiet}
-use Rattle.sp_relay.proofs.QuietLaws.{quiet-relaid}
+use Rattle.sp_relay.proofs.SpeechLaws.{slice-low}
 use Rattle.sp_relay.proofs.EdgeLaws.{EdgeIs, edge-is, edge-last, can-part}
 use Rattle.sp_relay.proofs.SwapLaws.{relaid-can}
 
@@ -71,14 +72,15 @@ behind-window texts stanzas swapped =
     ap (speaker_behind texts None) (blocks-append 0 (take swapped.at stanzas) swapped.stanzas ∙ ap (λ n. one ++ blocks_from n swapped.stanzas) start)
     ∙ behind-append texts None one (blocks_from (window_start stanzas swapped) swapped.stanzas)
 
--- Who spoke last behind the window of an edit, in both texts, where it stays.
-last-told : (olds lines : List LineState) (stanzas : List StanzaOf) (swapped : SwappedState) (on : Bool) → LastStays olds lines stanzas swapped on
-    → (on ≡ false)
-    ⊎ (speaker_behind (line_texts lines) (speaker_behind (line_texts lines) None (blocks_from 0 (take swapped.at stanzas))) (blocks_from (window_start stanzas swapped) (slice_range stanzas swapped.at (swapped.at + swapped.stands)))
-    ≡ speaker_behind (line_texts olds) (speaker_behind (line_texts olds) None (blocks_from 0 (take swapped.at stanzas))) (blocks_from (window_start stanzas swapped) swapped.stanzas))
-last-told olds lines stanzas swapped false stays = inl refl
-last-told olds lines stanzas swapped true stays =
-    inr (sym (behind-to (line_texts lines) stanzas swapped.at (swapped.at + swapped.stands) (omega arith)) ∙ ap (λ (it : SpeakersOf). it.last) stays ∙ behind-window (line_texts olds) stanzas swapped)
+-- Where speakers who go on are told, it matters who spoke last.
+spoken-at : (on : Bool) (lines : List LineState) (one other : Option (List ℕ)) (blocks : List PlacedBlock) → (on ≡ true → one ≡ other) → spoken_elements on lines one blocks ≡ spoken_elements on lines other blocks
+spoken-at true lines one other blocks same = ap (λ who. spoken_elements true lines who blocks) (same refl)
+spoken-at false lines one other blocks same = spoken_elements-off lines one other blocks
+
+-- Who spoke last, where it is told.
+told-last : (on : Bool) (texts : List (List ℕ)) (blocks : List PlacedBlock) → on ≡ true → (speakers_after texts on blocks).last ≡ speaker_behind texts None blocks
+told-last true texts blocks is = refl
+told-last false texts blocks is = cc
 
 -- Lines in front of a place are those of another text.
 pub still-by : (before lines : List LineState) (count : ℕ) → take count before ≡ take count lines → (place : ℕ) → place < count → line_state lines place ≡ line_state before place
@@ -93,6 +95,17 @@ places-same a b c d e f a' b' c' d' e' f' less more one two three four five six 
     ap₂ (λ x y. record { title_from = x; title_to = y; from = c; to = d; break_from = e; break_to = f; less = less; more = more }) one two
     ∙ ap₂ (λ x y. record { title_from = a'; title_to = b'; from = x; to = y; break_from = e; break_to = f; less = less; more = more }) three four
     ∙ ap₂ (λ x y. record { title_from = a'; title_to = b'; from = c'; to = d'; break_from = x; break_to = y; less = less; more = more }) five six
+
+-- The elements behind a part that is laid out anew: as they were, and in the text after the edit. Those in front begin before them, and
+-- the lines of all stay.
+pub record IsLaidBehind (olds before lines : List LineState) (stanzas : List StanzaOf) (swapped : SwappedState) (on : Bool) (stop : PartEdge) (speakers : SpeakersOf) (blocks : List PlacedBlock) (places : PartPlaces) (layout : LayoutOf)
+    (it : IsRelaid before lines speakers blocks places layout) : Type 0 where
+  pub rest_now : map (moved_group places.less places.more) it.rest ≡ spoken_elements on lines (last_behind olds lines stanzas swapped on stop.stanza).before.last (blocks_behind stanzas stop.stanza)
+  pub said_now : it.said ≡ spoken_elements on lines (last_behind olds lines stanzas swapped on stop.stanza).after.last (blocks_behind stanzas stop.stanza)
+  pub low : All (λ (g : Group Spoken). element_first g < stanza_lines_in (take stop.stanza stanzas)) (it.front ++ spoken_elements speakers.on lines speakers.last blocks)
+  pub stood : List (Group Spoken)
+  pub stood_is : it.said ≡ map (moved_group places.less places.more) stood
+  pub stays : All (GroupStays places.less places.more before lines) stood
 
 module _ (was_lines : List LineState) (lines : TextState) (stanzas : List StanzaOf) (swapped : SwappedState) (on : Bool) (layout : LayoutOf) (it : WasLaid was_lines lines.lines stanzas swapped on layout) where
   abbrev at : ℕ
@@ -158,8 +171,7 @@ module _ (was_lines : List LineState) (lines : TextState) (stanzas : List Stanza
       let there : was + n ≡ place = omega (arith, low) in
       ap (λ p. get_or lines.lines p d) here ∙ sym (get_or-drop end lines.lines n d) ∙ ap (λ (ls : List LineState). get_or ls n d) (sym it.of.rest) ∙ get_or-drop was it.before.lines n d ∙ ap (λ p. get_or it.before.lines p d) there
 
-  module _ (list : stanzas ≡ stanzas_of (line_texts lines.lines)) (keeps : IsText lines) (start stop : PartEdge) (quiet : Bool) (begins : IsPartBegin stanzas swapped layout start) (ends : IsPartEnd stanzas to was end quiet layout stop)
-      (told : quiet ≡ true → LastStays was_lines lines.lines stanzas swapped on) where
+  module _ (list : stanzas ≡ stanzas_of (line_texts lines.lines)) (keeps : IsText lines) (start stop : PartEdge) (begins : IsPartBegin stanzas swapped layout start) (ends : IsPartEnd stanzas to was end layout stop) where
     abbrev front : List StanzaOf
     front = take start.stanza stanzas
 
@@ -219,7 +231,7 @@ module _ (was_lines : List LineState) (lines : TextState) (stanzas : List Stanza
     end-lines : end ≡ window_start stanzas swapped + stanza_lines_in come
     end-lines = ap stanza_lines_in (take-split stanzas at to (omega arith)) ∙ lines-append (take at stanzas) come
 
-    parts-to : (those others : List StanzaOf) → drop to stanzas ≡ those ++ others → (others ≡ []) ⊎ (OpensApart others × (list_any stanza_settles those ≡ true))
+    parts-to : (those others : List StanzaOf) → drop to stanzas ≡ those ++ others → (others ≡ []) ⊎ OpensApart others
         → StanzasRelaid it.before.lines lines.lines front ahead gone come those others (window_start stanzas swapped) was end
     parts-to those others is apart = record {
       old = old-front ∙ part-to gone those others is;
@@ -237,39 +249,19 @@ module _ (was_lines : List LineState) (lines : TextState) (stanzas : List Stanza
     }
 
     abbrev Relaid : Type 0
-    Relaid = AreRelaid on it.before.lines lines.lines was end (blocks_from 0 front) (blocks_from (stanza_lines_in front) (ahead ++ (gone ++ behind))) (blocks_from (stanza_lines_in front) (ahead ++ (come ++ behind)))
+    Relaid = AreRelaid it.before.lines lines.lines was end (blocks_from 0 front) (blocks_from (stanza_lines_in front) (ahead ++ (gone ++ behind))) (blocks_from (stanza_lines_in front) (ahead ++ (come ++ behind)))
         (blocks_from (was + stanza_lines_in behind) rest)
 
-    -- Where a heading or a speech stands between the window and the end of the part, or the part ends behind all.
-    relaid-settled : (rest ≡ []) ⊎ (OpensApart rest × (list_any stanza_settles behind ≡ true)) → Relaid
-    relaid-settled apart =
-        let are = IsText-texts it.before it.of.keeps in
-        stanzas-relaid it.before.lines lines.lines front ahead gone come behind rest (window_start stanzas swapped) was end (parts-to behind rest inner apart) are.utf8 are.few on
-
-    -- Where the same one spoke last behind the window.
-    relaid-quiet : OpensApart rest → quiet ≡ true → Relaid
-    relaid-quiet opens is =
-        let are = IsText-texts it.before it.of.keeps in
-        let parts = parts-to (behind ++ rest) [] (inner ∙ sym (append-nil (behind ++ rest))) (inl refl) in
-        let first_line = window_start stanzas swapped in
-        let stays = last-told was_lines lines.lines stanzas swapped on (told is) in
-        let olds = line_texts it.before.lines in
-        let news = line_texts lines.lines in
-        let Same : List LineState → List StanzaOf → Type 0 = λ (ls : List LineState) (ss : List StanzaOf).
-        speaker_behind news (speaker_behind news None (blocks_from 0 ss)) (blocks_from first_line come) ≡ speaker_behind (line_texts ls) (speaker_behind (line_texts ls) None (blocks_from 0 ss)) (blocks_from first_line gone) in
-        quiet-relaid it.before.lines lines.lines front ahead gone come behind rest first_line was end parts are.utf8 are.few on opens (elim stays [
-          | inl off ↦ inl off
-          | inr same ↦ inr (subst (λ (ls : List LineState). Same ls (front ++ ahead)) (sym it.is) (subst (Same was_lines) (take-split stanzas start.stanza at begins.within) same))
-        ])
+    parts : StanzasRelaid it.before.lines lines.lines front ahead gone come behind rest (window_start stanzas swapped) was end
+    parts = parts-to behind rest inner (elim ends.is [
+      | inl last ↦ inl (ap (λ (e : PartEdge). drop e.stanza stanzas) last ∙ drop_all (length stanzas) stanzas (omega arith))
+      | inr both ↦ inr both.0
+    ])
 
     relaid : Relaid
-    relaid = elim ends.is [
-      | inl last ↦ relaid-settled (inl (ap (λ (e : PartEdge). drop e.stanza stanzas) last ∙ drop_all (length stanzas) stanzas (omega arith)))
-      | inr both ↦ elim (or_cases quiet (list_any stanza_settles behind) both.1) [
-        | inl is ↦ relaid-quiet both.0 is
-        | inr between ↦ relaid-settled (inr (both.0, between))
-      ]
-    ]
+    relaid =
+        let are = IsText-texts it.before it.of.keeps in
+        stanzas-relaid it.before.lines lines.lines front ahead gone come behind rest (window_start stanzas swapped) was end parts are.utf8 are.few
 
     elements : ElementsRelaid on it.before.lines lines.lines was end (blocks_from 0 front) (blocks_from (stanza_lines_in front) (ahead ++ (gone ++ behind))) (blocks_from (stanza_lines_in front) (ahead ++ (come ++ behind)))
         (blocks_from (was + stanza_lines_in behind) rest)
@@ -351,7 +343,7 @@ module _ (was_lines : List LineState) (lines : TextState) (stanzas : List Stanza
               let low : All (λ (g : Group Spoken). element_first g < past) elements.elements_front = λ k d h. let less = front-low k d h in omega (arith, less, order) in
               edge-is on it.before.lines layout it.of.was (elements.elements_front ++ elements.elements_gone) elements.elements_rest all past stop
               (All-append (λ (g : Group Spoken). element_first g < past) elements.elements_front elements.elements_gone low gone-low) (rest-high past (omega arith))
-              (subst (λ n. IsEdge layout n stop) line both.2)
+              (subst (λ n. IsEdge layout n stop) line both.1)
         ]
 
     places-are : places ≡ places_of it.before.lines elements.elements_front elements.elements_gone was end
@@ -370,64 +362,109 @@ module _ (was_lines : List LineState) (lines : TextState) (stanzas : List Stanza
         two.breaks ∙ ap (λ (ns : List ℕ). length ns) (breaks-append b 0 ef eg ∙ ap (λ n. breaks_from b 0 ef ++ breaks_from b n eg) rows) ∙ length-append (breaks_from b 0 ef) (breaks_from b (rows_in b ef) eg) in
         places-same _ _ _ _ _ _ _ _ _ _ _ _ was end one.titles titles one.body body one.breaks breaks
 
+    -- The blocks behind the part, in the text after the edit.
+    past-now : moved_place was end past ≡ stanza_lines_in (take stop.stanza stanzas)
+    past-now =
+        let sum : stanza_lines_in (take stop.stanza stanzas) ≡ end + stanza_lines_in behind = ap stanza_lines_in (take-split stanzas to stop.stanza ends.low) ∙ lines-append (take to stanzas) behind in
+        omega (arith, sum)
+
+    pub rest-blocks : map (moved_block was end) (blocks_from past rest) ≡ blocks_behind stanzas stop.stanza
+    rest-blocks = sym (blocks-moved was end past rest (omega arith)) ∙ ap (λ n. blocks_from n rest) past-now
+
+    -- Who spoke last before them, in both texts.
+    abbrev last : LastOf
+    last = last_behind was_lines lines.lines stanzas swapped on stop.stanza
+
+    abbrev old_last : Option (List ℕ)
+    old_last = speaker_behind (line_texts it.before.lines) None (blocks_from 0 front ++ blocks_from first (ahead ++ (gone ++ behind)))
+
+    abbrev new_last : Option (List ℕ)
+    new_last = speaker_behind (line_texts lines.lines) None (blocks_from 0 front ++ blocks_from first (ahead ++ (come ++ behind)))
+
+    old-told : on ≡ true → old_last ≡ last.before.last
+    old-told is =
+        let are = IsText-texts it.before it.of.keeps in
+        let olds = line_texts it.before.lines in
+        let news = line_texts lines.lines in
+        let start_at = window_start stanzas swapped in
+        let moved_at : moved_place was end was ≡ end = omega arith in
+        let own = speaker_behind olds (speaker_behind olds (speaker_behind olds None (blocks_from 0 front)) (blocks_from first ahead)) (blocks_from start_at gone) in
+        let told : own ≡ (old_speakers (line_texts was_lines) stanzas swapped on).last =
+        ap (λ who. speaker_behind olds who (blocks_from start_at gone)) (sym (behind-to olds stanzas start.stanza at begins.within)) ∙ sym (behind-window olds stanzas swapped)
+        ∙ sym (told-last on olds (blocks_from 0 (take at stanzas ++ gone)) is) ∙ ap (λ (ls : List LineState). (old_speakers (line_texts ls) stanzas swapped on).last) it.is in
+        old-last it.before.lines lines.lines front ahead gone come behind rest start_at was end parts are.utf8 are.few
+        ∙ ap₂ (λ who (bs : List PlacedBlock). speaker_behind news who bs) told (sym (blocks-moved was end was behind (omega arith)) ∙ ap (λ n. blocks_from n behind) moved_at)
+
+    new-told : on ≡ true → new_last ≡ last.after.last
+    new-told is =
+        let news = line_texts lines.lines in
+        let start_at : 0 + first ≡ first = omega arith in
+        let within : start.stanza ≤ stop.stanza = let one = begins.within in let two = ends.low in omega (arith, one, two) in
+        let all : blocks_from 0 front ++ blocks_from first (ahead ++ (come ++ behind)) ≡ blocks_from 0 (take stop.stanza stanzas) =
+        ap (λ (ss : List StanzaOf). blocks_from 0 front ++ blocks_from first ss) (sym window) ∙ ap (λ n. blocks_from 0 front ++ blocks_from n (slice_range stanzas start.stanza stop.stanza)) (sym start_at)
+        ∙ sym (ap (blocks_from 0) (take-split stanzas start.stanza stop.stanza within) ∙ blocks-append 0 front (slice_range stanzas start.stanza stop.stanza)) in
+        ap (speaker_behind news None) all ∙ behind-to news stanzas to stop.stanza ends.low
+        ∙ ap (λ who. speaker_behind news who (blocks_from end behind)) (sym (told-last on news (blocks_from 0 (take to stanzas)) is))
+
+    -- The elements behind the part: as they were, and in the text after the edit.
+    rest-now : map (moved_group was end) elements.elements_rest ≡ spoken_elements on lines.lines last.before.last (blocks_behind stanzas stop.stanza)
+    rest-now =
+        ap (map (moved_group was end)) elements.rest_is ∙ sym (elements.stay old_last).same
+        ∙ ap (spoken_elements on lines.lines old_last) rest-blocks ∙ spoken-at on lines.lines old_last last.before.last (blocks_behind stanzas stop.stanza) old-told
+
+    said-now : spoken_elements on lines.lines new_last (map (moved_block was end) (blocks_from past rest)) ≡ spoken_elements on lines.lines last.after.last (blocks_behind stanzas stop.stanza)
+    said-now = ap (spoken_elements on lines.lines new_last) rest-blocks ∙ spoken-at on lines.lines new_last last.after.last (blocks_behind stanzas stop.stanza) new-told
+
+    -- Where the elements up to them begin.
+    abbrev line : ℕ
+    line = stanza_lines_in (take stop.stanza stanzas)
+
+    come-low : (whose : Bool) (who : Option (List ℕ)) → All (λ (g : Group Spoken). element_first g < line) (spoken_elements whose lines.lines who (blocks_from first (slice_range stanzas start.stanza stop.stanza)))
+    come-low whose who =
+        let within : start.stanza ≤ stop.stanza = let one = begins.within in let two = ends.low in omega (arith, one, two) in
+        spoken-firsts whose lines.lines who (λ (p : PlacedBlock). p.first < line) (blocks_from first (slice_range stanzas start.stanza stop.stanza)) (slice-low lines stanzas start.stanza stop.stanza keeps list within)
+
+    ahead-low : (whose : Bool) (who : Option (List ℕ)) → All (λ (g : Group Spoken). element_first g < line) (elements.elements_front ++ spoken_elements whose lines.lines who (blocks_from first (slice_range stanzas start.stanza stop.stanza)))
+    ahead-low whose who =
+        let within : start.stanza ≤ stop.stanza = let one = begins.within in let two = ends.low in omega (arith, one, two) in
+        let sum = ap stanza_lines_in (take-split stanzas start.stanza stop.stanza within) ∙ lines-append front (slice_range stanzas start.stanza stop.stanza) in
+        All-append (λ (g : Group Spoken). element_first g < line) elements.elements_front (spoken_elements whose lines.lines who (blocks_from first (slice_range stanzas start.stanza stop.stanza)))
+        (λ k d h. let low = front-low k d h in omega (arith, low, sum)) (come-low whose who)
+
     -- The elements of the part are laid out anew.
     pub edit-relaid : IsRelaid it.before.lines lines.lines speakers blocks places layout
     edit-relaid =
-        let moved = map (moved_group was end) elements.elements_rest in
         let last = speaker_behind (line_texts lines.lines) None (blocks_from 0 front) in
+        let said = spoken_elements on lines.lines new_last (map (moved_block was end) (blocks_from past rest)) in
         let same : spoken_elements on lines.lines last (blocks_from first (ahead ++ (come ++ behind))) ≡ spoken_elements on lines.lines speakers.last blocks =
         sym (spoken-last on lines.lines last blocks ∙ ap (λ ss. spoken_elements on lines.lines last (blocks_from first ss)) window) in
         record {
           front = elements.elements_front;
           gone = elements.elements_gone;
           rest = elements.elements_rest;
+          said = said;
           was = it.of.was;
           old = elements.old;
-          new = elements.new ∙ ap (λ (gs : List (Group Spoken)). elements.elements_front ++ (gs ++ moved)) same;
+          new = elements.new ∙ ap (λ (gs : List (Group Spoken)). elements.elements_front ++ (gs ++ said)) same;
           still = elements.still;
           moved = elements.moved;
           at = places-are;
         }
 
--- A part is laid out anew also behind other speakers, where its blocks are the same elements behind them.
-relaid-alike : (before lines : List LineState) (speakers others : SpeakersOf) (blocks : List PlacedBlock) (places : PartPlaces) (layout : LayoutOf) → AreAlike lines blocks speakers others
-    → IsRelaid before lines others blocks places layout → IsRelaid before lines speakers blocks places layout
-relaid-alike before lines speakers others blocks places layout alike it =
-    let P : Bool → Type 0 = λ on. IsRelaid before lines (record { on = on; last = speakers.last }) blocks places layout in
-    let moved = map (moved_group places.less places.more) it.rest in
-    subst P (sym alike.on) (record {
-      front = it.front;
-      gone = it.gone;
-      rest = it.rest;
-      was = it.was;
-      old = it.old;
-      new = it.new ∙ ap (λ (gs : List (Group Spoken)). it.front ++ (gs ++ moved)) (sym alike.same);
-      still = it.still;
-      moved = it.moved;
-      at = it.at;
-    })
+    pub edit-behind : IsLaidBehind was_lines it.before.lines lines.lines stanzas swapped on stop speakers blocks places layout edit-relaid
+    unfolding edit-relaid elements
+    edit-behind = record {
+      rest_now = rest-now;
+      said_now = said-now;
+      low = ahead-low on speakers.last;
+      stood = spoken_elements on it.before.lines new_last (blocks_from past rest);
+      stood_is = (elements.stay new_last).same;
+      stays = (elements.stay new_last).each;
+    }
 
--- What the call that lays a part out anew asks and is asked for.
-pub record EditedPart (before lines : List LineState) (layout : LayoutOf) (speakers : SpeakersOf) (blocks : List PlacedBlock) (places : PartPlaces) : Type 0 where
-  pub relaid : IsRelaid before lines speakers blocks places layout
-  pub can : CanSwap layout places (layout_behind lines speakers blocks)
-
-pub edited-part : (was_lines : List LineState) (lines : TextState) (stanzas : List StanzaOf) (swapped : SwappedState) (on : Bool) (layout : LayoutOf) (it : WasLaid was_lines lines.lines stanzas swapped on layout) → stanzas ≡ stanzas_of (line_texts lines.lines) → IsText lines
-    → (upto was end : ℕ) (start stop : PartEdge) (quiet : Bool) (speakers : SpeakersOf) (blocks : List PlacedBlock) (places : PartPlaces) → upto ≡ swapped.at + swapped.stands → was ≡ window_was stanzas swapped
-    → end ≡ window_end stanzas swapped → IsPartBegin stanzas swapped layout start → IsPartEnd stanzas upto was end quiet layout stop → (quiet ≡ true → LastStays was_lines lines.lines stanzas swapped on)
-    → blocks ≡ blocks_from (stanza_lines_in (take start.stanza stanzas)) (slice_range stanzas start.stanza stop.stanza)
-    → AreAlike lines.lines blocks speakers (speakers_after (line_texts lines.lines) on (blocks_from 0 (take start.stanza stanzas))) → places ≡ edge_places start stop was end
-    → EditedPart it.before.lines lines.lines layout speakers blocks places
-edited-part was_lines lines stanzas swapped on layout it list keeps upto was end start stop quiet speakers blocks places upto_is was_is end_is begins ends told blocks_are alike places_are =
-    let stops = subst (λ n. IsPartEnd stanzas (swapped.at + swapped.stands) (window_was stanzas swapped) n quiet layout stop) end_is
-    (subst (λ n. IsPartEnd stanzas (swapped.at + swapped.stands) n end quiet layout stop) was_is (subst (λ n. IsPartEnd stanzas n was end quiet layout stop) upto_is ends)) in
-    let places_same : places ≡ edge_places start stop (window_was stanzas swapped) (window_end stanzas swapped) = places_are ∙ ap₂ (λ n m. edge_places start stop n m) was_is end_is in
-    let own = speakers_after (line_texts lines.lines) on (blocks_from 0 (take start.stanza stanzas)) in
-    let relaid = relaid-alike it.before.lines lines.lines speakers own blocks places layout alike
-    (subst (λ (p : PartPlaces). IsRelaid it.before.lines lines.lines own blocks p layout) (sym places_same)
-    (subst (λ (bs : List PlacedBlock). IsRelaid it.before.lines lines.lines own bs (edge_places start stop (window_was stanzas swapped) (window_end stanzas swapped)) layout) (sym blocks_are)
-    (edit-relaid was_lines lines stanzas swapped on layout it list keeps start stop quiet begins stops told))) in
-    record { relaid = relaid; can = relaid-can it.before lines speakers blocks places layout it.of.keeps keeps relaid }
+-- What is known at places that are those of the window.
+pub at-window : (P : ℕ → ℕ → ℕ → Type 0) {a b c d e f : ℕ} → a ≡ d → b ≡ e → c ≡ f → P a b c → P d e f
+at-window P {a} {b} {c} {d} {e} {f} one two three it = subst (P d e) three (subst (λ n. P d n c) two (subst (λ n. P n b c) one it))
 
 pub can-end-at : (was_lines : List LineState) (lines : TextState) (stanzas : List StanzaOf) (swapped : SwappedState) (on : Bool) (layout : LayoutOf) → WasLaid was_lines lines.lines stanzas swapped on layout → (upto was end : ℕ) → upto ≡ swapped.at + swapped.stands
     → was ≡ window_was stanzas swapped → end ≡ window_end stanzas swapped → CanEnd stanzas upto was end layout
@@ -450,6 +487,65 @@ few-lines text stanzas keeps is =
     record {
       all = all;
       first = λ i. omega (arith, all, ap stanza_lines_in (take-append-drop i stanzas), lines-append (take i stanzas) (drop i stanzas));
+    }
+
+-- A part is laid out anew also behind other speakers, where its blocks are the same elements behind them.
+relaid-alike : (olds before lines : List LineState) (stanzas : List StanzaOf) (swapped : SwappedState) (own : Bool) (stop : PartEdge) (speakers others : SpeakersOf) (blocks : List PlacedBlock) (places : PartPlaces) (layout : LayoutOf)
+    → AreAlike lines blocks speakers others → (it : IsRelaid before lines others blocks places layout) → IsLaidBehind olds before lines stanzas swapped own stop others blocks places layout it
+    → (r : IsRelaid before lines speakers blocks places layout) × IsLaidBehind olds before lines stanzas swapped own stop speakers blocks places layout r
+relaid-alike olds before lines stanzas swapped own stop speakers others blocks places layout alike it behind =
+    let P : Bool → Type 0 = λ on. (r : IsRelaid before lines (record { on = on; last = speakers.last }) blocks places layout) × IsLaidBehind olds before lines stanzas swapped own stop (record { on = on; last = speakers.last }) blocks places layout r in
+    subst P (sym alike.on) (
+      record {
+        front = it.front;
+        gone = it.gone;
+        rest = it.rest;
+        said = it.said;
+        was = it.was;
+        old = it.old;
+        new = it.new ∙ ap (λ (gs : List (Group Spoken)). it.front ++ (gs ++ it.said)) (sym alike.same);
+        still = it.still;
+        moved = it.moved;
+        at = it.at;
+      },
+      record {
+        rest_now = behind.rest_now;
+        said_now = behind.said_now;
+        low = subst (λ (gs : List (Group Spoken)). All (λ (g : Group Spoken). element_first g < stanza_lines_in (take stop.stanza stanzas)) (it.front ++ gs)) (sym alike.same) behind.low;
+        stood = behind.stood;
+        stood_is = behind.stood_is;
+        stays = behind.stays;
+      },
+    )
+
+-- What the call that lays a part out anew asks and is asked for, and what stands behind the part.
+pub record EditedPart (olds before lines : List LineState) (stanzas : List StanzaOf) (swapped : SwappedState) (on : Bool) (stop : PartEdge) (layout : LayoutOf) (speakers : SpeakersOf) (blocks : List PlacedBlock) (places : PartPlaces) : Type 0 where
+  pub relaid : IsRelaid before lines speakers blocks places layout
+  pub can : CanSwap layout places (layout_behind lines speakers blocks)
+  pub behind : IsLaidBehind olds before lines stanzas swapped on stop speakers blocks places layout relaid
+
+pub edited-part : (was_lines : List LineState) (lines : TextState) (stanzas : List StanzaOf) (swapped : SwappedState) (on : Bool) (layout : LayoutOf) (it : WasLaid was_lines lines.lines stanzas swapped on layout) → stanzas ≡ stanzas_of (line_texts lines.lines) → IsText lines
+    → (upto was end : ℕ) (start stop : PartEdge) (speakers : SpeakersOf) (blocks : List PlacedBlock) (places : PartPlaces) → upto ≡ swapped.at + swapped.stands → was ≡ window_was stanzas swapped
+    → end ≡ window_end stanzas swapped → IsPartBegin stanzas swapped layout start → IsPartEnd stanzas upto was end layout stop
+    → blocks ≡ blocks_from (stanza_lines_in (take start.stanza stanzas)) (slice_range stanzas start.stanza stop.stanza)
+    → AreAlike lines.lines blocks speakers (speakers_after (line_texts lines.lines) on (blocks_from 0 (take start.stanza stanzas))) → places ≡ edge_places start stop was end
+    → EditedPart was_lines it.before.lines lines.lines stanzas swapped on stop layout speakers blocks places
+edited-part was_lines lines stanzas swapped on layout it list keeps upto was end start stop speakers blocks places upto_is was_is end_is begins ends blocks_are alike places_are =
+    let stops = subst (λ n. IsPartEnd stanzas (swapped.at + swapped.stands) (window_was stanzas swapped) n layout stop) end_is
+    (subst (λ n. IsPartEnd stanzas (swapped.at + swapped.stands) n end layout stop) was_is (subst (λ n. IsPartEnd stanzas n was end layout stop) upto_is ends)) in
+    let places_same : places ≡ edge_places start stop (window_was stanzas swapped) (window_end stanzas swapped) = places_are ∙ ap₂ (λ n m. edge_places start stop n m) was_is end_is in
+    let own = speakers_after (line_texts lines.lines) on (blocks_from 0 (take start.stanza stanzas)) in
+    let Q : List PlacedBlock → PartPlaces → Type 0 = λ (bs : List PlacedBlock) (p : PartPlaces). (r : IsRelaid it.before.lines lines.lines own bs p layout) × IsLaidBehind was_lines it.before.lines lines.lines stanzas swapped on stop own bs p layout r in
+    let both : Q blocks places = subst (λ (p : PartPlaces). Q blocks p) (sym places_same)
+    (subst (λ (bs : List PlacedBlock). Q bs (edge_places start stop (window_was stanzas swapped) (window_end stanzas swapped))) (sym blocks_are)
+    (edit-relaid was_lines lines stanzas swapped on layout it list keeps start stop begins stops, edit-behind was_lines lines stanzas swapped on layout it list keeps start stop begins stops)) in
+    let laid = relaid-alike was_lines it.before.lines lines.lines stanzas swapped on stop speakers own blocks places layout alike both.0 both.1 in
+    let few = few-lines lines stanzas keeps list in
+    let near : places.more ≤ 200000 = let first = few.first (swapped.at + swapped.stands) in let same = ap (λ (p : PartPlaces). p.more) places_same in omega (arith, first, same) in
+    record {
+      relaid = laid.0;
+      can = relaid-can it.before lines speakers blocks places layout it.of.keeps keeps near laid.0;
+      behind = laid.1;
     }
 
 -- The blocks of stanzas of a text lie in it.

@@ -9,7 +9,7 @@ use Rattle.spec_labels.specs.declared.RowKey.{RowKey}
 use Rattle.spec_layout.specs.Shown.{row_key}
 use Rattle.spec_script.specs.Stanzas.{PlacedBlock}
 use Rattle.spec_layout.specs.Speakers.{Spoken, spoken_elements}
-use Rattle.spec_layout.specs.Layout.{is_title_element, in_body, breaks_from, layout_in, layout_of, placed_in}
+use Rattle.spec_layout.specs.Layout.{is_title_element, in_body, breaks_from, layout_in, placed_in}
 use Rattle.spec_relay.specs.Moved.{moved_group}
 use Rattle.spec_relay.proofs.MovedElements.{GroupStays}
 use Rattle.spec_relay.proofs.LayoutParts.{laid_of, laid-three, rows_in, breaks-append, breaks-shifted, laid-moved, keys-moved, breaks-moved, still-groups, still-laid}
@@ -23,7 +23,7 @@ use Rattle.sp_elements.proofs.BodyLaws.{placed_in-append}
 use Rattle.sp_relay.specs.declared.kept.PartPlaces.{PartPlaces}
 use Rattle.sp_relay.specs.Runs.{with_breaks}
 use Rattle.sp_relay.specs.Kept.{with_part}
-use Rattle.sp_relay.specs.Relaid.{places_of, IsRelaid}
+use Rattle.sp_relay.specs.Relaid.{places_of, IsRelaid, relaid_elements}
 use Rattle.sp_relay.proofs.RunsBack.{front-of}
 
 keys-append : (lines : List LineState) (one other : List ElementOf) → map (row_key lines) (placed_in (one ++ other)) ≡ map (row_key lines) (placed_in one) ++ map (row_key lines) (placed_in other)
@@ -50,12 +50,13 @@ run-is lines later front gone come rest less more front_keys rest_keys =
     ∙ ap (λ (ks : List RowKey). map (row_key later) (placed_in front) ++ ks) (sym (keys-append later come (map (moved_element less more) rest)))
     ∙ sym (keys-append later front (come ++ map (moved_element less more) rest)))
 
-module _ (lines later : List LineState) (less more : ℕ) (front gone come rest : List (Group Spoken)) (still : All (GroupStays 0 0 lines later) front) (moved : All (GroupStays less more lines later) rest) where
-  -- Those in front are the same.
-  front-laid : (among : Group Spoken → Bool) → ((g : Group Spoken) → among (moved_group 0 0 g) ≡ among g) → laid_of among later front ≡ laid_of among lines front
-  front-laid among same =
-      ap (laid_of among later) (sym (still-groups front)) ∙ laid-moved 0 0 lines later among same front still ∙ still-laid (laid_of among lines front)
+-- Those in front are the same.
+pub front-laid : (lines later : List LineState) (front : List (Group Spoken)) → All (GroupStays 0 0 lines later) front → (among : Group Spoken → Bool) → ((g : Group Spoken) → among (moved_group 0 0 g) ≡ among g)
+    → laid_of among later front ≡ laid_of among lines front
+front-laid lines later front still among same =
+    ap (laid_of among later) (sym (still-groups front)) ∙ laid-moved 0 0 lines later among same front still ∙ still-laid (laid_of among lines front)
 
+module _ (lines later : List LineState) (less more : ℕ) (front gone come rest : List (Group Spoken)) (still : All (GroupStays 0 0 lines later) front) (moved : All (GroupStays less more lines later) rest) where
   front-keys : (among : Group Spoken → Bool) → map (row_key later) (placed_in (laid_of among lines front)) ≡ map (row_key lines) (placed_in (laid_of among lines front))
   front-keys among = ap (λ (es : List ElementOf). map (row_key later) (placed_in es)) (sym (still-laid (laid_of among lines front))) ∙ keys-moved 0 0 lines later among front still
 
@@ -73,7 +74,7 @@ module _ (lines later : List LineState) (less more : ℕ) (front gone come rest 
       ap (λ (es : List ElementOf). with_run (body_of lines es) (length f) (length f + length g) (body_of later o) less more) (laid-three among lines front gone rest)
       ∙ run-is lines later f g o k less more (front-keys among) (keys-moved less more lines later among rest moved)
       ∙ ap (body_of later) (sym (laid-three among later front come (map (moved_group less more) rest)
-      ∙ ap₂ (λ (xs ys : List ElementOf). xs ++ (o ++ ys)) (front-laid among (same 0 0)) (laid-moved less more lines later among (same less more) rest moved)))
+      ∙ ap₂ (λ (xs ys : List ElementOf). xs ++ (o ++ ys)) (front-laid lines later front still among (same 0 0)) (laid-moved less more lines later among (same less more) rest moved)))
 
   title-same : (l m : ℕ) (g : Group Spoken) → is_title_element (moved_group l m g) ≡ is_title_element g
   title-same l m g = refl
@@ -92,7 +93,7 @@ module _ (lines later : List LineState) (less more : ℕ) (front gone come rest 
   rc = rows_in later come
 
   rows-front : rows_in later front ≡ rf
-  rows-front = ap (λ (es : List ElementOf). length (placed_in es)) (front-laid in_body (body-same 0 0))
+  rows-front = ap (λ (es : List ElementOf). length (placed_in es)) (front-laid lines later front still in_body (body-same 0 0))
 
   breaks-part : with_breaks (breaks_from lines 0 (front ++ (gone ++ rest))) (length (breaks_from lines 0 front)) (length (breaks_from lines 0 front) + length (breaks_from lines rf gone)) (breaks_from later 0 come) rf (rf + rg) (rf + rc)
       ≡ breaks_from later 0 (front ++ (come ++ map (moved_group less more) rest))
@@ -140,12 +141,11 @@ module _ (lines later : List LineState) (less more : ℕ) (front gone come rest 
       ∙ ap (λ (those : List ℕ). record { titles = titles; body = body; breaks = those }) breaks-part
       ∙ ap₂ (λ (t b : KeyedElements). record { titles = t; body = b; breaks = breaks_from later 0 (front ++ (come ++ map (moved_group less more) rest)) }) (elements-part is_title_element title-same) (elements-part in_body body-same)
 
--- The layout of the text after an edit.
-pub relaid-is : (before lines : List LineState) (speakers : SpeakersOf) (blocks : List PlacedBlock) (places : PartPlaces) (layout : LayoutOf) → IsRelaid before lines speakers blocks places layout
-    → with_part layout places (layout_behind lines speakers blocks) ≡ keyed lines (layout_of speakers.on lines)
+-- The layout of the elements after an edit, with those behind the part as they were.
+pub relaid-is : (before lines : List LineState) (speakers : SpeakersOf) (blocks : List PlacedBlock) (places : PartPlaces) (layout : LayoutOf) (it : IsRelaid before lines speakers blocks places layout)
+    → with_part layout places (layout_behind lines speakers blocks) ≡ keyed lines (layout_in lines (relaid_elements before lines speakers blocks places layout it))
 relaid-is before lines speakers blocks places layout it =
     let part = layout_behind lines speakers blocks in
     let come = spoken_elements speakers.on lines speakers.last blocks in
     ap₂ (λ (l : LayoutOf) (at : PartPlaces). with_part l at part) (it.was ∙ ap (λ (those : List (Group Spoken)). keyed before (layout_in before those)) it.old) it.at
     ∙ part-is before lines places.less places.more it.front it.gone come it.rest it.still it.moved
-    ∙ ap (λ (those : List (Group Spoken)). keyed lines (layout_in lines those)) (sym it.new)

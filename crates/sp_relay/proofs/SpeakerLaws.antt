@@ -13,7 +13,7 @@ use Rattle.spec_layout.proofs.SpokenLaws.{spoken_elements-off}
 use Rattle.spec_relay.specs.Moved.{settles, settles_kind, speaker_behind}
 
 -- Behind blocks without a heading and a speech the same one spoke last as before them.
-passed-by : (kind : Kind) (name : List ℕ) (last : Option (List ℕ)) → settles_kind kind ≡ false → speaker_by kind name last ≡ last
+pub passed-by : (kind : Kind) (name : List ℕ) (last : Option (List ℕ)) → settles_kind kind ≡ false → speaker_by kind name last ≡ last
 passed-by kinds.Heading name last none = cc
 passed-by kinds.Speech name last none = cc
 passed-by kinds.Title name last none = refl
@@ -32,7 +32,7 @@ behind-quiet texts last (block ∷ blocks) none =
     ap (λ it. speaker_behind texts it blocks) (passed-by block.block.kind (name_in (cue_text texts block)) last both.0) ∙ behind-quiet texts last blocks both.1
 
 -- Blocks without a speech are the same elements, whoever spoke last.
-says-alike : (on says one other : Bool) → says ≡ false → (on && says && one) ≡ (on && says && other)
+pub says-alike : (on says one other : Bool) → says ≡ false → (on && says && one) ≡ (on && says && other)
 says-alike false says one other none = refl
 says-alike true says one other none = ap (λ b. b && one) none ∙ sym (ap (λ b. b && other) none)
 

@@ -1,14 +1,14 @@
 -- Parts of lists of stanzas.
-use Rattle.std.proofs.Common.{◌≡◌, ℕ, suc, ◌+◌, ◌-◌, ◌<◌, ◌≤◌, Bool, true, false, ◌||◌, List, [], ◌∷◌, ◌++◌, take, drop, slice_get, slice_range, Some, refl, sym, ap, ap₂, subst, ◌∙◌, arith, append_assoc, take-add, drop-drop}
+use Rattle.std.proofs.Common.{◌≡◌, ℕ, suc, ◌+◌, ◌-◌, ◌<◌, ◌≤◌, true, false, ◌||◌, List, [], ◌∷◌, ◌++◌, length, length-drop, take, drop, slice_get, slice_range, Some, sym, ap, ap₂, subst, ◌∙◌, arith, append_assoc, take-add, drop-drop}
 use Rattle.std.specs.List.{list_any}
 use Rattle.std.proofs.Math.Bool.{or-false}
 use Rattle.std.proofs.lemmas.Bool.{or_left, or_right}
-use Rattle.std.proofs.lemmas.List.{drop_more}
+use Rattle.std.proofs.lemmas.List.{drop_more, take_all}
 use Rattle.std.proofs.lemmas.List.Folds.{list_any-append}
 use Rattle.std.proofs.lemmas.Option.{slice_get_within, get_or_from_slice_get}
 use Rattle.spec_script.specs.BlockValues.{StanzaOf}
 use Rattle.spec_relay.specs.RelaidStanzas.{first_apart, OpensApart, stanza_settles}
-use Rattle.sp_relay.specs.Edges.{opens_first, settled_by}
+use Rattle.sp_relay.specs.Edges.{opens_first}
 
 pub take-split : {X : Type 0} (xs : List X) (i j : ℕ) → i ≤ j → take j xs ≡ take i xs ++ slice_range xs i j
 take-split xs i j order =
@@ -35,9 +35,9 @@ opens-slice stanzas i j order is =
     subst (λ n. OpensApart (take n (drop i stanzas))) count (opens-take (j - i - 1) (drop i stanzas) is)
 
 -- The stanza at a place, and those behind it.
-pub drop-at : (stanzas : List StanzaOf) (i : ℕ) (s : StanzaOf) → slice_get stanzas i ≡ Some s → drop i stanzas ≡ s ∷ drop (i + 1) stanzas
-drop-at stanzas i s at =
-    drop_more stanzas i s (slice_get_within stanzas i s at) ∙ ap (λ (it : StanzaOf). it ∷ drop (i + 1) stanzas) (get_or_from_slice_get stanzas i s s at)
+pub drop-at : {X : Type 0} (stanzas : List X) (i : ℕ) (s : X) → slice_get stanzas i ≡ Some s → drop i stanzas ≡ s ∷ drop (i + 1) stanzas
+drop-at {X} stanzas i s at =
+    drop_more stanzas i s (slice_get_within stanzas i s at) ∙ ap (λ (it : X). it ∷ drop (i + 1) stanzas) (get_or_from_slice_get stanzas i s s at)
 
 pub opens-at : (stanzas : List StanzaOf) (i : ℕ) (s : StanzaOf) → slice_get stanzas i ≡ Some s → first_apart s.blocks ≡ true → OpensApart (drop i stanzas)
 opens-at stanzas i s at is = subst OpensApart (sym (drop-at stanzas i s at)) is
@@ -89,11 +89,10 @@ settles-in stanzas i j k s low order at is =
     settles-split stanzas i (j + 1) k (omega (arith, low)) (omega (arith, order))
     ∙ or_left _ (list_any stanza_settles (slice_range stanzas (j + 1) k)) (settles-next stanzas i j s low at ∙ or_right (list_any stanza_settles (slice_range stanzas i j)) (stanza_settles s) is)
 
--- Who spoke last is the same, right behind the window and with the next stanza.
-pub settled-none : (stanzas : List StanzaOf) (to : ℕ) (quiet : Bool) → quiet ≡ settled_by stanzas to quiet to
-settled-none stanzas to quiet = sym (ap (λ b. quiet || b) (settles-none stanzas to) ∙ or-false quiet)
+-- At a place stands one item.
+pub one-there : {X : Type 0} (xs : List X) (i : ℕ) (x y : X) → slice_get xs i ≡ Some x → slice_get xs i ≡ Some y → x ≡ y
+one-there xs i x y one other = sym (get_or_from_slice_get xs i x x one) ∙ get_or_from_slice_get xs i y x other
 
-pub settled-next : (stanzas : List StanzaOf) (to : ℕ) (quiet : Bool) (place : ℕ) (s : StanzaOf) → to ≤ place → slice_get stanzas place ≡ Some s
-    → settled_by stanzas to quiet (place + 1) ≡ (settled_by stanzas to quiet place || stanza_settles s)
-settled-next stanzas to true place s order at = refl
-settled-next stanzas to false place s order at = settles-next stanzas to place s order at
+-- All from a place on.
+pub settles-rest : (stanzas : List StanzaOf) (i : ℕ) → list_any stanza_settles (slice_range stanzas i (length stanzas)) ≡ list_any stanza_settles (drop i stanzas)
+settles-rest stanzas i = ap (list_any stanza_settles) (take_all (length stanzas - i) (drop i stanzas) (omega (arith, length-drop i stanzas)))

@@ -1,6 +1,5 @@
 -- A part that is laid out anew can be put in the place of what stood there.
-use Rattle.std.proofs.Common.{◌≡◌, ℕ, ◌+◌, ◌-◌, ◌<◌, ◌≤◌, Bool, List, [], ◌∷◌, ◌++◌, length, map, take, drop, slice_range, refl, sym, ap, ap₂, subst, ◌∙◌, arith, length-append, take_at, drop_at, All}
-use Rattle.std.proofs.lemmas.List.Elements.{All-nil, All-cons, All-head, All-tail}
+use Rattle.std.proofs.Common.{◌≡◌, ℕ, ◌+◌, ◌-◌, ◌<◌, ◌≤◌, Bool, List, ◌++◌, length, take, drop, slice_range, refl, sym, ap, ap₂, subst, ◌∙◌, arith, length-append, take_at, drop_at, All}
 use Rattle.spec_text.specs.Lines.{LineState, TextState, IsText, line_texts}
 use Rattle.spec_text.proofs.ListLaws.{All-back}
 use Rattle.spec_script.specs.LongestRuns.{Group}
@@ -11,7 +10,6 @@ use Rattle.spec_layout.specs.Layout.{is_title_element, in_body, breaks_from, lay
 use Rattle.spec_layout.proofs.ElementPlaces.{blocks_of-stand}
 use Rattle.spec_layout.proofs.RowCounts.{layout_of-few}
 use Rattle.spec_layout.proofs.RowLaws.{IsText-texts}
-use Rattle.spec_relay.specs.Moved.{moved_place, moved_group}
 use Rattle.spec_relay.proofs.MovedElements.{GroupStays}
 use Rattle.spec_relay.proofs.LayoutParts.{laid_of, laid-three, rows_in, rows-append, breaks-append}
 use Rattle.spec_relay.proofs.PlacedElements.{element_first, spoken-firsts, laid-firsts, breaks-low, breaks-high}
@@ -62,40 +60,28 @@ text-firsts on text keeps =
     spoken-firsts on text.lines _ (λ (p : PlacedBlock). p.first < 200000) (blocks_of texts)
     (λ k d h. let lies = (stand.each k d h).lies in let place = lies.place in let few = are.few in omega (arith, place, few))
 
-moved-firsts : (less more : ℕ) (groups : List (Group Spoken)) → All (λ (g : Group Spoken). element_first g < 200000) (map (moved_group less more) groups)
-    → All (λ (g : Group Spoken). moved_place less more (element_first g) < 200000) groups
-moved-firsts less more [] all = All-nil (λ (g : Group Spoken). moved_place less more (element_first g) < 200000)
-moved-firsts less more (g ∷ groups) all =
-    let P : Group Spoken → Type 0 = λ (g : Group Spoken). element_first g < 200000 in
-    All-cons (λ (g : Group Spoken). moved_place less more (element_first g) < 200000) g groups (All-head P (moved_group less more g) (map (moved_group less more) groups) all)
-    (moved-firsts less more groups (All-tail P (moved_group less more g) (map (moved_group less more) groups) all))
-
 -- Where elements that stay begin, they can be moved, and back again.
 groups-move : (less more : ℕ) (before lines : List LineState) (groups : List (Group Spoken)) → All (GroupStays less more before lines) groups → All (λ (g : Group Spoken). element_first g < 200000) groups
-    → All (λ (g : Group Spoken). moved_place less more (element_first g) < 200000) groups → All (λ (g : Group Spoken). MovesBack less more (element_first g)) groups
-groups-move less more before lines groups stay low high k d h =
+    → more ≤ 200000 → All (λ (g : Group Spoken). MovesBack less more (element_first g)) groups
+groups-move less more before lines groups stay low few k d h =
     let first = (stay k d h).first in
     let one = first.low in
-    let two = high k d h in
-    let three = low k d h in
-    record { here = record { from = one; fits = omega (arith, two) }; was = omega (arith, three) }
+    let two = low k d h in
+    record { here = record { from = one; fits = omega (arith, two, few) }; was = omega (arith, two) }
 
 -- The layouts of both texts have few rows; so the part can be put in.
 pub relaid-can : (before : TextState) (lines : TextState) (speakers : SpeakersOf) (blocks : List PlacedBlock) (places : PartPlaces) (layout : LayoutOf) → IsText before → IsText lines
-    → IsRelaid before.lines lines.lines speakers blocks places layout → CanSwap layout places (layout_behind lines.lines speakers blocks)
-relaid-can before lines speakers blocks places layout old_keeps new_keeps it =
+    → places.more ≤ 200000 → IsRelaid before.lines lines.lines speakers blocks places layout → CanSwap layout places (layout_behind lines.lines speakers blocks)
+relaid-can before lines speakers blocks places layout old_keeps new_keeps near it =
     let on = speakers.on in
     let olds = before.lines in
     let news = lines.lines in
     let less = places.less in
     let more = places.more in
     let come = spoken_elements on news speakers.last blocks in
-    let moved = map (moved_group less more) it.rest in
     let old_low = subst (λ (gs : List (Group Spoken)). All (λ (g : Group Spoken). element_first g < 200000) gs) it.old (text-firsts on before old_keeps) in
-    let new_low = subst (λ (gs : List (Group Spoken)). All (λ (g : Group Spoken). element_first g < 200000) gs) it.new (text-firsts on lines new_keeps) in
     let rest_low = All-back (λ (g : Group Spoken). element_first g < 200000) it.gone it.rest (All-back (λ (g : Group Spoken). element_first g < 200000) it.front (it.gone ++ it.rest) old_low) in
-    let rest_high = moved-firsts less more it.rest (All-back (λ (g : Group Spoken). element_first g < 200000) come moved (All-back (λ (g : Group Spoken). element_first g < 200000) it.front (come ++ moved) new_low)) in
-    let moves = groups-move less more olds news it.rest it.moved rest_low rest_high in
+    let moves = groups-move less more olds news it.rest it.moved rest_low near in
     let titles_are : layout.titles.elements ≡ laid_of is_title_element olds it.front ++ (laid_of is_title_element olds it.gone ++ laid_of is_title_element olds it.rest) =
     ap (λ (l : LayoutOf). l.titles.elements) it.was ∙ ap (laid_of is_title_element olds) it.old ∙ laid-three is_title_element olds it.front it.gone it.rest in
     let body_is : layout.body.elements ≡ laid_of in_body olds it.front ++ (laid_of in_body olds it.gone ++ laid_of in_body olds it.rest) =
@@ -114,7 +100,7 @@ relaid-can before lines speakers blocks places layout old_keeps new_keeps it =
     omega (arith, few, ap (rows_in olds) it.old, rows-append olds it.front (it.gone ++ it.rest), rows-append olds it.gone it.rest) in
     let new_rows : rc ≤ 16777216 =
     let few = layout_of-few on lines new_keeps in
-    omega (arith, few, ap (rows_in news) it.new, rows-append news it.front (come ++ moved), rows-append news come moved) in
+    omega (arith, few, ap (rows_in news) it.new, rows-append news it.front (come ++ it.said), rows-append news come it.said) in
     let title_from = ap (λ (p : PartPlaces). p.title_from) it.at in
     let title_to = ap (λ (p : PartPlaces). p.title_to) it.at in
     let from = ap (λ (p : PartPlaces). p.from) it.at in

@@ -15,7 +15,7 @@ use Rattle.spec_relay.proofs.Parts.{behind-settled}
 use Rattle.spec_relay.proofs.StanzaBlocks.{any-blocks, blocks-three, lines-append}
 use Rattle.sp_layout.specs.Speaking.{SpeakersOf, speakers_after}
 use Rattle.sp_reread.specs.Cache.{SwappedState}
-use Rattle.sp_relay.specs.Edited.{IsEdited, LastStays, old_speakers, window_start}
+use Rattle.sp_relay.specs.Edited.{IsEdited, old_speakers, window_start}
 use Rattle.sp_relay.proofs.EditedLaws.{behind-window, few-lines, speakers-kept, still-by}
 use Rattle.sp_relay.proofs.QuietLaws.{front-same}
 use Rattle.sp_relay.proofs.SpeakerLaws.{behind-quiet}
@@ -76,8 +76,8 @@ module _ (olds lines : List LineState) (stanzas : List StanzaOf) (swapped : Swap
       let last = speaker_behind texts None (blocks_from 0 front) in
       ap P (early ∙ sym (behind-window texts stanzas swapped ∙ behind-quiet texts last gone (any-blocks (window_start stanzas swapped) swapped.stanzas ∙ none)))
 
-  -- Where neither window has a heading or a speech it stays.
+  -- Where neither window has a heading or a speech it is the same one.
   pub stays-quiet : (on : Bool) → list_any stanza_settles swapped.stanzas ≡ false → list_any stanza_settles (slice_range stanzas swapped.at (swapped.at + swapped.stands)) ≡ false
-      → LastStays olds lines stanzas swapped on
+      → speakers_after (line_texts lines) on (blocks_from 0 (take (swapped.at + swapped.stands) stanzas)) ≡ old_speakers (line_texts olds) stanzas swapped on
   stays-quiet on none_gone none_come =
       sym (speakers-kept (line_texts lines) on stanzas swapped.at (swapped.at + swapped.stands) (omega arith) none_come) ∙ told-before on none_gone

@@ -1,10 +1,9 @@
 -- Where a part of a layout that is laid out anew begins and ends (docs/RULES.md, "Windows").
-use Rattle.std.specs.Prelude.{◌≡◌, ◌⊎◌, ℕ, ◌+◌, ◌<◌, ◌≤◌, true, false, Bool, ◌||◌, ◌&&◌, List, [], ◌∷◌, ◌++◌, length, take, drop, slice_range, slice_index, AllPairs}
-use Rattle.std.specs.List.{list_any}
+use Rattle.std.specs.Prelude.{◌≡◌, ◌⊎◌, ℕ, ◌+◌, ◌<◌, ◌≤◌, false, Bool, ◌&&◌, List, [], ◌∷◌, ◌++◌, length, take, drop, slice_range, slice_index, AllPairs}
 use Rattle.spec_script.specs.BlockValues.{StanzaOf}
 use Rattle.spec_reread.specs.Windows.{stanza_lines_in}
 use Rattle.spec_relay.specs.Moved.{moved_place}
-use Rattle.spec_relay.specs.RelaidStanzas.{OpensApart, first_apart, stanza_settles}
+use Rattle.spec_relay.specs.RelaidStanzas.{OpensApart, first_apart}
 use Rattle.sp_elements.specs.Places.{ArePartedAt, CountsBefore, CountsBelow}
 use Rattle.sp_layout.specs.LaidOut.{LayoutOf}
 use Rattle.sp_reread.specs.Cache.{SwappedState}
@@ -73,19 +72,12 @@ pub record IsPartBegin (stanzas : List StanzaOf) (swapped : SwappedState) (layou
 abbrev pub windows_open : List StanzaOf → SwappedState → Bool
 windows_open stanzas swapped = opens_first (slice_range stanzas swapped.at (swapped.at + swapped.stands)) && opens_first swapped.stanzas
 
--- Who spoke last before a stanza behind the window is the same in both texts: a heading or a speech stands between, or, as `quiet`
--- tells, the same one spoke last behind the window.
-abbrev pub settled_by : List StanzaOf → ℕ → Bool → ℕ → Bool
-settled_by stanzas to quiet place = quiet || list_any stanza_settles (slice_range stanzas to place)
-
--- It ends behind the window, which ends before the stanza `to`: before such a stanza, where who spoke last is the same in both texts,
--- or behind all.
-pub record IsPartEnd (stanzas : List StanzaOf) (to was end : ℕ) (quiet : Bool) (layout : LayoutOf) (edge : PartEdge) : Type 0 where
+-- It ends behind the window, which ends before the stanza `to`: before such a stanza, or behind all.
+pub record IsPartEnd (stanzas : List StanzaOf) (to was end : ℕ) (layout : LayoutOf) (edge : PartEdge) : Type 0 where
   pub low : to ≤ edge.stanza
   pub within : edge.stanza ≤ length stanzas
   pub is : (edge ≡ last_edge stanzas layout)
-      ⊎ (OpensApart (drop edge.stanza stanzas) × (settled_by stanzas to quiet edge.stanza ≡ true)
-      × IsEdge layout (moved_place end was (stanza_lines_in (take edge.stanza stanzas))) edge)
+      ⊎ (OpensApart (drop edge.stanza stanzas) × IsEdge layout (moved_place end was (stanza_lines_in (take edge.stanza stanzas))) edge)
 
 -- The places of the part between two edges.
 abbrev pub edge_places : PartEdge → PartEdge → ℕ → ℕ → PartPlaces
@@ -104,6 +96,6 @@ edge_places start stop was end = record {
 pub record IsNearestStart (stanzas : List StanzaOf) (at : ℕ) (layout : LayoutOf) (place : ℕ) : Type 0 where
   pub passed : (i : ℕ) → place < i → i < at → OpensApart (drop i stanzas) → BreaksAt layout (stanza_lines_in (take i stanzas))
 
--- The same from the window on before the last edge, where who spoke last is the same in both texts.
-pub record IsNearestEnd (stanzas : List StanzaOf) (to was end : ℕ) (quiet : Bool) (layout : LayoutOf) (place : ℕ) : Type 0 where
-  pub passed : (i : ℕ) → to ≤ i → i < place → OpensApart (drop i stanzas) → settled_by stanzas to quiet i ≡ true → BreaksAt layout (moved_place end was (stanza_lines_in (take i stanzas)))
+-- The same from the window on before the last edge.
+pub record IsNearestEnd (stanzas : List StanzaOf) (to was end : ℕ) (layout : LayoutOf) (place : ℕ) : Type 0 where
+  pub passed : (i : ℕ) → to ≤ i → i < place → OpensApart (drop i stanzas) → BreaksAt layout (moved_place end was (stanza_lines_in (take i stanzas)))

@@ -1,5 +1,5 @@
 -- A layout of the text before an edit, told by what the edit displaced of its stanzas (docs/RULES.md, "Windows").
-use Rattle.std.specs.Prelude.{◌≡◌, ℕ, ◌+◌, Bool, ◌||◌, List, ◌++◌, take, drop, slice_range}
+use Rattle.std.specs.Prelude.{◌≡◌, ℕ, ◌+◌, Bool, ◌||◌, List, ◌++◌, take, drop, slice_range, Option, Some, None}
 use Rattle.std.specs.List.{list_any}
 use Rattle.spec_text.specs.Lines.{LineState, TextState, IsText, line_texts}
 use Rattle.spec_script.specs.BlockValues.{StanzaOf}
@@ -7,10 +7,16 @@ use Rattle.spec_script.specs.Stanzas.{PlacedBlock, blocks_from, stanzas_of}
 use Rattle.spec_layout.specs.Speakers.{spoken_elements}
 use Rattle.spec_layout.specs.Layout.{layout_of}
 use Rattle.spec_reread.specs.Windows.{stanza_lines_in}
+use Rattle.spec_relay.specs.Moved.{speaker_behind}
 use Rattle.spec_relay.specs.RelaidStanzas.{stanza_settles}
 use Rattle.sp_layout.specs.LaidOut.{LayoutOf, keyed}
 use Rattle.sp_layout.specs.Speaking.{SpeakersOf, speakers_after}
 use Rattle.sp_reread.specs.Cache.{GivesBack, SwappedState}
+use Rattle.sp_relay.specs.declared.edges.PartEdge.{PartEdge}
+use Rattle.sp_relay.specs.declared.kept.PartPlaces.{PartPlaces}
+use Rattle.sp_relay.specs.Kept.{places_back}
+use Rattle.sp_relay.specs.Edges.{IsNearestEnd, IsPartBegin, IsPartEnd, edge_places}
+use Rattle.sp_relay.specs.Speeches.{LastOf}
 
 -- The line with which the window of an edit begins, and the line behind it in the text after the edit and in that before it.
 abbrev pub window_start : List StanzaOf → SwappedState → ℕ
@@ -50,10 +56,22 @@ pub record IsEdited (olds lines : List LineState) (stanzas : List StanzaOf) (swa
 abbrev pub old_speakers : List (List ℕ) → List StanzaOf → SwappedState → Bool → SpeakersOf
 old_speakers olds stanzas swapped on = speakers_after olds on (blocks_from 0 (take swapped.at stanzas ++ swapped.stanzas))
 
--- It is the one who spoke last there in the text after it.
-abbrev pub LastStays : List LineState → List LineState → List StanzaOf → SwappedState → Bool → Type 0
-LastStays olds lines stanzas swapped on =
-    speakers_after (line_texts lines) on (blocks_from 0 (take (swapped.at + swapped.stands) stanzas)) ≡ old_speakers (line_texts olds) stanzas swapped on
+-- Who spoke last before a stanza behind the window, in both texts: behind the window the lines of both are the same.
+abbrev pub last_behind : List LineState → List LineState → List StanzaOf → SwappedState → Bool → ℕ → LastOf
+last_behind olds lines stanzas swapped on from =
+    let end = swapped.at + swapped.stands in
+    let between = blocks_from (window_end stanzas swapped) (slice_range stanzas end from) in
+    let was = old_speakers (line_texts olds) stanzas swapped on in
+    let now = speakers_after (line_texts lines) on (blocks_from 0 (take end stanzas)) in
+    record {
+      before = record { on = on; last = speaker_behind (line_texts lines) was.last between };
+      after = record { on = on; last = speaker_behind (line_texts lines) now.last between };
+    }
+
+-- They are these, or none are told, since it is the same one.
+abbrev pub AreLast : LastOf → Option LastOf → Type 0
+AreLast last None = last.before ≡ last.after
+AreLast last (Some told) = told ≡ last
 
 -- A stanza of the window, or one that stood there before the edit, has a heading or a speech.
 abbrev pub windows_settle : List StanzaOf → SwappedState → Bool
@@ -63,3 +81,14 @@ windows_settle stanzas swapped = list_any stanza_settles swapped.stanzas || list
 pub record AreAlike (lines : List LineState) (blocks : List PlacedBlock) (speakers others : SpeakersOf) : Type 0 where
   pub on : speakers.on ≡ others.on
   pub same : spoken_elements others.on lines speakers.last blocks ≡ spoken_elements others.on lines others.last blocks
+
+-- The part that an edit lays out anew begins with the window or in front of it, and ends at the first edge behind the window. Where it
+-- was put in, it stands at these places.
+pub record IsEditPart (stanzas : List StanzaOf) (swapped : SwappedState) (layout : LayoutOf) (places : PartPlaces) : Type 0 where
+  pub start : PartEdge
+  pub stop : PartEdge
+  pub come : LayoutOf
+  pub begins : IsPartBegin stanzas swapped layout start
+  pub ends : IsPartEnd stanzas (swapped.at + swapped.stands) (window_was stanzas swapped) (window_end stanzas swapped) layout stop
+  pub nearest : IsNearestEnd stanzas (swapped.at + swapped.stands) (window_was stanzas swapped) (window_end stanzas swapped) layout stop.stanza
+  pub at : places ≡ places_back (edge_places start stop (window_was stanzas swapped) (window_end stanzas swapped)) come

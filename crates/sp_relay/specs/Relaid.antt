@@ -4,7 +4,7 @@ use Rattle.spec_text.specs.Lines.{LineState}
 use Rattle.spec_script.specs.LongestRuns.{Group}
 use Rattle.spec_script.specs.Stanzas.{PlacedBlock}
 use Rattle.spec_layout.specs.Speakers.{Spoken, spoken_elements, text_elements}
-use Rattle.spec_layout.specs.Layout.{is_title_element, in_body, breaks_from, layout_of}
+use Rattle.spec_layout.specs.Layout.{is_title_element, in_body, breaks_from, layout_in, layout_of}
 use Rattle.spec_relay.specs.Moved.{moved_group}
 use Rattle.spec_relay.proofs.MovedElements.{GroupStays}
 use Rattle.spec_relay.proofs.LayoutParts.{laid_of, rows_in}
@@ -26,14 +26,26 @@ places_of lines front gone less more = record {
 }
 
 -- The layout is that of a text before an edit. Of its elements some in front stay, some go, and some behind those are moved; after
--- the edit these blocks, behind these speakers, stand in the place of those that go. So the part stands at those places.
+-- the edit these blocks, behind these speakers, stand in the place of those that go. So the part stands at those places. Those behind
+-- may be others in the text after the edit, where another one spoke last before them.
 pub record IsRelaid (before lines : List LineState) (speakers : SpeakersOf) (blocks : List PlacedBlock) (places : PartPlaces) (layout : LayoutOf) : Type 0 where
   pub front : List (Group Spoken)
   pub gone : List (Group Spoken)
   pub rest : List (Group Spoken)
+  pub said : List (Group Spoken)
   pub was : layout ≡ keyed before (layout_of speakers.on before)
   pub old : text_elements speakers.on before ≡ front ++ (gone ++ rest)
-  pub new : text_elements speakers.on lines ≡ front ++ (spoken_elements speakers.on lines speakers.last blocks ++ map (moved_group places.less places.more) rest)
+  pub new : text_elements speakers.on lines ≡ front ++ (spoken_elements speakers.on lines speakers.last blocks ++ said)
   pub still : All (GroupStays 0 0 before lines) front
   pub moved : All (GroupStays places.less places.more before lines) rest
   pub at : places ≡ places_of before front gone places.less places.more
+
+-- The elements in front, those of the blocks, and those behind as they were, moved.
+abbrev pub relaid_elements : (before lines : List LineState) (speakers : SpeakersOf) (blocks : List PlacedBlock) (places : PartPlaces) (layout : LayoutOf) → IsRelaid before lines speakers blocks places layout → List (Group Spoken)
+relaid_elements before lines speakers blocks places layout it =
+    it.front ++ (spoken_elements speakers.on lines speakers.last blocks ++ map (moved_group places.less places.more) it.rest)
+
+-- Where the layout is that of a text before an edit, it becomes that of these elements.
+abbrev pub IsLaidAnew : List LineState → SpeakersOf → List PlacedBlock → PartPlaces → LayoutOf → LayoutOf → Type 0
+IsLaidAnew lines speakers blocks places old new =
+    (before : List LineState) (it : IsRelaid before lines speakers blocks places old) → new ≡ keyed lines (layout_in lines (relaid_elements before lines speakers blocks places old it))

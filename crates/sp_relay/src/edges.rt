@@ -32,7 +32,7 @@ fn opens_apart(stanza: &Stanza) -> bool
 }
 
 /// Whether it doesn't matter behind a block who spoke before it.
-fn block_settles(block: &Block) -> bool
+pub fn block_settles(block: &Block) -> bool
     ensures { result ≡ block_settles block.now }
 {
     matches!(block.kind, Kind::Heading | Kind::Speech)
@@ -133,32 +133,21 @@ fn part_start(stanzas: &Stanzas, at: usize, kept: &KeptLayout) -> PartEdge
 }
 
 /// Where the part ends, behind the window that ends before the stanza `to`: with the line `end`, which was the line `was`.
-/// `quiet` tells that the same one spoke last behind the window in both texts.
-pub fn part_end(
-    stanzas: &Stanzas,
-    to: usize,
-    was: usize,
-    end: usize,
-    quiet: bool,
-    kept: &KeptLayout,
-) -> PartEdge
+pub fn part_end(stanzas: &Stanzas, to: usize, was: usize, end: usize, kept: &KeptLayout) -> PartEdge
     requires within { to ≤ length stanzas.now.stanzas }
     requires end { end ≡ stanza_lines_in (take to stanzas.now.stanzas) }
     requires low { was + stanza_lines_in stanzas.now.stanzas ≤ 9223372036854775807 }
     requires can { CanEnd stanzas.now.stanzas to was end (laid_of kept.now) }
-    ensures is { IsPartEnd stanzas.now.stanzas to was end quiet (laid_of kept.now) result }
-    ensures nearest { IsNearestEnd stanzas.now.stanzas to was end quiet (laid_of kept.now) result.stanza }
+    ensures is { IsPartEnd stanzas.now.stanzas to was end (laid_of kept.now) result }
+    ensures nearest { IsNearestEnd stanzas.now.stanzas to was end (laid_of kept.now) result.stanza }
 {
-    let mut settled = quiet;
     for place in to..stanzas.len() {
-        let stanza = stanzas.stanza(place);
-        if settled && opens_apart(stanza) {
+        if opens_apart(stanzas.stanza(place)) {
             let line = stanzas.lines_before(place) - end + was;
             if let Some(edge) = edge_at(kept, place, line) {
                 return edge;
             }
         }
-        settled = settled || stanza_settles(stanza);
     }
     PartEdge {
         stanza: stanzas.len(),

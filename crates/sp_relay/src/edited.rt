@@ -10,12 +10,16 @@ ghost use Rattle.sp_layout.specs.LaidOut.{keyed};
 ghost use Rattle.sp_layout.specs.Speaking.{speakers_after};
 ghost use Rattle.spec_relay.specs.RelaidStanzas.{stanza_settles};
 ghost use Rattle.sp_relay.specs.Edges.{edge_places};
-ghost use Rattle.sp_relay.specs.Edited.{AreAlike, IsEdited, LastStays, WasLaid, old_speakers, windows_settle};
-ghost use Rattle.sp_relay.specs.Kept.{CanSwap, HasPartRoom, KeepsRoom, laid_of, with_part};
+ghost use Rattle.sp_relay.specs.Changes.{CanChange, HasChangeRoom, with_change};
+ghost use Rattle.sp_relay.specs.Edited.{AreAlike, AreLast, IsEditPart, IsEdited, WasLaid, last_behind, old_speakers, windows_settle};
+ghost use Rattle.sp_relay.specs.Kept.{KeepsRoom, laid_of};
 ghost use Rattle.sp_relay.specs.Outside.{StaysOutside};
+ghost use Rattle.sp_relay.specs.Speeches.{IsSaidAnew};
 
 use crate::edges::{PartEdge, part_begin, part_end, stanza_settles};
-use crate::{KeptLayout, LayoutPart, PartPlaces, relay};
+use crate::kept::exchange_speech;
+use crate::speeches::{LastSpeakers, SaidRows, said_anew, speech_there};
+use crate::{KeptLayout, LayoutChange, PartPlaces, relay};
 use sp_block_values::{PlacedBlock, Stanza, is_speech_block};
 use sp_layout::Speakers;
 use sp_reread::{Stanzas, Swapped, placed_blocks_between, placed_blocks_of};
@@ -125,29 +129,58 @@ fn old_speakers(
     }
 }
 
-/// Whether the same one spoke last behind the window of an edit in the texts before and after it; where speakers who go on aren't
-/// told, it isn't asked. Only the last heading or speech of each window is looked at, and the last one before it where a window has
-/// none. The error is want of memory alone.
-fn last_stays(
+/// Who spoke last before a stanza behind the window of an edit, in the texts before and after it; none where it is the same one, or
+/// speakers who go on aren't told. Only the last heading or speech of each window is looked at, and the last one before it where a
+/// window has none. The error is want of memory alone.
+fn last_speakers(
     alloc: Global,
     lines: &Lines,
     old: &OldLines<'_>,
     stanzas: &Stanzas,
     swapped: &Swapped,
     speakers: bool,
-) -> Result<bool, AllocError>
+    from: usize,
+) -> Result<Option<LastSpeakers>, AllocError>
     requires list { stanzas.now.stanzas ≡ stanzas_of (line_texts lines.now.lines) }
     requires edit { IsEdited old.now lines.now.lines stanzas.now.stanzas swapped.now }
-    ensures { IfOk result (λ stays. IsTrue stays ↔ LastStays old.now lines.now.lines stanzas.now.stanzas swapped.now speakers) }
+    requires low { swapped.now.at + swapped.now.stands ≤ from }
+    requires within { from ≤ length stanzas.now.stanzas }
+    ensures { IfOk result (AreLast (last_behind old.now lines.now.lines stanzas.now.stanzas swapped.now speakers from)) }
 {
     let _len = stanzas.len();
-    if !speakers || !windows_settle(stanzas, swapped) {
-        return Ok(true);
-    }
-    let was = old_speakers(alloc, lines, old, stanzas, swapped, speakers)?;
     let to = swapped.at() + swapped.stands();
-    let now = speakers_before(alloc, lines, stanzas, to, speakers)?;
-    Ok(now.are_same(&was))
+    if !speakers || !windows_settle(stanzas, swapped) || settles_between(stanzas, to, from) {
+        return Ok(None);
+    }
+    let before = old_speakers(alloc, lines, old, stanzas, swapped, speakers)?;
+    let after = speakers_before(alloc, lines, stanzas, to, speakers)?;
+    if after.are_same(&before) {
+        return Ok(None);
+    }
+    Ok(Some(LastSpeakers { before, after }))
+}
+
+/// The speech behind a stanza's place behind the window of an edit whose `(CONT'D)` comes or goes, with the rows that it has then.
+/// The error is want of memory alone.
+fn speech_behind(
+    alloc: Global,
+    lines: &Lines,
+    old: &OldLines<'_>,
+    stanzas: &Stanzas,
+    swapped: &Swapped,
+    speakers: bool,
+    from: usize,
+) -> Result<Option<SaidRows>, AllocError>
+    requires list { stanzas.now.stanzas ≡ stanzas_of (line_texts lines.now.lines) }
+    requires edit { IsEdited old.now lines.now.lines stanzas.now.stanzas swapped.now }
+    requires low { swapped.now.at + swapped.now.stands ≤ from }
+    requires within { from ≤ length stanzas.now.stanzas }
+    ensures { IfOk result (IsSaidAnew lines.now.lines stanzas.now.stanzas from (last_behind old.now lines.now.lines stanzas.now.stanzas swapped.now speakers from)) }
+{
+    match last_speakers(alloc, lines, old, stanzas, swapped, speakers, from)? {
+        Some(last) => said_anew(alloc, lines, stanzas, from, last),
+        None => Ok(None),
+    }
 }
 
 fn has_speech(blocks: &[PlacedBlock<'_>]) -> bool
@@ -194,10 +227,11 @@ fn places_between(start: PartEdge, stop: PartEdge, was: usize, end: usize) -> Pa
 }
 
 /// Makes a kept layout that of the text after an edit (docs/RULES.md, "Windows"), by the text's stanzas, what their update
-/// displaced, and the lines of the text before. It lays out the stanzas of the edit's window, those round it that may be joined with
-/// them, and, where another one spoke last behind the window than before, those up to the next heading or speech; it moves what
-/// stands behind. Each row outside this part stands on the lines, with their ids and marks, that it stood on before the edit. What it
-/// answers leads back when it is swapped in its turn. The error is want of memory alone; the layout is then as it was.
+/// displaced, and the lines of the text before. It lays out the stanzas of the edit's window and those round it that may be joined
+/// with them, and moves what stands behind; and where another one spoke last behind this part than before, the speech that comes
+/// first behind it, if no heading stands between, gets the rows with or without `(CONT'D)`. Each row outside the part stands on the
+/// lines, with their ids and marks, that it stood on before the edit. What it answers leads back when it is made in its turn. The
+/// error is want of memory alone; the layout is then as it was.
 pub fn relay_edit(
     alloc: Global,
     lines: &Lines,
@@ -206,14 +240,15 @@ pub fn relay_edit(
     swapped: &Swapped,
     speakers: bool,
     kept: &mut KeptLayout,
-) -> Result<LayoutPart, AllocError>
+) -> Result<LayoutChange, AllocError>
     requires list { stanzas.now.stanzas ≡ stanzas_of (line_texts lines.now.lines) }
     requires was { WasLaid old.now lines.now.lines stanzas.now.stanzas swapped.now speakers (laid_of kept.old) }
     ensures layout { OnOk result (laid_of kept.new ≡ keyed lines.now.lines (layout_of speakers lines.now.lines)) }
-    ensures outside { IfOk result (λ it. StaysOutside old.now lines.now.lines (laid_of kept.new).body.elements it.places) }
-    ensures back { IfOk result (λ it. with_part (laid_of kept.new) it.places (laid_of it.kept) ≡ laid_of kept.old) }
-    ensures again { IfOk result (λ it. CanSwap (laid_of kept.new) it.places (laid_of it.kept)) }
-    ensures returns { IfOk result (λ it. HasPartRoom kept.new it.places it.kept) }
+    ensures part { IfOk result (λ it. IsEditPart stanzas.now.stanzas swapped.now (laid_of kept.old) it.part.places) }
+    ensures outside { IfOk result (λ it. StaysOutside old.now lines.now.lines (laid_of kept.new).body.elements it.part.places) }
+    ensures back { IfOk result (λ it. with_change (laid_of kept.new) it ≡ laid_of kept.old) }
+    ensures again { IfOk result (CanChange (laid_of kept.new)) }
+    ensures returns { IfOk result (HasChangeRoom kept.new) }
     ensures room { KeepsRoom kept.old kept.new }
     ensures same { OnErr result (laid_of kept.new ≡ laid_of kept.old) }
 {
@@ -224,10 +259,13 @@ pub fn relay_edit(
     let end = stanzas.lines_before(to);
     let was = stanzas.lines_before(at) + lines_in(swapped.stanzas());
     let start = part_begin(stanzas, swapped, kept);
-    let quiet = last_stays(alloc, lines, old, stanzas, swapped, speakers)?;
-    let stop = part_end(stanzas, to, was, end, quiet, kept);
+    let stop = part_end(stanzas, to, was, end, kept);
     let blocks = placed_blocks_between(alloc, stanzas, start.stanza, stop.stanza)?;
     let last = speakers_for(alloc, lines, stanzas, start.stanza, &blocks, speakers)?;
+    let said = speech_behind(alloc, lines, old, stanzas, swapped, speakers, stop.stanza)?;
     let places = places_between(start, stop, was, end);
-    relay(alloc, lines, &blocks, last, places, kept)
+    let part = relay(alloc, lines, &blocks, last, places, kept)?;
+    let speech = speech_there(stanzas, kept, said);
+    let speech = exchange_speech(kept, speech);
+    Ok(LayoutChange { speech, part })
 }

@@ -1,9 +1,10 @@
 //! A text laid out that is kept, and parts of it that are exchanged.
 ghost use Rattle.std.specs.Prelude.{◌≡◌, IfErr, IfOk, IsOk, OnErr, OnOk};
+ghost use Rattle.sp_relay.specs.Changes.{CanChange, CanMoveSpeech, CanSpeak, HasChangeRoom, IsSameChange, KeepsAllRoom, SpeaksBehind, moved_speech, speech_back, with_change, with_speech};
 ghost use Rattle.sp_relay.specs.Kept.{CanSwap, HasPartRoom, KeepsRoom, laid_of, places_back, with_part};
 
 use crate::runs::{exchange_breaks, exchange_run, make_break_room, make_run_room};
-use sp_elements::Body;
+use sp_elements::{Body, Row};
 use sp_layout::Layout;
 use std::alloc::AllocError;
 use std::marker::Model;
@@ -58,6 +59,42 @@ impl Model for LayoutPart {
 #[derive(Drop)]
 pub struct UnswappedLayout {
     pub back: LayoutPart,
+}
+
+/// The rows of a speech behind a part of a layout, and which of the body's elements it is.
+#[derive(Drop)]
+pub struct SpeechRows {
+    pub element: usize,
+    pub rows: Vec<Row>,
+}
+
+impl Model for SpeechRows {
+    ghost use Rattle.sp_relay.specs.Changes.{SpeechOf};
+
+    ghost Value = { SpeechOf };
+
+    ghost view = { λ s. record { element = s.element; rows = s.rows.items } };
+}
+
+/// What an edit changes of a layout: a part of it, and the rows of a speech behind that part, where its `(CONT'D)` comes or goes.
+#[derive(Drop)]
+pub struct LayoutChange {
+    pub speech: Option<SpeechRows>,
+    pub part: LayoutPart,
+}
+
+impl Model for LayoutChange {
+    ghost use Rattle.sp_relay.specs.Changes.{ChangeOf};
+
+    ghost Value = { ChangeOf };
+
+    ghost view = { λ c. record { speech = c.speech; part = c.part } };
+}
+
+/// What could not be changed for want of memory.
+#[derive(Drop)]
+pub struct UnchangedLayout {
+    pub back: LayoutChange,
 }
 
 /// Makes room for an exchange.
@@ -142,6 +179,37 @@ fn exchange_part(kept: &mut KeptLayout, at: &PartPlaces, part: &mut KeptLayout) 
     }
 }
 
+/// A speech where it stands once a part in front of it, which ended before one element, ends before another.
+fn moved_speech(speech: Option<SpeechRows>, was: usize, end: usize) -> Option<SpeechRows>
+    requires behind { SpeaksBehind was speech }
+    requires low { CanMoveSpeech was end speech }
+    ensures { result ≡ moved_speech was end speech }
+{
+    match speech {
+        Some(SpeechRows { element, rows }) => Some(SpeechRows {
+            element: end + (element - was),
+            rows,
+        }),
+        None => None,
+    }
+}
+
+/// Exchanges the rows of a speech where it stands; what it answers leads back. It takes no memory.
+pub fn exchange_speech(kept: &mut KeptLayout, speech: Option<SpeechRows>) -> Option<SpeechRows>
+    requires { CanSpeak (laid_of kept.old) 0 speech }
+    ensures kept { laid_of kept.new ≡ with_speech (laid_of kept.old) speech }
+    ensures back { result ≡ speech_back (laid_of kept.old) speech }
+    ensures room { KeepsAllRoom kept.old kept.new }
+{
+    match speech {
+        Some(SpeechRows { element, mut rows }) => {
+            kept.body.swap_rows(element, &mut rows);
+            Some(SpeechRows { element, rows })
+        }
+        None => None,
+    }
+}
+
 impl KeptLayout {
     /// A layout, to be kept.
     pub fn new(layout: Layout) -> KeptLayout
@@ -183,6 +251,40 @@ impl KeptLayout {
             }
             Err(_) => Err(UnswappedLayout {
                 back: LayoutPart { places, kept },
+            }),
+        }
+    }
+
+    /// Exchanges a part of the layout for what stands in its place, with the rows of the speech behind it, and moves what is behind
+    /// the part; no row is copied. What it answers leads back when it is made in its turn. `UnchangedLayout` comes for want of
+    /// memory alone, never where there is room; then the layout is as it was, and the change is handed back.
+    pub fn change(&mut self, back: LayoutChange) -> Result<LayoutChange, UnchangedLayout>
+        requires { CanChange (laid_of self.old) back }
+        ensures layout { OnOk result (laid_of self.new ≡ with_change (laid_of self.old) back) }
+        ensures places { IfOk result (λ it. it.part.places ≡ places_back back.part.places (laid_of back.part.kept)) }
+        ensures back { IfOk result (λ it. with_change (laid_of self.new) it ≡ laid_of self.old) }
+        ensures can { IfOk result (CanChange (laid_of self.new)) }
+        ensures returns { IfOk result (HasChangeRoom self.new) }
+        ensures room { KeepsRoom self.old self.new }
+        ensures part_room { IfOk result (λ it. KeepsRoom back.part.kept it.part.kept) }
+        ensures never { HasChangeRoom self.old back → IsOk result }
+        ensures same { OnErr result (laid_of self.new ≡ laid_of self.old) }
+        ensures handed_back { IfErr result (λ e. IsSameChange e.back back) }
+    {
+        let LayoutChange { speech, part } = back;
+        let to = part.places.to;
+        match self.swap(part) {
+            Ok(part) => {
+                let _len = self.body.len();
+                let moved = moved_speech(speech, to, part.places.to);
+                let speech = exchange_speech(self, moved);
+                Ok(LayoutChange { speech, part })
+            }
+            Err(error) => Err(UnchangedLayout {
+                back: LayoutChange {
+                    speech,
+                    part: error.back,
+                },
             }),
         }
     }

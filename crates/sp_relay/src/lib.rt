@@ -6,7 +6,10 @@ mod edited;
 mod kept;
 mod relaying;
 mod runs;
+mod speeches;
 
 pub use edited::relay_edit;
-pub use kept::{KeptLayout, LayoutPart, PartPlaces, UnswappedLayout};
+pub use kept::{
+    KeptLayout, LayoutChange, LayoutPart, PartPlaces, SpeechRows, UnchangedLayout, UnswappedLayout,
+};
 pub use relaying::relay;

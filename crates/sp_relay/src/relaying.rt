@@ -2,11 +2,10 @@
 ghost use Rattle.std.specs.Prelude.{◌≡◌, List, All, IfOk, OnErr, OnOk};
 ghost use Rattle.spec_text.specs.Lines.{LineState, line_texts};
 ghost use Rattle.spec_script.specs.Elements.{PlacedLies, PlacesRise};
-ghost use Rattle.sp_layout.specs.LaidOut.{keyed, layout_behind};
-ghost use Rattle.spec_layout.specs.Layout.{layout_of};
-ghost use Rattle.sp_relay.specs.Kept.{CanSwap, HasPartRoom, KeepsRoom, laid_of, with_part};
+ghost use Rattle.sp_layout.specs.LaidOut.{layout_behind};
+ghost use Rattle.sp_relay.specs.Kept.{CanSwap, HasPartRoom, KeepsRoom, laid_of, places_back, with_part};
 ghost use Rattle.sp_relay.specs.Outside.{StaysOutside};
-ghost use Rattle.sp_relay.specs.Relaid.{IsRelaid};
+ghost use Rattle.sp_relay.specs.Relaid.{IsLaidAnew, IsRelaid};
 
 use crate::{KeptLayout, LayoutPart, PartPlaces};
 use sp_block_values::PlacedBlock;
@@ -15,10 +14,10 @@ use sp_text::Lines;
 use std::alloc::{AllocError, Global};
 
 /// Lays out blocks of these lines that follow one another, behind speakers, and exchanges them for the part of a layout that
-/// stands at these places. Where the layout is that of the text before an edit, and no other block is joined with these or
-/// goes on behind another speaker than before, it is then that of the text after it (docs/RULES.md, "Windows"), and each row
-/// outside the part stands on the lines, with their ids and marks, that it stood on before. What it answers leads back. The
-/// error is want of memory alone; the layout is then as it was.
+/// stands at these places. Where the layout is that of the text before an edit, and no other block is joined with these, it then
+/// has the elements of the text after it (docs/RULES.md, "Windows"), but those behind the part as they were, whoever spoke last
+/// before them; and each row outside the part stands on the lines, with their ids and marks, that it stood on before. What it
+/// answers leads back. The error is want of memory alone; the layout is then as it was.
 pub fn relay(
     alloc: Global,
     lines: &Lines,
@@ -31,7 +30,8 @@ pub fn relay(
     requires rise { PlacesRise 0 blocks.now }
     requires can { CanSwap (laid_of kept.old) places (layout_behind lines.now.lines speakers blocks.now) }
     ensures part { OnOk result (laid_of kept.new ≡ with_part (laid_of kept.old) places (layout_behind lines.now.lines speakers blocks.now)) }
-    ensures layout { (before : List LineState) → IsRelaid before lines.now.lines speakers blocks.now places (laid_of kept.old) → OnOk result (laid_of kept.new ≡ keyed lines.now.lines (layout_of speakers.on lines.now.lines)) }
+    ensures layout { OnOk result (IsLaidAnew lines.now.lines speakers blocks.now places (laid_of kept.old) (laid_of kept.new)) }
+    ensures places { IfOk result (λ it. it.places ≡ places_back places (layout_behind lines.now.lines speakers blocks.now)) }
     ensures outside { (before : List LineState) → IsRelaid before lines.now.lines speakers blocks.now places (laid_of kept.old) → IfOk result (λ it. StaysOutside before lines.now.lines (laid_of kept.new).body.elements it.places) }
     ensures back { IfOk result (λ it. with_part (laid_of kept.new) it.places (laid_of it.kept) ≡ laid_of kept.old) }
     ensures again { IfOk result (λ it. CanSwap (laid_of kept.new) it.places (laid_of it.kept)) }

@@ -4,7 +4,6 @@ pub mod MovedElements
 pub mod LayoutParts
 pub mod StayingRows
 pub mod RelaidParts
-pub mod StayingBlocks
 pub mod StanzaBlocks
 pub mod RelaidStanzas
 pub mod PlacedElements

@@ -54,7 +54,7 @@ behind-append texts last [] ys = refl
 behind-append texts last (x ∷ xs) ys = behind-append texts (speaker_after texts last x) xs ys
 
 -- Behind a heading or a speech it doesn't matter who spoke before.
-settled-by : (kind : Kind) (name : List ℕ) (one other : Option (List ℕ)) → settles_kind kind ≡ true → speaker_by kind name one ≡ speaker_by kind name other
+pub settled-by : (kind : Kind) (name : List ℕ) (one other : Option (List ℕ)) → settles_kind kind ≡ true → speaker_by kind name one ≡ speaker_by kind name other
 settled-by kinds.Heading name one other is = refl
 settled-by kinds.Speech name one other is = refl
 settled-by kinds.Title name one other is = cc

@@ -1,7 +1,6 @@
 -- The blocks of a text before and after an edit, by its stanzas.
-use Rattle.std.proofs.Common.{◌≡◌, ℕ, ◌+◌, ◌<◌, ◌≤◌, true, Bool, List, [], ◌∷◌, ◌++◌, length, map, Option, None, inl, inr, sym, ap, ap₂, subst, ◌∙◌, arith, append_assoc}
+use Rattle.std.proofs.Common.{◌≡◌, ℕ, ◌+◌, ◌<◌, ◌≤◌, List, [], ◌∷◌, ◌++◌, length, map, Option, None, inl, inr, sym, ap, ap₂, subst, ◌∙◌, arith, append_assoc}
 use Rattle.std.specs.Prelude.{All}
-use Rattle.std.specs.List.{list_any}
 use Rattle.std.specs.Str.{IsUtf8}
 use Rattle.std.proofs.lemmas.List.Elements.{All-nil, All-cons, All-head, All-tail}
 use Rattle.spec_text.specs.Limits.{line_count_limit}
@@ -17,10 +16,10 @@ use Rattle.spec_reread.proofs.Places.{at_place, front-between, has-all}
 use Rattle.spec_relayout.proofs.WindowSides.{EndsBy, StandsIn, between-in, front-ends}
 use Rattle.spec_relay.specs.Moved.{moved_place, moved_block, BlockStays, speaker_behind, BeginsApart}
 use Rattle.spec_relay.specs.RelaidBlocks.{AreRelaid}
-use Rattle.spec_relay.specs.RelaidStanzas.{OpensApart, StanzasRelaid, stanza_settles}
+use Rattle.spec_relay.specs.RelaidStanzas.{OpensApart, StanzasRelaid}
 use Rattle.spec_relay.proofs.Parts.{behind-append}
-use Rattle.spec_relay.proofs.StayingBlocks.{speakers-settled}
-use Rattle.spec_relay.proofs.StanzaBlocks.{lines-append, blocks-three, blocks-moved, blocks-past, places-rise, any-blocks, opens-begin, opens-apart, opens-more}
+use Rattle.spec_relay.proofs.MovedElements.{behind-stays}
+use Rattle.spec_relay.proofs.StanzaBlocks.{lines-append, blocks-three, blocks-moved, blocks-past, places-rise, opens-begin, opens-apart, opens-more}
 
 -- A block has a line, and its lines stand in it.
 pub record IsWhole (placed : PlacedBlock) : Type 0 where
@@ -154,26 +153,21 @@ module _ (before lines : List LineState) (front ahead gone come behind rest : Li
         let past = blocks-past was was behind (omega arith) in
         λ k d h. rest-block before lines was end _ it.moved (behind-whole k d h) (past k d h)
 
-    -- Behind the window who spoke last is the same, where a heading or a speech stands there.
-    speakers-same : list_any stanza_settles behind ≡ true
-        → speaker_behind (line_texts lines) None (blocks_from 0 front ++ blocks_from f (ahead ++ (come ++ behind)))
-        ≡ speaker_behind (line_texts before) None (blocks_from 0 front ++ blocks_from f (ahead ++ (gone ++ behind)))
-    speakers-same some =
+    -- Who spoke last behind the part in the text before the edit, by who did behind the window.
+    pub old-last : (speaker_behind (line_texts before) None (blocks_from 0 front ++ blocks_from f (ahead ++ (gone ++ behind))))
+        ≡ speaker_behind (line_texts lines) (speaker_behind (line_texts before) (speaker_behind (line_texts before) (speaker_behind (line_texts before) None (blocks_from 0 front)) (blocks_from f ahead)) (blocks_from start gone))
+        (map moved (blocks_from was behind))
+    old-last =
         let olds = line_texts before in
-        let news = line_texts lines in
         let one = blocks_from 0 front in
         let two = blocks_from f ahead in
         let past = blocks_from was behind in
-        let new_last = speaker_behind news (speaker_behind news (speaker_behind news None one) two) (blocks_from start come) in
-        let old_last = speaker_behind olds (speaker_behind olds (speaker_behind olds None one) two) (blocks_from start gone) in
-        ap (λ (bs : List PlacedBlock). speaker_behind news None (one ++ bs)) new-window
-        ∙ behind-four news None one two (blocks_from start come) (map moved past)
-        ∙ speakers-settled was end before lines new_last old_last past behind-stay (any-blocks was behind ∙ some)
-        ∙ sym (ap (λ (bs : List PlacedBlock). speaker_behind olds None (one ++ bs)) old-window ∙ behind-four olds None one two (blocks_from start gone) past)
+        ap (λ (bs : List PlacedBlock). speaker_behind olds None (one ++ bs)) old-window ∙ behind-four olds None one two (blocks_from start gone) past
+        ∙ sym (behind-stays was end before lines (speaker_behind olds (speaker_behind olds (speaker_behind olds None one) two) (blocks_from start gone)) past behind-stay)
 
     -- The blocks of the text before the edit and after it.
-    pub stanzas-relaid : (on : Bool) → AreRelaid on before lines was end (blocks_from 0 front) (blocks_from f (ahead ++ (gone ++ behind))) (blocks_from f (ahead ++ (come ++ behind))) (blocks_from place rest)
-    stanzas-relaid on = record {
+    pub stanzas-relaid : AreRelaid before lines was end (blocks_from 0 front) (blocks_from f (ahead ++ (gone ++ behind))) (blocks_from f (ahead ++ (come ++ behind))) (blocks_from place rest)
+    stanzas-relaid = record {
       old = old-blocks;
       new = new-blocks;
       front_apart = elim it.front_apart [
@@ -185,15 +179,11 @@ module _ (before lines : List LineState) (front ahead gone come behind rest : Li
       ];
       rest_apart = elim it.rest_apart [
         | inl none ↦ subst (λ ss. BeginsApart (blocks_from place ss)) (sym none) tt
-        | inr both ↦ opens-apart place rest both.0
+        | inr opens ↦ opens-apart place rest opens
       ];
       still = front-stay;
       moved = rest-stay;
       front_rise = places-rise 0 0 front (omega arith);
       place = place;
       rest_rise = places-rise place place rest (omega arith);
-      speakers = elim it.rest_apart [
-        | inl none ↦ inl (ap (blocks_from place) none)
-        | inr both ↦ inr (inr (speakers-same both.1))
-      ];
     }

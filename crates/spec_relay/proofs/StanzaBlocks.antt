@@ -52,7 +52,7 @@ places-rise low p [] order = tt
 places-rise low p (s ∷ ss) order = stanza-rises p low s.blocks (blocks_from (p + s.lines) ss) order (places-rise p (p + s.lines) ss (omega arith))
 
 -- Where a heading or a speech stands among them.
-any-placed : (p : ℕ) (blocks : List BlockOf) → list_any settles (map (placed_at p) blocks) ≡ list_any block_settles blocks
+pub any-placed : (p : ℕ) (blocks : List BlockOf) → list_any settles (map (placed_at p) blocks) ≡ list_any block_settles blocks
 any-placed p [] = refl
 any-placed p (b ∷ bs) = ap (λ t. block_settles b || t) (any-placed p bs)
 

@@ -1,13 +1,13 @@
 -- Blocks of a text before and after an edit, of which those at both ends stay (docs/RULES.md, "Windows").
-use Rattle.std.specs.Prelude.{◌≡◌, ◌⊎◌, ℕ, Bool, false, List, [], ◌++◌, map, All, None}
+use Rattle.std.specs.Prelude.{◌≡◌, ◌⊎◌, ℕ, List, [], ◌++◌, map, All}
 use Rattle.spec_text.specs.Lines.{LineState, line_texts}
 use Rattle.spec_script.specs.Stanzas.{PlacedBlock, blocks_of}
 use Rattle.spec_script.specs.Elements.{PlacesRise}
-use Rattle.spec_relay.specs.Moved.{moved_block, BlockStays, speaker_behind, BeginsApart}
+use Rattle.spec_relay.specs.Moved.{moved_block, BlockStays, BeginsApart}
 
 -- The blocks in front and those behind are the same in both texts but for their places; none of them is joined with a block that
--- goes or comes, and who spoke last behind those that go and those that come is the same, where it matters.
-pub record AreRelaid (on : Bool) (before lines : List LineState) (less more : ℕ) (front gone come rest : List PlacedBlock) : Type 0 where
+-- goes or comes.
+pub record AreRelaid (before lines : List LineState) (less more : ℕ) (front gone come rest : List PlacedBlock) : Type 0 where
   pub old : blocks_of (line_texts before) ≡ front ++ (gone ++ rest)
   pub new : blocks_of (line_texts lines) ≡ front ++ (come ++ map (moved_block less more) rest)
   pub front_apart : (front ≡ []) ⊎ (BeginsApart (gone ++ rest) × BeginsApart (come ++ map (moved_block less more) rest))
@@ -17,4 +17,3 @@ pub record AreRelaid (on : Bool) (before lines : List LineState) (less more : �
   pub front_rise : PlacesRise 0 front
   pub place : ℕ
   pub rest_rise : PlacesRise place rest
-  pub speakers : (rest ≡ []) ⊎ ((on ≡ false) ⊎ (speaker_behind (line_texts lines) None (front ++ come) ≡ speaker_behind (line_texts before) None (front ++ gone)))

@@ -35,6 +35,6 @@ pub record StanzasRelaid (before lines : List LineState) (front ahead gone come 
   pub was_is : was ≡ start + stanza_lines_in gone
   pub end_is : end ≡ start + stanza_lines_in come
   pub front_apart : (front ≡ []) ⊎ (OpensApart (ahead ++ gone) × OpensApart (ahead ++ come))
-  pub rest_apart : (rest ≡ []) ⊎ (OpensApart rest × (list_any stanza_settles behind ≡ true))
+  pub rest_apart : (rest ≡ []) ⊎ OpensApart rest
   pub still : (place : ℕ) → place < start → line_state lines place ≡ line_state before place
   pub moved : (place : ℕ) → was ≤ place → line_state lines (moved_place was end place) ≡ line_state before place

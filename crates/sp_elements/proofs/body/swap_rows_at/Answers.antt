@@ -1,4 +1,4 @@
-use Rattle.std.proofs.Common.{List, length, set, ap, ap₂, ◌∙◌, arith}
+use Rattle.std.proofs.Common.{List, set, ap, ap₂, ◌∙◌, arith}
 use Rattle.spec_pages.specs.Rows.{Row, ElementOf}
 use Rattle.sp_elements.proofs.RowSwaps.{rows-set, rows-get}
 use Rattle.sp_elements.proofs.body.swap_rows_at.Goals as goal

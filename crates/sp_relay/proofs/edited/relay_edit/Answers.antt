@@ -1,18 +1,24 @@
-use Rattle.std.proofs.Common.{◌≡◌, ◌+◌, List, refl, take, slice_range, sym, ap, ap₂, subst, ◌∙◌, arith, All}
-use Rattle.std.specs.Prelude.{IfOk, OnOk}
+use Rattle.std.proofs.Common.{◌≡◌, ◌+◌, List, take, slice_range, sym, ap, ap₂, subst, ◌∙◌, arith, All}
 use Rattle.spec_text.specs.Lines.{LineState, line_texts}
 use Rattle.spec_script.specs.Elements.{PlacedLies, PlacesRise}
 use Rattle.spec_script.specs.Stanzas.{PlacedBlock, blocks_from}
-use Rattle.spec_layout.specs.Layout.{layout_of}
+use Rattle.spec_layout.specs.Layout.{layout_in, layout_of}
 use Rattle.spec_reread.specs.Windows.{stanza_lines_in}
 use Rattle.spec_relay.proofs.StanzaBlocks.{places-rise}
 use Rattle.sp_text.specs.Gap.{text_of}
-use Rattle.sp_layout.specs.LaidOut.{keyed}
+use Rattle.sp_layout.specs.LaidOut.{LayoutOf, keyed, layout_behind}
 use Rattle.sp_layout.specs.Speaking.{speakers_after}
-use Rattle.sp_relay.specs.Kept.{laid_of}
+use Rattle.sp_relay.specs.declared.kept.PartPlaces.{PartPlaces}
+use Rattle.sp_relay.specs.Kept.{laid_of, places_back, with_part}
+use Rattle.sp_relay.specs.Edges.{IsNearestEnd, IsPartEnd, edge_places}
+use Rattle.sp_relay.specs.Changes.{CanSpeak}
+use Rattle.sp_relay.specs.Relaid.{relaid_elements}
 use Rattle.sp_relay.specs.Outside.{StaysOutside}
 use Rattle.sp_relay.specs.Edited.{AreAlike, window_was, window_end}
-use Rattle.sp_relay.proofs.EditedLaws.{edited, edited-part, can-begin, can-begin-window, can-end-at, old-few, few-lines, slice-lies}
+use Rattle.sp_relay.proofs.ChangeLaws.{room-spoken, room-through, speak-from, undo-can, undone}
+use Rattle.sp_relay.proofs.EditDone.{IsEditDone, can-stand, edit-done}
+use Rattle.sp_relay.proofs.OutsideLaws.{outside-said}
+use Rattle.sp_relay.proofs.EditedLaws.{EditedPart, at-window, edited, edited-part, can-begin, can-begin-window, can-end-at, old-few, few-lines, slice-lies}
 use Rattle.sp_relay.proofs.edited.relay_edit.Goals as goal
 
 pub lines_in-requires : goal.lines_in-requires
@@ -70,11 +76,12 @@ relay-requires-clause-can c =
     let end : c.lines_before-end.result ≡ window_end stanzas c.args.swapped.now = c.lines_before-end.ensures ∙ ap (λ n. stanza_lines_in (take n stanzas)) to in
     let alike = subst (λ (bs : List PlacedBlock). AreAlike c.args.lines.now.lines bs c.in_ok-last.last (speakers_after (line_texts c.args.lines.now.lines) c.args.speakers (blocks_from 0 (take c.part_begin-start.result.stanza stanzas))))
     (c.deref.ensures.value ∙ sym c.deref-2.ensures.value) c.in_ok-last.ensures in
-    (edited-part c.args.old.now (text_of c.args.lines.now) stanzas c.args.swapped.now c.args.speakers (laid_of c.args.kept.now) c.requires.was c.requires.list c.len-count.ensures.keeps _ _ _ _ _ _ _ _ _ to was end
-    c.part_begin-start.ensures c.part_end-stop.ensures.is c.in_ok-quiet.ensures.0 (c.deref-2.ensures.value ∙ c.in_ok-blocks.ensures) alike c.places_between-places.ensures).can
+    (edited-part c.args.old.now (text_of c.args.lines.now) stanzas c.args.swapped.now c.args.speakers (laid_of c.args.kept.now) c.requires.was c.requires.list c.len-count.ensures.keeps _ _ _ _ _ _ _ _ to was end
+    c.part_begin-start.ensures c.part_end-stop.ensures.is (c.deref-2.ensures.value ∙ c.in_ok-blocks.ensures) alike c.places_between-places.ensures).can
 
-pub returns-clause-layout : goal.returns-clause-layout
-returns-clause-layout c =
+-- The part as it was laid out anew.
+part-of : (c : goal.After-drop-blocks-2) → EditedPart c.args.old.now c.requires.was.before.lines c.args.lines.now.lines c.args.stanzas.now.stanzas c.args.swapped.now c.args.speakers c.part_end-stop.result (laid_of c.args.kept.now) c.in_ok-last.last c.deref-2.result.now c.places_between-places.result
+part-of c =
     let stanzas = c.args.stanzas.now.stanzas in
     let at : c.at-at.result ≡ c.args.swapped.now.at = c.at-at.ensures in
     let to : c.at-at.result + c.stands.result ≡ c.args.swapped.now.at + c.args.swapped.now.stands = omega (arith, at, c.stands.ensures) in
@@ -83,14 +90,80 @@ returns-clause-layout c =
     let end : c.lines_before-end.result ≡ window_end stanzas c.args.swapped.now = c.lines_before-end.ensures ∙ ap (λ n. stanza_lines_in (take n stanzas)) to in
     let alike = subst (λ (bs : List PlacedBlock). AreAlike c.args.lines.now.lines bs c.in_ok-last.last (speakers_after (line_texts c.args.lines.now.lines) c.args.speakers (blocks_from 0 (take c.part_begin-start.result.stanza stanzas))))
     (c.deref.ensures.value ∙ sym c.deref-2.ensures.value) c.in_ok-last.ensures in
-    let lines = c.args.lines.now.lines in
-    subst (λ on. OnOk c.relay.result (laid_of c.relay.new.kept ≡ keyed lines (layout_of on lines))) alike.on
-    (c.relay.ensures.layout c.requires.was.before.lines
-    (edited-part c.args.old.now (text_of c.args.lines.now) stanzas c.args.swapped.now c.args.speakers (laid_of c.args.kept.now) c.requires.was c.requires.list c.len-count.ensures.keeps _ _ _ _ _ _ _ _ _ to was end
-    c.part_begin-start.ensures c.part_end-stop.ensures.is c.in_ok-quiet.ensures.0 (c.deref-2.ensures.value ∙ c.in_ok-blocks.ensures) alike c.places_between-places.ensures).relaid)
+    edited-part c.args.old.now (text_of c.args.lines.now) stanzas c.args.swapped.now c.args.speakers (laid_of c.args.kept.now) c.requires.was c.requires.list c.len-count.ensures.keeps _ _ _ _ _ _ _ _ to was end
+    c.part_begin-start.ensures c.part_end-stop.ensures.is (c.deref-2.ensures.value ∙ c.in_ok-blocks.ensures) alike c.places_between-places.ensures
+
+same-on : (c : goal.After-drop-blocks-2) → c.in_ok-last.last.on ≡ c.args.speakers
+same-on c = c.in_ok-last.ensures.on
+
+mid-is : (c : goal.After-drop-blocks-2) → laid_of c.relay.new.kept ≡ keyed c.args.lines.now.lines (layout_in c.args.lines.now.lines (relaid_elements c.requires.was.before.lines c.args.lines.now.lines c.in_ok-last.last c.deref-2.result.now c.places_between-places.result (laid_of c.args.kept.now) (part-of c).relaid))
+mid-is c = c.in_ok-part.ensures.layout c.requires.was.before.lines (part-of c).relaid
+
+done-of : (c : goal.After-drop-blocks-2) → IsEditDone c.args.old.now c.requires.was.before.lines (text_of c.args.lines.now) c.args.stanzas.now.stanzas c.args.swapped.now c.args.speakers c.part_end-stop.result (laid_of c.args.kept.now) c.in_ok-last.last c.deref-2.result.now c.places_between-places.result (part-of c) (laid_of c.relay.new.kept) (mid-is c) c.len-count.ensures.keeps c.requires.list (same-on c) c.speech_there-speech.result
+done-of c = edit-done c.args.old.now c.requires.was.before.lines (text_of c.args.lines.now) c.args.stanzas.now.stanzas c.args.swapped.now c.args.speakers c.part_end-stop.result (laid_of c.args.kept.now) c.in_ok-last.last c.deref-2.result.now c.places_between-places.result (part-of c) (laid_of c.relay.new.kept) (mid-is c) c.len-count.ensures.keeps c.requires.list (same-on c) c.in_ok-said.said c.speech_there-speech.result c.in_ok-said.ensures c.speech_there-speech.ensures
+
+-- The speech stands behind the part.
+speak-at : (c : goal.After-drop-blocks-2) → CanSpeak (laid_of c.relay.new.kept) c.in_ok-part.part.places.to c.speech_there-speech.result
+speak-at c = subst (λ n. CanSpeak (laid_of c.relay.new.kept) n c.speech_there-speech.result) (sym (ap (λ (p : PartPlaces). p.to) c.in_ok-part.ensures.places)) (done-of c).can
+
+pub returns-clause-layout : goal.returns-clause-layout
+returns-clause-layout c = c.exchange_speech-speech.ensures.kept ∙ (done-of c).layout_is
+
+pub returns-clause-part : goal.returns-clause-part
+returns-clause-part c =
+    let stanzas = c.args.stanzas.now.stanzas in
+    let at : c.at-at.result ≡ c.args.swapped.now.at = c.at-at.ensures in
+    let to : c.at-at.result + c.stands.result ≡ c.args.swapped.now.at + c.args.swapped.now.stands = omega (arith, at, c.stands.ensures) in
+    let was : c.lines_before.result + c.lines_in.result ≡ window_was stanzas c.args.swapped.now =
+    ap₂ (λ n m. n + m) (c.lines_before.ensures ∙ ap (λ n. stanza_lines_in (take n stanzas)) at) (c.lines_in.ensures ∙ ap stanza_lines_in c.stanzas.ensures) in
+    let end : c.lines_before-end.result ≡ window_end stanzas c.args.swapped.now = c.lines_before-end.ensures ∙ ap (λ n. stanza_lines_in (take n stanzas)) to in
+    let layout = laid_of c.args.kept.now in
+    let start = c.part_begin-start.result in
+    let stop = c.part_end-stop.result in
+    record {
+      start = start;
+      stop = stop;
+      come = layout_behind c.args.lines.now.lines c.in_ok-last.last c.deref-2.result.now;
+      begins = c.part_begin-start.ensures;
+      ends = at-window (λ n m k. IsPartEnd stanzas n m k layout stop) to was end c.part_end-stop.ensures.is;
+      nearest = at-window (λ n m k. IsNearestEnd stanzas n m k layout stop.stanza) to was end c.part_end-stop.ensures.nearest;
+      at = c.in_ok-part.ensures.places ∙ ap (λ (p : PartPlaces). places_back p (layout_behind c.args.lines.now.lines c.in_ok-last.last c.deref-2.result.now)) (c.places_between-places.ensures ∙ ap₂ (λ n m. edge_places start stop n m) was end);
+    }
 
 pub returns-clause-outside : goal.returns-clause-outside
 returns-clause-outside c =
+    let lines = c.args.lines.now.lines in
+    let it = part-of c in
+    let new : laid_of c.exchange_speech-speech.new.kept ≡ keyed lines (layout_of c.in_ok-last.last.on lines) = c.exchange_speech-speech.ensures.kept ∙ (done-of c).layout_is ∙ ap (λ on. keyed lines (layout_of on lines)) (sym (same-on c)) in
+    subst (λ (olds : List LineState). StaysOutside olds lines (laid_of c.exchange_speech-speech.new.kept).body.elements c.in_ok-part.part.places) c.requires.was.is
+    (subst (λ (l : LayoutOf). StaysOutside c.requires.was.before.lines lines l.body.elements c.in_ok-part.part.places) (sym new)
+    (subst (λ (p : PartPlaces). StaysOutside c.requires.was.before.lines lines (keyed lines (layout_of c.in_ok-last.last.on lines)).body.elements p) (sym c.in_ok-part.ensures.places)
+    (outside-said c.requires.was.before.lines lines c.in_ok-last.last c.deref-2.result.now c.places_between-places.result (laid_of c.args.kept.now) it.relaid it.behind.stood it.behind.stood_is it.behind.stays)))
+
+pub returns-clause-back : goal.returns-clause-back
+returns-clause-back c =
+    let part = c.in_ok-part.part in
+    ap (λ (l : LayoutOf). with_part l part.places (laid_of part.kept))
+    (undone (laid_of c.relay.new.kept) (laid_of c.exchange_speech-speech.new.kept) c.speech_there-speech.result c.exchange_speech-speech.result c.exchange_speech-speech.ensures.kept c.exchange_speech-speech.ensures.back) ∙ c.in_ok-part.ensures.back
+
+pub returns-clause-again : goal.returns-clause-again
+returns-clause-again c =
+    let part = c.in_ok-part.part in
+    let both = undo-can (laid_of c.relay.new.kept) (laid_of c.exchange_speech-speech.new.kept) c.speech_there-speech.result c.exchange_speech-speech.result part.places (laid_of part.kept)
+    c.exchange_speech-speech.ensures.kept c.exchange_speech-speech.ensures.back (speak-at c) c.in_ok-part.ensures.again in
+    record { part = both.0; speech = both.1 }
+
+pub returns-clause-returns : goal.returns-clause-returns
+returns-clause-returns c =
+    let part = c.in_ok-part.part in
+    room-spoken c.relay.new.kept c.exchange_speech-speech.new.kept part.places part.kept c.speech_there-speech.result c.exchange_speech-speech.ensures.kept c.exchange_speech-speech.ensures.room
+    c.in_ok-part.ensures.again.body.order (speak-at c) c.in_ok-part.ensures.returns
+
+pub returns-clause-room : goal.returns-clause-room
+returns-clause-room c = room-through c.args.kept.now c.relay.new.kept c.exchange_speech-speech.new.kept c.in_ok-part.ensures.room c.exchange_speech-speech.ensures.room
+
+pub speech_there-speech-requires : goal.speech_there-speech-requires
+speech_there-speech-requires c =
     let stanzas = c.args.stanzas.now.stanzas in
     let at : c.at-at.result ≡ c.args.swapped.now.at = c.at-at.ensures in
     let to : c.at-at.result + c.stands.result ≡ c.args.swapped.now.at + c.args.swapped.now.stands = omega (arith, at, c.stands.ensures) in
@@ -99,10 +172,28 @@ returns-clause-outside c =
     let end : c.lines_before-end.result ≡ window_end stanzas c.args.swapped.now = c.lines_before-end.ensures ∙ ap (λ n. stanza_lines_in (take n stanzas)) to in
     let alike = subst (λ (bs : List PlacedBlock). AreAlike c.args.lines.now.lines bs c.in_ok-last.last (speakers_after (line_texts c.args.lines.now.lines) c.args.speakers (blocks_from 0 (take c.part_begin-start.result.stanza stanzas))))
     (c.deref.ensures.value ∙ sym c.deref-2.ensures.value) c.in_ok-last.ensures in
-    subst (λ (olds : List LineState). IfOk c.relay.result (λ it. StaysOutside olds c.args.lines.now.lines (laid_of c.relay.new.kept).body.elements it.places)) c.requires.was.is
-    (c.relay.ensures.outside c.requires.was.before.lines
-    (edited-part c.args.old.now (text_of c.args.lines.now) stanzas c.args.swapped.now c.args.speakers (laid_of c.args.kept.now) c.requires.was c.requires.list c.len-count.ensures.keeps _ _ _ _ _ _ _ _ _ to was end
-    c.part_begin-start.ensures c.part_end-stop.ensures.is c.in_ok-quiet.ensures.0 (c.deref-2.ensures.value ∙ c.in_ok-blocks.ensures) alike c.places_between-places.ensures).relaid)
+    let part : EditedPart c.args.old.now c.requires.was.before.lines c.args.lines.now.lines c.args.stanzas.now.stanzas c.args.swapped.now c.args.speakers c.part_end-stop.result (laid_of c.args.kept.now) c.in_ok-last.last c.deref-2.result.now c.places_between-places.result =
+    edited-part c.args.old.now (text_of c.args.lines.now) stanzas c.args.swapped.now c.args.speakers (laid_of c.args.kept.now) c.requires.was c.requires.list c.len-count.ensures.keeps _ _ _ _ _ _ _ _ to was end
+    c.part_begin-start.ensures c.part_end-stop.ensures.is (c.deref-2.ensures.value ∙ c.in_ok-blocks.ensures) alike c.places_between-places.ensures in
+    let mid = c.in_ok-part.ensures.layout c.requires.was.before.lines part.relaid in
+    can-stand c.args.old.now c.requires.was.before.lines (text_of c.args.lines.now) c.args.stanzas.now.stanzas c.args.swapped.now c.args.speakers c.part_end-stop.result (laid_of c.args.kept.now) c.in_ok-last.last c.deref-2.result.now c.places_between-places.result part (laid_of c.relay.new.kept) mid c.len-count.ensures.keeps c.requires.list alike.on c.in_ok-said.said c.in_ok-said.ensures
 
-pub last_stays-requires-clause-edit : goal.last_stays-requires-clause-edit
-last_stays-requires-clause-edit c = edited c.args.old.now c.args.lines.now.lines c.args.stanzas.now.stanzas c.args.swapped.now c.args.speakers (laid_of c.args.kept.now) c.requires.was
+pub exchange_speech-speech-requires : goal.exchange_speech-speech-requires
+exchange_speech-speech-requires c =
+    let stanzas = c.args.stanzas.now.stanzas in
+    let at : c.at-at.result ≡ c.args.swapped.now.at = c.at-at.ensures in
+    let to : c.at-at.result + c.stands.result ≡ c.args.swapped.now.at + c.args.swapped.now.stands = omega (arith, at, c.stands.ensures) in
+    let was : c.lines_before.result + c.lines_in.result ≡ window_was stanzas c.args.swapped.now =
+    ap₂ (λ n m. n + m) (c.lines_before.ensures ∙ ap (λ n. stanza_lines_in (take n stanzas)) at) (c.lines_in.ensures ∙ ap stanza_lines_in c.stanzas.ensures) in
+    let end : c.lines_before-end.result ≡ window_end stanzas c.args.swapped.now = c.lines_before-end.ensures ∙ ap (λ n. stanza_lines_in (take n stanzas)) to in
+    let alike = subst (λ (bs : List PlacedBlock). AreAlike c.args.lines.now.lines bs c.in_ok-last.last (speakers_after (line_texts c.args.lines.now.lines) c.args.speakers (blocks_from 0 (take c.part_begin-start.result.stanza stanzas))))
+    (c.deref.ensures.value ∙ sym c.deref-2.ensures.value) c.in_ok-last.ensures in
+    let part : EditedPart c.args.old.now c.requires.was.before.lines c.args.lines.now.lines c.args.stanzas.now.stanzas c.args.swapped.now c.args.speakers c.part_end-stop.result (laid_of c.args.kept.now) c.in_ok-last.last c.deref-2.result.now c.places_between-places.result =
+    edited-part c.args.old.now (text_of c.args.lines.now) stanzas c.args.swapped.now c.args.speakers (laid_of c.args.kept.now) c.requires.was c.requires.list c.len-count.ensures.keeps _ _ _ _ _ _ _ _ to was end
+    c.part_begin-start.ensures c.part_end-stop.ensures.is (c.deref-2.ensures.value ∙ c.in_ok-blocks.ensures) alike c.places_between-places.ensures in
+    let mid = c.in_ok-part.ensures.layout c.requires.was.before.lines part.relaid in
+    let done = edit-done c.args.old.now c.requires.was.before.lines (text_of c.args.lines.now) c.args.stanzas.now.stanzas c.args.swapped.now c.args.speakers c.part_end-stop.result (laid_of c.args.kept.now) c.in_ok-last.last c.deref-2.result.now c.places_between-places.result part (laid_of c.relay.new.kept) mid c.len-count.ensures.keeps c.requires.list alike.on c.in_ok-said.said c.speech_there-speech.result c.in_ok-said.ensures c.speech_there-speech.ensures in
+    speak-from (laid_of c.relay.new.kept) 0 _ c.speech_there-speech.result (omega arith) done.can
+
+pub speech_behind-requires-clause-edit : goal.speech_behind-requires-clause-edit
+speech_behind-requires-clause-edit c = edited c.args.old.now c.args.lines.now.lines c.args.stanzas.now.stanzas c.args.swapped.now c.args.speakers (laid_of c.args.kept.now) c.requires.was

@@ -13,6 +13,9 @@ returns-in-Ok-clause-layout c before it =
     c.in-Ok.ensures.layout ∙ ap (with_part old c.args.places) (c.new.ensures ∙ c.in_ok-layout.ensures)
     ∙ relaid-is before c.args.lines.now.lines c.args.speakers c.args.blocks.now c.args.places old it
 
+pub returns-in-Ok-clause-places : goal.returns-in-Ok-clause-places
+returns-in-Ok-clause-places c = c.in-Ok.ensures.places ∙ ap (places_back c.args.places) (c.new.ensures ∙ c.in_ok-layout.ensures)
+
 pub returns-in-Ok-clause-outside : goal.returns-in-Ok-clause-outside
 returns-in-Ok-clause-outside c before it =
     let lines = c.args.lines.now.lines in

@@ -1,5 +1,4 @@
-use Rattle.std.proofs.Common.{◌≡◌, List, sym, ap, subst, ◌∙◌}
-use Rattle.spec_pages.specs.Rows.{Row}
+use Rattle.std.proofs.Common.{sym, subst}
 use Rattle.sp_elements.specs.Bodies.{BodyParts, BodyOf}
 use Rattle.sp_elements.specs.Exchanges.{AreRowsAlike, rows_at}
 use Rattle.sp_elements.proofs.RowSwaps.{IsBody-rows}
