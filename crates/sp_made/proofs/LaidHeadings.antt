@@ -1,5 +1,5 @@
 -- The lines of headings in a layout, and in one with a part exchanged.
-use Rattle.std.proofs.Common.{◌≡◌, ℕ, ◌+◌, ◌-◌, ◌≤◌, ◌↔◌, Bool, true, false, cond, Option, Some, None, List, [], ◌∷◌, ◌++◌, length, map, take, drop, slice_range, refl, sym, ap, ap₂, ◌∙◌, arith, take_at, drop_at, length-drop}
+use Rattle.std.proofs.Common.{◌≡◌, ℕ, ◌+◌, ◌-◌, ◌≤◌, ◌↔◌, Bool, true, false, cond, Option, Some, None, List, [], ◌∷◌, ◌++◌, length, map, take, drop, slice_range, refl, sym, ap, ap₂, subst, ◌∙◌, arith, take_at, drop_at, length-drop}
 use Rattle.std.specs.Prelude.{option_map}
 use Rattle.std.proofs.lemmas.Grind.{flat_map-append}
 use Rattle.std.proofs.lemmas.List.{map-append, length-map, length-take-le, append_cancel_left, append_cancel_right}
@@ -17,9 +17,13 @@ use Rattle.spec_state.specs.Headings.{heading_labels}
 use Rattle.spec_state.specs.StateSheets.{layout_in}
 use Rattle.sp_runs.proofs.RunLaws.{in-three}
 use Rattle.sp_elements.specs.Bodies.{KeyedElements, row_count, shapes_in}
-use Rattle.sp_elements.specs.Exchanges.{moved_element, run_of, with_run}
+use Rattle.sp_elements.specs.Exchanges.{AreRowsAlike, moved_element, run_of, with_run}
 use Rattle.sp_layout.specs.LaidOut.{LayoutOf}
 use Rattle.sp_elements.proofs.BodyExchanges.{count-append, till-is}
+use Rattle.sp_elements.proofs.RowSwaps.{place_behind, rows-run, rows_at-run, shapes-alike}
+use Rattle.sp_relay.specs.declared.kept.PartPlaces.{PartPlaces}
+use Rattle.sp_relay.specs.Changes.{CanChange, CanSpeak, ChangeOf, SpeechOf, with_change, with_speech}
+use Rattle.sp_relay.specs.Kept.{laid_of, with_part}
 use Rattle.sp_scenes.specs.LineLabels.{line_labels}
 use Rattle.sp_made_parts.specs.Firsts.{laid_in}
 use Rattle.sp_numbers.specs.HeadingIds.{body_headings, heading_ids, laid_headings, laid_labels}
@@ -139,6 +143,32 @@ headings-kept body others from to less more order within sizes other_sizes =
       λ e. parts.new ∙ ap (λ (ids : List ℕ). parts.front ++ (ids ++ parts.rest)) (sym e) ∙ sym parts.old,
       λ e. append_cancel_right gone come parts.rest (append_cancel_left parts.front (gone ++ parts.rest) (come ++ parts.rest) (sym parts.old ∙ sym e ∙ parts.new)),
     )
+
+-- ---- a speech
+
+-- The rows of a speech that page ends see as those that stand there move no heading.
+pub spoken-headings : (layout : LayoutOf) (change : ChangeOf) → CanChange layout change
+    → laid_headings (with_change layout change) ≡ laid_headings (with_part layout change.part.places (laid_of change.part.kept))
+spoken-headings layout change can = by change.speech can.speech
+  where
+    at : PartPlaces
+    at = change.part.places
+
+    part : LayoutOf
+    part = laid_of change.part.kept
+
+    by : (speech : Option SpeechOf) → CanSpeak layout at.to speech → laid_headings (with_part (with_speech layout speech) at part) ≡ laid_headings (with_part layout at part)
+    by None behind = refl
+    by (Some it) behind =
+        let body = layout.body in
+        let made = with_run body at.from at.to part.body at.less at.more in
+        let place = place_behind at.from at.to (length part.body.elements) it.element in
+        let low = behind.behind in
+        let order = can.part.body.order in
+        let within = can.part.body.within in
+        let alike = subst (AreRowsAlike it.rows) (sym (rows_at-run body it.element at.from at.to part.body at.less at.more order low within)) behind.alike in
+        ap body_headings (rows-run body it.element it.rows at.from at.to part.body at.less at.more order low within)
+        ∙ ap (λ (shapes : List Shape). heading_ids shapes made.keys) (shapes-alike made.elements place it.rows alike)
 
 -- ---- states
 

@@ -1,5 +1,5 @@
 -- The title sheets of a layout, and of one with a part exchanged.
-use Rattle.std.proofs.Common.{◌≡◌, ℕ, Bool, None, List, [], ◌++◌, map, take, drop, refl, sym, ap, subst, ◌∙◌}
+use Rattle.std.proofs.Common.{◌≡◌, ℕ, Bool, Option, Some, None, List, [], ◌++◌, map, take, drop, refl, sym, ap, subst, ◌∙◌}
 use Rattle.std.proofs.lemmas.List.{take-append-drop}
 use Rattle.spec_text.specs.Lines.{IsText}
 use Rattle.spec_pages.specs.declared.Paper.{Paper}
@@ -14,8 +14,8 @@ use Rattle.spec_state.specs.StateSheets.{layout_in, title_starts}
 use Rattle.sp_elements.specs.Bodies.{shapes_in}
 use Rattle.sp_elements.specs.Exchanges.{moved_element}
 use Rattle.sp_layout.specs.LaidOut.{LayoutOf}
-use Rattle.sp_relay.specs.declared.kept.PartPlaces.{PartPlaces}
-use Rattle.sp_relay.specs.Kept.{with_part}
+use Rattle.sp_relay.specs.Changes.{ChangeOf, SpeechOf, with_change, with_speech}
+use Rattle.sp_relay.specs.Kept.{laid_of}
 use Rattle.sp_made_parts.specs.Firsts.{IsLaidOf, laid_in}
 use Rattle.sp_made.specs.Titles.{LeavesTitles, laid_titles}
 use Rattle.sp_made.proofs.LaidHeadings.{shapes-append, shapes-moved}
@@ -40,9 +40,18 @@ titles-moved elements others from to less more none same =
     ∙ sym (shapes-append (take from elements) (drop from elements))
     ∙ ap shapes_in (take-append-drop from elements)
 
-pub titles-kept : (layout part : LayoutOf) (at : PartPlaces) (paper : Paper) → LeavesTitles at part → laid_titles (with_part layout at part) paper ≡ laid_titles layout paper
-titles-kept layout part at paper leaves =
-    ap (λ (shapes : List Shape). page_starts (rows_on paper) shapes []) (titles-moved layout.titles.elements part.titles.elements at.title_from at.title_to at.less at.more leaves.none_come leaves.none_go)
+-- The rows of a speech are none of a title page.
+spoken-titles : (layout : LayoutOf) (speech : Option SpeechOf) → (with_speech layout speech).titles.elements ≡ layout.titles.elements
+spoken-titles layout None = refl
+spoken-titles layout (Some speech) = refl
+
+pub titles-kept : (layout : LayoutOf) (change : ChangeOf) (paper : Paper) → LeavesTitles change.part.places (laid_of change.part.kept) → laid_titles (with_change layout change) paper ≡ laid_titles layout paper
+titles-kept layout change paper leaves =
+    let at = change.part.places in
+    let others = (laid_of change.part.kept).titles.elements in
+    ap (λ (shapes : List Shape). page_starts (rows_on paper) shapes [])
+    (ap (λ (elements : List ElementOf). shapes_in (take at.title_from elements ++ (others ++ map (moved_element at.less at.more) (drop at.title_to elements)))) (spoken-titles layout change.speech)
+    ∙ titles-moved layout.titles.elements others at.title_from at.title_to at.less at.more leaves.none_come leaves.none_go)
 
 -- Whether speakers who go on are told moves no title sheet.
 pub titles-spoken : (state : State) (on : Bool) → title_starts (record state { speakers = on }) ≡ title_starts state

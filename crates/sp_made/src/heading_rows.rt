@@ -2,12 +2,13 @@
 ghost use Rattle.std.specs.Prelude.{◌≡◌, ℕ, ◌≤◌, ◌↔◌, IsTrue, length, take};
 ghost use Rattle.sp_elements.specs.Bodies.{keyed_elements, row_count};
 ghost use Rattle.sp_elements.specs.Exchanges.{with_run};
-ghost use Rattle.sp_relay.specs.Kept.{CanSwap, laid_of, with_part};
+ghost use Rattle.sp_relay.specs.Changes.{CanChange, with_change};
+ghost use Rattle.sp_relay.specs.Kept.{laid_of};
 ghost use Rattle.sp_numbers.specs.HeadingIds.{body_headings, laid_headings};
 
 use sp_elements::Body;
 use sp_numbers::same_headings;
-use sp_relay::{KeptLayout, LayoutPart};
+use sp_relay::{KeptLayout, LayoutChange};
 
 /// The first of the rows of the elements from one place to before another, and the row behind them.
 fn rows_of_run(body: &Body, from: usize, to: usize) -> (usize, usize)
@@ -39,11 +40,13 @@ fn keeps_body_headings(body: &Body, from: usize, to: usize, others: &Body) -> bo
     )
 }
 
-/// Whether the headings of a layout stay on their lines, in order, when a part is put in the place of what stands there.
-pub fn keeps_headings(layout: &KeptLayout, part: &LayoutPart) -> bool
-    requires { CanSwap (laid_of layout.now) part.now.places (laid_of part.now.kept) }
-    ensures { IsTrue result ↔ laid_headings (with_part (laid_of layout.now) part.now.places (laid_of part.now.kept)) ≡ laid_headings (laid_of layout.now) }
+/// Whether the headings of a layout stay on their lines, in order, when a change is made of it. Those of its part decide it: the
+/// rows of a speech are no headings.
+pub fn keeps_headings(layout: &KeptLayout, change: &LayoutChange) -> bool
+    requires { CanChange (laid_of layout.now) change.now }
+    ensures { IsTrue result ↔ laid_headings (with_change (laid_of layout.now) change.now) ≡ laid_headings (laid_of layout.now) }
 {
+    let part = &change.part;
     let places = part.places;
     let others = &part.kept;
     keeps_body_headings(&layout.body, places.from, places.to, &others.body)

@@ -14,7 +14,7 @@ use crate::made::rows_on;
 use sp_elements::Body;
 use sp_fill::title_starts;
 use sp_records::Records;
-use sp_relay::{KeptLayout, LayoutPart};
+use sp_relay::{KeptLayout, LayoutChange};
 use sp_text::Lines;
 use spec_pages::Paper;
 use std::alloc::{AllocError, Global};
@@ -26,10 +26,11 @@ fn is_without_elements(body: &Body) -> bool
     body.elements().is_empty()
 }
 
-/// Whether no element of a title page comes or goes when a part is put in the place of what stands there.
-pub fn leaves_titles(part: &LayoutPart) -> bool
-    ensures { IsTrue result ↔ LeavesTitles part.now.places (laid_of part.now.kept) }
+/// Whether no element of a title page comes or goes when a change is made of a layout.
+pub fn leaves_titles(change: &LayoutChange) -> bool
+    ensures { IsTrue result ↔ LeavesTitles change.now.part.places (laid_of change.now.part.kept) }
 {
+    let part = &change.part;
     let places = part.places;
     let others = &part.kept;
     is_without_elements(&others.titles) && places.title_from == places.title_to
