@@ -164,7 +164,8 @@ def guide_day(place):
     begin = "Change memo: the-mill, Blue"
     memo = (TOP / "docs/GUIDE.md").read_text().split(f"    {begin}\n")[1].split("\n\n`")[0]
     yield from differs("the memo", (place.folder / "the-mill-blue-memo.txt").read_text(), "\n".join([begin, *[line[4:] for line in memo.split("\n")]]) + "\n")
-    sheets, handed = place.sheets("the-mill.fountain"), {name: data for name, data in place.files().items() if "blue" in name and "kept" not in name}
+    sheets = place.sheets("the-mill.fountain")
+    handed = {name: data for name, data in place.files().items() if name.startswith("the-mill-blue")}
     ran = shell(place, of_guide("cp the-mill.fountain.kept/003-blue the-mill.fountain"))
     yield from differs("a hand-out is taken back", (ran.returncode, ran.stderr, place.records("the-mill.fountain")["round"], place.sheets("the-mill.fountain")), (0, "", 1, sheets))
     yield from differs("it is done again", place.run(HAND_OUT, "the-mill.fountain")[0], 0)
@@ -233,9 +234,11 @@ def renamed(place):
 
     def said(file):
         both = f"{file[:-len('t.fountain')]}s.fountain"
-        return f"{both}.desk has locked pages, and {both} is gone: if {file} is that script, rename {both}.desk and {both}.kept too; if not, move them away"
+        what = f"{both}.desk has locked pages, and {both} is gone"
+        return f"{what}: if {file} is that script, rename {both}.desk and {both}.kept too; if not, move them away"
 
-    for what, after in (("renamed", text), ("renamed and changed", text.replace("late", "early")), ("renamed, with CR LF", text.replace("\n", "\r\n"))):
+    texts = {"renamed": text, "renamed and changed": text.replace("late", "early"), "renamed, with CR LF": text.replace("\n", "\r\n")}
+    for what, after in texts.items():
         begun("t.fountain")
         place.put("t.fountain", after)
         place.put("draft", text)
@@ -256,24 +259,28 @@ def renamed(place):
     for ending in ("desk", "kept"):
         (place.folder / f"s.fountain.{ending}").rename(place.folder / f"t.fountain.{ending}")
     take_in(place, text.replace("late", "early", 1), "t.fountain")
-    yield from differs("a script that was renamed with its records", place.run(HAND_OUT, "t.fountain")[1].splitlines()[0], "t-blue.txt: hand out 1 sheet: 1")
+    out = place.run(HAND_OUT, "t.fountain")[1]
+    yield from differs("a script that was renamed with its records", out.splitlines()[:1], ["t-blue.txt: hand out 1 sheet: 1"])
 
-    def away(place):
+    def away():
         (place.folder / "s.fountain.desk").rename(place.folder / "away")
 
-    def not_locked(place):
-        away(place)
+    def not_locked():
+        away()
         place.put("s.fountain", text)
         place.desk({"do": "save"}, file="s.fountain")
         (place.folder / "s.fountain").unlink()
 
     for what, done in (
-        ("were moved away", away), ("lock nothing", not_locked), ("are no record file", lambda place: place.put("s.fountain.desk", "[" * 100_000)),
-        ("are of a script that is there", lambda place: place.put("s.fountain", text)),
+        ("were moved away", away),
+        ("lock nothing", not_locked),
+        ("are no record file", lambda: place.put("s.fountain.desk", "[" * 100_000)),
+        ("are of a script that is there", lambda: place.put("s.fountain", text)),
     ):
         begun("t.fountain")
-        done(place)
-        yield from differs(f"a first day where records {what}", place.run(HAND_OUT, "t.fountain")[1].splitlines()[:1], ["t-white.txt: hand out all 2 sheets"])
+        done()
+        out = place.run(HAND_OUT, "t.fountain")[1]
+        yield from differs(f"a first day where records {what}", out.splitlines()[:1], ["t-white.txt: hand out all 2 sheets"])
 
 
 # Refusals, and runs that are ended
@@ -370,12 +377,13 @@ def copies(place):
         yield from differs(f"a folder {name}", place.run(HAND_OUT, "s"), (0, out, said))
         shutil.rmtree(place.folder / "s.kept" / name)
         take_in(place, script_of(rooms(1)), "s")
-        yield from differs("the copies behind it", place.run("fountain", "print", "s.kept/003-blue")[1], (place.folder / "s-white.txt").read_text())
+        white = (place.folder / "s-white.txt").read_text()
+        yield from differs("the copies behind it", place.run("fountain", "print", "s.kept/003-blue")[1], white)
 
 
 def bad_times(place):
-    """A run that is interrupted as its desk saves does all that it does else, and says so. One whose desk ends before the save leaves all as it
-    was, and one whose desk ends behind it has done all but the last copy's records."""
+    """A run that is interrupted as its desk saves does all that it does else, and says so. One whose desk ends before the save leaves all as
+    it was, and one whose desk ends behind it has done all but the last copy's records."""
     text = script_of(rooms(3))
     place.put("s", text)
     place.run(HAND_OUT, "s")
@@ -410,7 +418,8 @@ def bad_times(place):
         place.pass_saves(behind="break", replies="sed -u /digest/d")
         yield from differs(f"{words[0]}, whose desk ends behind its save", place.run(*words), (1, "", f"{words[0]}: s: the desk ended\n"))
         left = sorted(name for name in whole if place.files().get(name) != whole[name])
-        yield from differs("the files that lack then", left, [max(name for name in whole if name.startswith("s.kept") and name.endswith(".desk"))])
+        records = [name for name in whole if name.startswith("s.kept/") and name.endswith(".desk")]
+        yield from differs("the files that lack then", left, [max(records)])
         place.pass_saves()
         again()
         place.run(*words)

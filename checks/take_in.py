@@ -223,7 +223,8 @@ def crafted(place, **fields):
 
 def refusals(place):
     usage = "usage: fountain-take-in [--dry-run] [--base=OLD] DRAFT FILE, or fountain-take-in [--dry-run] --recover FILE (--help tells more)"
-    for words in ((), ("draft",), ("--other", "draft", "s"), ("a", "b", "c"), ("--recover", "draft", "s"), ("--dry-run=1", "draft", "s"), ("--base", "draft", "s"), ("--base=", "draft", "s")):
+    two = "draft", "s"
+    for words in ((), ("draft",), ("a", *two), *((option, *two) for option in ("--other", "--recover", "--dry-run=1", "--base", "--base="))):
         yield from refuses(f"{words}", place, 2, usage, TAKE_IN, *words)
     place.lock(MILL)
     place.put("draft", MILL + "\nMore.\n")
@@ -241,7 +242,8 @@ def refusals(place):
         yield from refuses(what, place, 4, line, TAKE_IN, "draft", "s")
     place.put("draft", MILL + "\nMore.\n")
     place.put("old", MILL)
-    yield from refuses("a script that is taken into its draft", place, 1, "s has locked pages, and draft has none: the draft is named first, and then the script", TAKE_IN, "s", "draft")
+    said = "s has locked pages, and draft has none: the draft is named first, and then the script"
+    yield from refuses("a script that is taken into its draft", place, 1, said, TAKE_IN, "s", "draft")
     yield from refuses("--base with --recover", place, 2, "--base is for a draft, and not for --recover", TAKE_IN, "--base=old", "--recover", "s")
     for what in ("text", "records"):
         place.lock(MILL)
@@ -362,7 +364,8 @@ def from_git(place):
     if lacks("take_in", "nothing is looked for in git", "git"):
         return
     def git(*words):
-        subprocess.run(["git", "-c", "user.name=a", "-c", "user.email=a@b.invalid", *words], cwd=place.folder, check=True, stdout=subprocess.DEVNULL)
+        who = ["-c", "user.name=a", "-c", "user.email=a@b.invalid"]
+        subprocess.run(["git", *who, *words], cwd=place.folder, check=True, stdout=subprocess.DEVNULL)
 
     def commit(text):
         place.put("s", text)
@@ -373,13 +376,18 @@ def from_git(place):
         place.put("s", text)
         git("stash", "-q")
 
+    def leave(text):
+        commit(text)
+        git("reset", "-q", "--hard", "HEAD~1")
+        commit("another")
+
     for what, do in (
-        ("a commit", lambda saved: commit(saved)),
+        ("a commit", commit),
         ("an older commit", lambda saved: [commit(it) for it in (saved, "another", "others")]),
-        ("a commit that was amended", lambda saved: [commit(saved), git("commit", "-q", "--amend", "-m", "same"), commit("another"), git("reset", "-q", "--hard", "HEAD~2"), commit("others")]),
+        ("a commit that was left behind", leave),
         ("another branch", lambda saved: [git("switch", "-q", "-c", "other"), commit(saved), git("switch", "-q", "-"), commit("another")]),
         ("the index", lambda saved: [place.put("s", saved), git("add", "s")]),
-        ("a stash", lambda saved: stash(saved)),
+        ("a stash", stash),
         ("an older stash", lambda saved: [stash(saved), stash("another")]),
     ):
         saved, text = written_over(place, copies=False)

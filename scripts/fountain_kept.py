@@ -129,8 +129,9 @@ def save(file, desk, old, text, number, files={}):
 
 
 def begun(file, records):
-    """The copy of the script as its present round began: the first of those that were last kept in this round, one after the other, where no
-    edit had come yet. Copies of a later round are of a hand-out that was taken back, and one of another text than its records was changed."""
+    """The copy of the script as its present round began: the first of those that were last kept in this round, one after the other, where
+    no edit had come yet. Copies of a later round are of a hand-out that was taken back, and one of another text than its records was
+    changed."""
     base = None
     for copy in reversed(copies(file)):
         of = records_of(copy)
