@@ -240,6 +240,19 @@ def largest_records(place):
     yield from differs("a record more", place.run("desk", "f", text=lines_of(SAVE)), (8, b"", "fountain: bad records, rule 5\n"))
 
 
+def long_files(place):
+    """A file of sheets, or of records, of a byte more than it may have is refused as that; one of as many bytes is read."""
+    place.put("f", b"")
+    long = place.put("f.desk", b"")
+    os.truncate(long, 268_435_457)
+    yield from differs("records past their limit", place.run("print", "f"), (8, b"", "fountain: bad records, rule 1\n"))
+    for old in ("f", "f.desk"):
+        ran = place.run("collate", old, "f.desk")
+        yield from differs(f"{old} collated with sheets past their limit", ran, (4, b"", "fountain: the text is too long\n"))
+    os.truncate(long, 268_435_456)
+    yield from differs("sheets at their limit", place.run("collate", "f", "f.desk"), (13, b"", "fountain: not printed sheets, file 1 sheet 0\n"))
+
+
 def old_versions(place):
     """In a room an edit over a version that is 1,001 behind is refused."""
     place.put("f", b"!a\n")
@@ -915,10 +928,10 @@ def saves_at_once(place):
 
 
 CHECKS = [
-    statuses, record_statuses, command_statuses, largest_records, old_versions, names_of_the_program, little_memory, full_output,
-    closed_pipes, closed_streams, broken_input, pieces, wild_clients, folders_and_links, stores_onto_folders, files_beside, long_names,
-    deep_folders, chains_of_links, permissions, short_stores, small_file_systems, read_only_file_systems, devices, ended_sessions,
-    foreign_writes, kept_files, unreadable_files, two_sessions,
+    statuses, record_statuses, command_statuses, largest_records, long_files, old_versions, names_of_the_program, little_memory,
+    full_output, closed_pipes, closed_streams, broken_input, pieces, wild_clients, folders_and_links, stores_onto_folders, files_beside,
+    long_names, deep_folders, chains_of_links, permissions, short_stores, small_file_systems, read_only_file_systems, devices,
+    ended_sessions, foreign_writes, kept_files, unreadable_files, two_sessions,
 ]
 
 
