@@ -18,7 +18,7 @@ use Rattle.sp_relay.specs.declared.kept.PartPlaces.{PartPlaces}
 use Rattle.sp_relay.specs.Kept.{places_back}
 use Rattle.sp_relay.specs.Changes.{CanSpeak, SpeechOf, with_speech}
 use Rattle.sp_relay.specs.Relaid.{relaid_elements}
-use Rattle.sp_relay.specs.Speeches.{CanStandIn, IsSaidAnew, LastOf, SaidOf, StandsThere, blocks_behind}
+use Rattle.sp_relay.specs.Speeches.{CanStandIn, IsSaidAnew, LastOf, SaidOf, IsPlacedIn, blocks_behind}
 use Rattle.sp_relay.specs.Edited.{last_behind}
 use Rattle.sp_relay.proofs.EditedLaws.{EditedPart}
 use Rattle.sp_relay.proofs.SpokenAnew.{spoken-same}
@@ -83,7 +83,7 @@ module _ (olds before : List LineState) (text : TextState) (stanzas : List Stanz
     pub can : CanSpeak mid to speech
     pub layout_is : with_speech mid speech ≡ keyed ls (layout_of on ls)
 
-  pub edit-done : (said : Option SaidOf) (speech : Option SpeechOf) → IsSaidAnew ls stanzas stop.stanza last said → StandsThere stanzas mid.body.elements said speech → IsEditDone speech
+  pub edit-done : (said : Option SaidOf) (speech : Option SpeechOf) → IsSaidAnew ls stanzas stop.stanza last said → IsPlacedIn stanzas mid.body.elements said speech → IsEditDone speech
   edit-done None None anew there = record {
     can = tt;
     layout_is = mid-was ∙ ap (λ (gs : List (Group Spoken)). keyed ls (layout_in ls gs)) (ap (λ (gs : List (Group Spoken)). fore ++ gs) (spoken-same on ls last.before.last last.after.last behind anew) ∙ text-is);

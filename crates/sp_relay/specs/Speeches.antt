@@ -103,11 +103,11 @@ CanStandIn stanzas elements None = Unit {0}
 CanStandIn stanzas elements (Some said) = CanStandAt stanzas elements said.place
 
 -- The rows of a block, and which element of a body it is.
-pub record IsThere (stanzas : List StanzaOf) (elements : List ElementOf) (said : SaidOf) (speech : SpeechOf) : Type 0 where
+pub record IsPlacedAt (stanzas : List StanzaOf) (elements : List ElementOf) (said : SaidOf) (speech : SpeechOf) : Type 0 where
   pub element : IsSpeechElement stanzas elements said.place speech.element
   pub rows : speech.rows ≡ said.rows
 
-abbrev pub StandsThere : List StanzaOf → List ElementOf → Option SaidOf → Option SpeechOf → Type 0
-StandsThere stanzas elements None None = Unit {0}
-StandsThere stanzas elements (Some said) (Some speech) = IsThere stanzas elements said speech
-StandsThere stanzas elements _ _ = ⊥
+abbrev pub IsPlacedIn : List StanzaOf → List ElementOf → Option SaidOf → Option SpeechOf → Type 0
+IsPlacedIn stanzas elements None None = Unit {0}
+IsPlacedIn stanzas elements (Some said) (Some speech) = IsPlacedAt stanzas elements said speech
+IsPlacedIn stanzas elements _ _ = ⊥

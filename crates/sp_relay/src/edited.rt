@@ -18,7 +18,7 @@ ghost use Rattle.sp_relay.specs.Speeches.{IsSaidAnew};
 
 use crate::edges::{PartEdge, part_begin, part_end};
 use crate::kept::exchange_speech;
-use crate::speeches::{LastSpeakers, SaidRows, said_anew, speech_there};
+use crate::speeches::{LastSpeakers, SaidRows, placed_speech, said_anew};
 use crate::{KeptLayout, LayoutChange, PartPlaces, relay};
 use sp_block_values::{PlacedBlock, Stanza, is_speech_block};
 use sp_layout::Speakers;
@@ -249,7 +249,7 @@ pub fn relay_edit(
     let said = speech_behind(alloc, lines, old, stanzas, swapped, speakers, stop.stanza)?;
     let places = places_between(start, stop, was, end);
     let part = relay(alloc, lines, &blocks, last, places, kept)?;
-    let speech = speech_there(stanzas, kept, said);
+    let speech = placed_speech(stanzas, kept, said);
     let speech = exchange_speech(kept, speech);
     Ok(LayoutChange { speech, part })
 }

@@ -11,7 +11,7 @@ ghost use Rattle.spec_reread.specs.Settling.{IsNextSettling, block_settles};
 ghost use Rattle.sp_elements.specs.Exchanges.{rows_at};
 ghost use Rattle.sp_elements.specs.Places.{ArePartedAt};
 ghost use Rattle.sp_relay.specs.Kept.{laid_of};
-ghost use Rattle.sp_relay.specs.Speeches.{CanStandIn, GoesAlike, IsFirstSpeech, IsSaidAnew, IsSpeechElement, Speaks, SpeaksNone, StandsThere, body_blocks};
+ghost use Rattle.sp_relay.specs.Speeches.{CanStandIn, GoesAlike, IsFirstSpeech, IsPlacedIn, IsSaidAnew, IsSpeechElement, Speaks, SpeaksNone, body_blocks};
 
 use crate::{KeptLayout, SpeechRows};
 use sp_block_values::{Block, Kind, PlacedBlock};
@@ -135,9 +135,9 @@ fn two_from<'a, 'b>(blocks: &'b [PlacedBlock<'a>], place: usize) -> &'b [PlacedB
     }
 }
 
-/// Whether it may matter to a speech which of both spoke last before it: one of them speaks in it. The error is want of memory
+/// Whether one of both who spoke last before a speech speaks in it; else it goes on behind neither. The error is want of memory
 /// alone.
-fn may_matter(
+fn either_speaks(
     alloc: Global,
     lines: &Lines,
     speech: &[PlacedBlock<'_>],
@@ -204,7 +204,7 @@ fn said_at(
     let until = next_filled(stanzas, place.stanza + 1);
     let blocks = placed_blocks_between(alloc, stanzas, place.stanza, until)?;
     let speech = two_from(&blocks, place.block);
-    if !may_matter(alloc, lines, speech, &last)? {
+    if !either_speaks(alloc, lines, speech, &last)? {
         return Ok(None);
     }
     let layout = lay_out_behind(alloc, lines, speech, last.after)?;
@@ -249,13 +249,13 @@ fn speech_element(stanzas: &Stanzas, kept: &KeptLayout, place: BlockPlace) -> us
 }
 
 /// The rows of a speech, and which element of a body it is.
-pub fn speech_there(
+pub fn placed_speech(
     stanzas: &Stanzas,
     kept: &KeptLayout,
     said: Option<SaidRows>,
 ) -> Option<SpeechRows>
     requires { CanStandIn stanzas.now.stanzas (laid_of kept.now).body.elements said }
-    ensures { StandsThere stanzas.now.stanzas (laid_of kept.now).body.elements said result }
+    ensures { IsPlacedIn stanzas.now.stanzas (laid_of kept.now).body.elements said result }
 {
     match said {
         Some(SaidRows { place, rows }) => Some(SpeechRows {

@@ -99,12 +99,12 @@ same-on c = c.in_ok-last.ensures.on
 mid-is : (c : goal.After-drop-blocks-2) → laid_of c.relay.new.kept ≡ keyed c.args.lines.now.lines (layout_in c.args.lines.now.lines (relaid_elements c.requires.was.before.lines c.args.lines.now.lines c.in_ok-last.last c.deref-2.result.now c.places_between-places.result (laid_of c.args.kept.now) (part-of c).relaid))
 mid-is c = c.in_ok-part.ensures.layout c.requires.was.before.lines (part-of c).relaid
 
-done-of : (c : goal.After-drop-blocks-2) → IsEditDone c.args.old.now c.requires.was.before.lines (text_of c.args.lines.now) c.args.stanzas.now.stanzas c.args.swapped.now c.args.speakers c.part_end-stop.result (laid_of c.args.kept.now) c.in_ok-last.last c.deref-2.result.now c.places_between-places.result (part-of c) (laid_of c.relay.new.kept) (mid-is c) c.len-count.ensures.keeps c.requires.list (same-on c) c.speech_there-speech.result
-done-of c = edit-done c.args.old.now c.requires.was.before.lines (text_of c.args.lines.now) c.args.stanzas.now.stanzas c.args.swapped.now c.args.speakers c.part_end-stop.result (laid_of c.args.kept.now) c.in_ok-last.last c.deref-2.result.now c.places_between-places.result (part-of c) (laid_of c.relay.new.kept) (mid-is c) c.len-count.ensures.keeps c.requires.list (same-on c) c.in_ok-said.said c.speech_there-speech.result c.in_ok-said.ensures c.speech_there-speech.ensures
+done-of : (c : goal.After-drop-blocks-2) → IsEditDone c.args.old.now c.requires.was.before.lines (text_of c.args.lines.now) c.args.stanzas.now.stanzas c.args.swapped.now c.args.speakers c.part_end-stop.result (laid_of c.args.kept.now) c.in_ok-last.last c.deref-2.result.now c.places_between-places.result (part-of c) (laid_of c.relay.new.kept) (mid-is c) c.len-count.ensures.keeps c.requires.list (same-on c) c.placed_speech-speech.result
+done-of c = edit-done c.args.old.now c.requires.was.before.lines (text_of c.args.lines.now) c.args.stanzas.now.stanzas c.args.swapped.now c.args.speakers c.part_end-stop.result (laid_of c.args.kept.now) c.in_ok-last.last c.deref-2.result.now c.places_between-places.result (part-of c) (laid_of c.relay.new.kept) (mid-is c) c.len-count.ensures.keeps c.requires.list (same-on c) c.in_ok-said.said c.placed_speech-speech.result c.in_ok-said.ensures c.placed_speech-speech.ensures
 
 -- The speech stands behind the part.
-speak-at : (c : goal.After-drop-blocks-2) → CanSpeak (laid_of c.relay.new.kept) c.in_ok-part.part.places.to c.speech_there-speech.result
-speak-at c = subst (λ n. CanSpeak (laid_of c.relay.new.kept) n c.speech_there-speech.result) (sym (ap (λ (p : PartPlaces). p.to) c.in_ok-part.ensures.places)) (done-of c).can
+speak-at : (c : goal.After-drop-blocks-2) → CanSpeak (laid_of c.relay.new.kept) c.in_ok-part.part.places.to c.placed_speech-speech.result
+speak-at c = subst (λ n. CanSpeak (laid_of c.relay.new.kept) n c.placed_speech-speech.result) (sym (ap (λ (p : PartPlaces). p.to) c.in_ok-part.ensures.places)) (done-of c).can
 
 pub returns-clause-layout : goal.returns-clause-layout
 returns-clause-layout c = c.exchange_speech-speech.ensures.kept ∙ (done-of c).layout_is
@@ -144,26 +144,26 @@ pub returns-clause-back : goal.returns-clause-back
 returns-clause-back c =
     let part = c.in_ok-part.part in
     ap (λ (l : LayoutOf). with_part l part.places (laid_of part.kept))
-    (undone (laid_of c.relay.new.kept) (laid_of c.exchange_speech-speech.new.kept) c.speech_there-speech.result c.exchange_speech-speech.result c.exchange_speech-speech.ensures.kept c.exchange_speech-speech.ensures.back) ∙ c.in_ok-part.ensures.back
+    (undone (laid_of c.relay.new.kept) (laid_of c.exchange_speech-speech.new.kept) c.placed_speech-speech.result c.exchange_speech-speech.result c.exchange_speech-speech.ensures.kept c.exchange_speech-speech.ensures.back) ∙ c.in_ok-part.ensures.back
 
 pub returns-clause-again : goal.returns-clause-again
 returns-clause-again c =
     let part = c.in_ok-part.part in
-    let both = undo-can (laid_of c.relay.new.kept) (laid_of c.exchange_speech-speech.new.kept) c.speech_there-speech.result c.exchange_speech-speech.result part.places (laid_of part.kept)
+    let both = undo-can (laid_of c.relay.new.kept) (laid_of c.exchange_speech-speech.new.kept) c.placed_speech-speech.result c.exchange_speech-speech.result part.places (laid_of part.kept)
     c.exchange_speech-speech.ensures.kept c.exchange_speech-speech.ensures.back (speak-at c) c.in_ok-part.ensures.again in
     record { part = both.0; speech = both.1 }
 
 pub returns-clause-returns : goal.returns-clause-returns
 returns-clause-returns c =
     let part = c.in_ok-part.part in
-    room-spoken c.relay.new.kept c.exchange_speech-speech.new.kept part.places part.kept c.speech_there-speech.result c.exchange_speech-speech.ensures.kept c.exchange_speech-speech.ensures.room
+    room-spoken c.relay.new.kept c.exchange_speech-speech.new.kept part.places part.kept c.placed_speech-speech.result c.exchange_speech-speech.ensures.kept c.exchange_speech-speech.ensures.room
     c.in_ok-part.ensures.again.body.order (speak-at c) c.in_ok-part.ensures.returns
 
 pub returns-clause-room : goal.returns-clause-room
 returns-clause-room c = room-through c.args.kept.now c.relay.new.kept c.exchange_speech-speech.new.kept c.in_ok-part.ensures.room c.exchange_speech-speech.ensures.room
 
-pub speech_there-speech-requires : goal.speech_there-speech-requires
-speech_there-speech-requires c =
+pub placed_speech-speech-requires : goal.placed_speech-speech-requires
+placed_speech-speech-requires c =
     let stanzas = c.args.stanzas.now.stanzas in
     let at : c.at-at.result ≡ c.args.swapped.now.at = c.at-at.ensures in
     let to : c.at-at.result + c.stands.result ≡ c.args.swapped.now.at + c.args.swapped.now.stands = omega (arith, at, c.stands.ensures) in
@@ -192,8 +192,8 @@ exchange_speech-speech-requires c =
     edited-part c.args.old.now (text_of c.args.lines.now) stanzas c.args.swapped.now c.args.speakers (laid_of c.args.kept.now) c.requires.was c.requires.list c.len-count.ensures.keeps _ _ _ _ _ _ _ _ to was end
     c.part_begin-start.ensures c.part_end-stop.ensures.is (c.deref-2.ensures.value ∙ c.in_ok-blocks.ensures) alike c.places_between-places.ensures in
     let mid = c.in_ok-part.ensures.layout c.requires.was.before.lines part.relaid in
-    let done = edit-done c.args.old.now c.requires.was.before.lines (text_of c.args.lines.now) c.args.stanzas.now.stanzas c.args.swapped.now c.args.speakers c.part_end-stop.result (laid_of c.args.kept.now) c.in_ok-last.last c.deref-2.result.now c.places_between-places.result part (laid_of c.relay.new.kept) mid c.len-count.ensures.keeps c.requires.list alike.on c.in_ok-said.said c.speech_there-speech.result c.in_ok-said.ensures c.speech_there-speech.ensures in
-    speak-from (laid_of c.relay.new.kept) 0 _ c.speech_there-speech.result (omega arith) done.can
+    let done = edit-done c.args.old.now c.requires.was.before.lines (text_of c.args.lines.now) c.args.stanzas.now.stanzas c.args.swapped.now c.args.speakers c.part_end-stop.result (laid_of c.args.kept.now) c.in_ok-last.last c.deref-2.result.now c.places_between-places.result part (laid_of c.relay.new.kept) mid c.len-count.ensures.keeps c.requires.list alike.on c.in_ok-said.said c.placed_speech-speech.result c.in_ok-said.ensures c.placed_speech-speech.ensures in
+    speak-from (laid_of c.relay.new.kept) 0 _ c.placed_speech-speech.result (omega arith) done.can
 
 pub speech_behind-requires-clause-edit : goal.speech_behind-requires-clause-edit
 speech_behind-requires-clause-edit c = edited c.args.old.now c.args.lines.now.lines c.args.stanzas.now.stanzas c.args.swapped.now c.args.speakers (laid_of c.args.kept.now) c.requires.was

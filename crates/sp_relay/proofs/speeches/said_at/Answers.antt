@@ -41,8 +41,8 @@ two_from-speech-requires c =
     let two = two-are stanzas c.args.from place it c.next_filled-until.result c.next_filled-until.ensures.low c.next_filled-until.ensures.within c.next_filled-until.ensures.filled in
     omega (arith, ap (λ (bs : List PlacedBlock). length bs) two, length-take 2 (drop place.block own), length-drop place.block own, ap (λ (bs : List PlacedBlock). length bs) blocks)
 
-pub may_matter-requires-clause-says : goal.may_matter-requires-clause-says
-may_matter-requires-clause-says c =
+pub either_speaks-requires-clause-says : goal.either_speaks-requires-clause-says
+either_speaks-requires-clause-says c =
     let stanzas = c.args.stanzas.now.stanzas in
     let place = c.args.place in
     let it = c.requires.first.is in
@@ -53,8 +53,8 @@ may_matter-requires-clause-says c =
     ∙ two-are stanzas c.args.from place it c.next_filled-until.result c.next_filled-until.ensures.low c.next_filled-until.ensures.within c.next_filled-until.ensures.filled in
     subst Speaks (sym two) c.requires.first.says
 
-pub may_matter-requires-clause-some : goal.may_matter-requires-clause-some
-may_matter-requires-clause-some c =
+pub either_speaks-requires-clause-some : goal.either_speaks-requires-clause-some
+either_speaks-requires-clause-some c =
     let stanzas = c.args.stanzas.now.stanzas in
     let place = c.args.place in
     let it = c.requires.first.is in
@@ -65,8 +65,8 @@ may_matter-requires-clause-some c =
     ∙ two-are stanzas c.args.from place it c.next_filled-until.result c.next_filled-until.ensures.low c.next_filled-until.ensures.within c.next_filled-until.ensures.filled in
     omega (arith, ap (λ (bs : List PlacedBlock). length bs) two)
 
-pub may_matter-requires-clause-lie : goal.may_matter-requires-clause-lie
-may_matter-requires-clause-lie c =
+pub either_speaks-requires-clause-lie : goal.either_speaks-requires-clause-lie
+either_speaks-requires-clause-lie c =
     let stanzas = c.args.stanzas.now.stanzas in
     let place = c.args.place in
     let it = c.requires.first.is in
@@ -117,7 +117,7 @@ returns-then-not-branch c =
     let last = c.args.last in
     let speech = speech_at stanzas c.args.from place it in
     let past = blocks_past stanzas c.args.from place it in
-    let both = c.in_ok-may_matter.ensures c.if-not-branch.true in
+    let both = c.in_ok-either_speaks.ensures c.if-not-branch.true in
     let told : (who : Option (List ℕ)) → first_goes_on texts who (blocks_behind stanzas c.args.from) ≡ first_goes_on texts who c.two_from-speech.result.now = λ who.
     goes-at stanzas c.args.from place it texts who ∙ goes-speech texts who speech past c.requires.first.says
     ∙ sym (ap (first_goes_on texts who) two ∙ goes-speech texts who speech (take 1 past) c.requires.first.says) in

@@ -4,8 +4,8 @@ use Rattle.spec_text.specs.Lines.{line_texts}
 use Rattle.sp_layout.specs.Speaking.{speakers_after}
 use Rattle.sp_relay.specs.Speeches.{LastOf}
 use Rattle.sp_relay.proofs.SpokenAnew.{neither-speaks}
-use Rattle.sp_relay.proofs.speeches.may_matter.Goals as goal
-use Rattle.sp_relay.proofs.speeches.may_matter.Goals.{then-are_same, else-are_same}
+use Rattle.sp_relay.proofs.speeches.either_speaks.Goals as goal
+use Rattle.sp_relay.proofs.speeches.either_speaks.Goals.{then-are_same, else-are_same}
 
 pub returns : goal.returns
 returns c none =
