@@ -41,9 +41,6 @@ own-rows [] at d inside = absurd (omega (arith, inside))
 own-rows (element ∷ elements) zero d inside = refl
 own-rows (element ∷ elements) (suc at) d inside = own-rows elements at d (omega (arith, inside))
 
-pub rows-own : (elements : List ElementOf) (at : ℕ) (element : ElementOf) → at < length elements → element ≡ get_or elements at element → element.rows ≡ rows_at elements at
-rows-own elements at element inside is = ap (λ (e : ElementOf). e.rows) (is ∙ own-rows elements at element inside)
-
 element-rows : (elements : List ElementOf) (at place : ℕ) (rows : List Row) (d : ElementOf) → at < length elements
     → get_or (with_rows_at elements place rows) at d ≡ record { first = (get_or elements at d).first; rows = rows_at (with_rows_at elements place rows) at }
 element-rows [] at place rows d inside = absurd (omega (arith, inside))

@@ -1,11 +1,13 @@
 -- An entry leads to the state before it, and the same entry to the same state.
-use Rattle.std.proofs.Common.{◌≡◌, ℕ, List, sym, ap, subst, ◌∙◌}
+use Rattle.std.proofs.Common.{◌≡◌, ℕ, Option, List, sym, ap, ap₂, subst, ◌∙◌}
 use Rattle.spec_state.specs.State.{State}
 use Rattle.spec_locked_pages.specs.Segments.{pages_of}
 use Rattle.sp_reflow.specs.Starts.{Taken, CanExchange, exchanged}
 use Rattle.sp_reflow.specs.Updates.{CanPutBack, TakenStarts, taken_of, with_taken}
 use Rattle.sp_layout.specs.LaidOut.{LayoutOf}
-use Rattle.sp_relay.specs.Kept.{CanSwap, PartOf, laid_of, with_part}
+use Rattle.sp_relay.specs.declared.kept.PartPlaces.{PartPlaces}
+use Rattle.sp_relay.specs.Changes.{CanChange, CanSpeak, ChangeOf, IsSameChange, SpeechOf, with_change, with_speech}
+use Rattle.sp_relay.specs.Kept.{CanSwap, laid_of, with_part}
 use Rattle.sp_made_parts.specs.Firsts.{IsLaidOf, laid_in}
 use Rattle.sp_text_entry.specs.TextEntries.{TextEntryState, LeadsTextBack, LeadsTextForth, redone_text, undone_text}
 use Rattle.sp_state.specs.Entries.{EntryState, CanRedo, CanUndo, IsSameEntry, LayoutLeads, LeadsBack, LeadsForth, PagesLead, done_range, redone_state, undone_range, undone_state}
@@ -17,31 +19,31 @@ pages-lead state other pages now is can are = record {
   are = subst (λ starts. with_taken starts pages ≡ pages_of other) is are;
 }
 
-layout-leads : (state other : State) (part : PartOf) (now : LayoutOf) → IsLaidOf state now → CanSwap now part.places (laid_of part.kept) → with_part now part.places (laid_of part.kept) ≡ laid_in other → LayoutLeads state other part
-layout-leads state other part now is can are = record {
-  can = subst (λ layout. CanSwap layout part.places (laid_of part.kept)) is can;
-  are = subst (λ layout. with_part layout part.places (laid_of part.kept) ≡ laid_in other) is are;
+layout-leads : (state other : State) (change : ChangeOf) (now : LayoutOf) → IsLaidOf state now → CanChange now change → with_change now change ≡ laid_in other → LayoutLeads state other change
+layout-leads state other change now is can are = record {
+  can = subst (λ layout. CanChange layout change) is can;
+  are = subst (λ layout. with_change layout change ≡ laid_in other) is are;
 }
 
-pub leads-back : (before after : State) (text : TextEntryState) (layout : PartOf) (pages : Taken) (was laid : LayoutOf) (now : List ℕ) → LeadsTextBack before after text
-    → IsLaidOf before was → IsLaidOf after laid → CanSwap laid layout.places (laid_of layout.kept) → with_part laid layout.places (laid_of layout.kept) ≡ was
+pub leads-back : (before after : State) (text : TextEntryState) (layout : ChangeOf) (pages : Taken) (was laid : LayoutOf) (now : List ℕ) → LeadsTextBack before after text
+    → IsLaidOf before was → IsLaidOf after laid → CanChange laid layout → with_change laid layout ≡ was
     → now ≡ pages_of after → CanPutBack now pages → with_taken now pages ≡ pages_of before → LeadsBack before after (record { text = text; layout = layout; pages = pages })
-leads-back before after text layout pages was laid now leads was_is laid_is swaps part is can are = record {
+leads-back before after text layout pages was laid now leads was_is laid_is change_can change is can are = record {
   can = record {
     text = leads.can;
-    layout = layout-leads after (undone_text after text) layout laid laid_is swaps (part ∙ was_is ∙ ap laid_in (sym leads.back));
+    layout = layout-leads after (undone_text after text) layout laid laid_is change_can (change ∙ was_is ∙ ap laid_in (sym leads.back));
     pages = pages-lead after (undone_text after text) pages now is can (are ∙ ap pages_of (sym leads.back));
   };
   back = leads.back;
 }
 
-pub leads-forth : (before after : State) (text : TextEntryState) (layout : PartOf) (pages : Taken) (was laid : LayoutOf) (now : List ℕ) → LeadsTextForth before after text
-    → IsLaidOf before was → IsLaidOf after laid → CanSwap laid layout.places (laid_of layout.kept) → with_part laid layout.places (laid_of layout.kept) ≡ was
+pub leads-forth : (before after : State) (text : TextEntryState) (layout : ChangeOf) (pages : Taken) (was laid : LayoutOf) (now : List ℕ) → LeadsTextForth before after text
+    → IsLaidOf before was → IsLaidOf after laid → CanChange laid layout → with_change laid layout ≡ was
     → now ≡ pages_of after → CanPutBack now pages → with_taken now pages ≡ pages_of before → LeadsForth before after (record { text = text; layout = layout; pages = pages })
-leads-forth before after text layout pages was laid now leads was_is laid_is swaps part is can are = record {
+leads-forth before after text layout pages was laid now leads was_is laid_is change_can change is can are = record {
   can = record {
     text = leads.can;
-    layout = layout-leads after (redone_text after text) layout laid laid_is swaps (part ∙ was_is ∙ ap laid_in (sym leads.forth));
+    layout = layout-leads after (redone_text after text) layout laid laid_is change_can (change ∙ was_is ∙ ap laid_in (sym leads.forth));
     pages = pages-lead after (redone_text after text) pages now is can (are ∙ ap pages_of (sym leads.forth));
   };
   forth = leads.forth;
@@ -55,12 +57,22 @@ same-lead state one_to other_to one other same to lead = record {
   are = ap (λ (it : TakenStarts). exchanged (pages_of state) it.place it.stands it.starts it.less it.more) same ∙ lead.are ∙ ap pages_of (sym to);
 }
 
--- A part that leads where another led.
-pub record LeadsAgain (layout : LayoutOf) (one other : PartOf) : Type 0 where
-  pub can : CanSwap layout one.places (laid_of one.kept)
-  pub same : with_part layout one.places (laid_of one.kept) ≡ with_part layout other.places (laid_of other.kept)
+-- A change that leads where another led.
+pub record LeadsAgain (layout : LayoutOf) (one other : ChangeOf) : Type 0 where
+  pub can : CanChange layout one
+  pub same : with_change layout one ≡ with_change layout other
 
-layout-again : (state one_to other_to : State) (now : LayoutOf) (one other : PartOf) → IsLaidOf state now → LeadsAgain now one other → one_to ≡ other_to → LayoutLeads state other_to other → LayoutLeads state one_to one
+-- So does the same change.
+pub same-leads : (layout : LayoutOf) (one other : ChangeOf) → IsSameChange one other → CanChange layout other → LeadsAgain layout one other
+same-leads layout one other same can = record {
+  can = record {
+    part = subst (λ (part : LayoutOf). CanSwap layout one.part.places part) (sym same.layout) (subst (λ (at : PartPlaces). CanSwap layout at (laid_of other.part.kept)) (sym same.places) can.part);
+    speech = subst (λ (speech : Option SpeechOf). CanSpeak layout one.part.places.to speech) (sym same.speech) (subst (λ (at : PartPlaces). CanSpeak layout at.to other.speech) (sym same.places) can.speech);
+  };
+  same = ap (λ (speech : Option SpeechOf). with_part (with_speech layout speech) one.part.places (laid_of one.part.kept)) same.speech ∙ ap₂ (with_part (with_speech layout other.speech)) same.places same.layout;
+}
+
+layout-again : (state one_to other_to : State) (now : LayoutOf) (one other : ChangeOf) → IsLaidOf state now → LeadsAgain now one other → one_to ≡ other_to → LayoutLeads state other_to other → LayoutLeads state one_to one
 layout-again state one_to other_to now one other is again to lead =
     let here = subst (λ layout. LeadsAgain layout one other) is again in
     record { can = here.can; are = here.same ∙ lead.are ∙ ap laid_in (sym to) }

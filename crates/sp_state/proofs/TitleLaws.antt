@@ -7,8 +7,8 @@ use Rattle.spec_state.specs.State.{State}
 use Rattle.spec_state.specs.Keeping.{state_of}
 use Rattle.spec_state.specs.StateSheets.{title_starts}
 use Rattle.sp_layout.specs.LaidOut.{LayoutOf}
-use Rattle.sp_relay.specs.declared.kept.PartPlaces.{PartPlaces}
-use Rattle.sp_relay.specs.Kept.{with_part}
+use Rattle.sp_relay.specs.Changes.{ChangeOf, with_change}
+use Rattle.sp_relay.specs.Kept.{laid_of}
 use Rattle.sp_made_parts.specs.Firsts.{IsLaidOf}
 use Rattle.sp_made.specs.Titles.{LeavesTitles, laid_titles}
 use Rattle.sp_made.proofs.TitleLaws.{titles-kept, titles-laid, titles-spoken}
@@ -18,8 +18,9 @@ pub titles-were : (state : State) (layout : LayoutOf) (paper : Paper) (starts : 
 titles-were state layout paper starts laid on are = are ∙ sym (titles-laid state layout paper laid on)
 
 -- Where no element of a title page comes or goes those of the state before are those of the state after it.
-pub titles-after : (state : State) (layout part : LayoutOf) (at : PartPlaces) (starts : List ℕ) → IsLaidOf state layout → starts ≡ laid_titles (with_part layout at part) state.paper → LeavesTitles at part → starts ≡ title_starts state
-titles-after state layout part at starts laid are leaves = are ∙ titles-kept layout part at state.paper leaves ∙ titles-laid state layout state.paper laid refl
+pub titles-after : (state : State) (layout : LayoutOf) (change : ChangeOf) (starts : List ℕ) → IsLaidOf state layout → starts ≡ laid_titles (with_change layout change) state.paper
+    → LeavesTitles change.part.places (laid_of change.part.kept) → starts ≡ title_starts state
+titles-after state layout change starts laid are leaves = are ∙ titles-kept layout change state.paper leaves ∙ titles-laid state layout state.paper laid refl
 
 -- Whether cues say that their speakers go on moves none.
 pub speakers-titles : (text : TextState) (old new : RecordsOf) (speakers : Bool) (starts : List ℕ) → new ≡ record old { speakers = speakers } → starts ≡ title_starts (state_of text old) → starts ≡ title_starts (state_of text new)

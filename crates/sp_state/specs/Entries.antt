@@ -5,14 +5,14 @@ use Rattle.spec_state.specs.State.{State}
 use Rattle.spec_locked_pages.specs.Segments.{pages_of}
 use Rattle.sp_reflow.specs.Starts.{Taken}
 use Rattle.sp_reflow.specs.Updates.{CanPutBack, with_taken}
-use Rattle.sp_relay.specs.Kept.{CanSwap, PartOf, laid_of, with_part}
+use Rattle.sp_relay.specs.Changes.{CanChange, ChangeOf, with_change}
 use Rattle.sp_made_parts.specs.Firsts.{laid_in}
 use Rattle.sp_text_entry.specs.TextEntries.{TextEntryState, CanRedoText, CanUndoText, IsSameTextEntry, done_lines, redone_text, undone_lines, undone_text}
 
 -- What an edit displaced of the text and of the page records, of the layout, and first rows of pages.
 pub record EntryState : Type 0 where
   pub text : TextEntryState
-  pub layout : PartOf
+  pub layout : ChangeOf
   pub pages : Taken
 
 -- The state that undoing an entry, or redoing it, leads to.
@@ -29,10 +29,10 @@ done_range entry = done_lines entry.text
 abbrev pub undone_range : EntryState → RangeOf
 undone_range entry = undone_lines entry.text
 
--- The part can be exchanged in the layout of one state, which is then that of the other.
-pub record LayoutLeads (state other : State) (part : PartOf) : Type 0 where
-  pub can : CanSwap (laid_in state) part.places (laid_of part.kept)
-  pub are : with_part (laid_in state) part.places (laid_of part.kept) ≡ laid_in other
+-- The change can be made of the layout of one state, which is then that of the other.
+pub record LayoutLeads (state other : State) (change : ChangeOf) : Type 0 where
+  pub can : CanChange (laid_in state) change
+  pub are : with_change (laid_in state) change ≡ laid_in other
 
 -- The first rows of pages of one state can be put back, and then they are those of the other.
 pub record PagesLead (state other : State) (pages : Taken) : Type 0 where

@@ -11,7 +11,8 @@ ghost use Rattle.sp_text.specs.Gap.{text_of};
 ghost use Rattle.sp_exchange.specs.Reads.{IsRefused};
 ghost use Rattle.sp_exchange.specs.Restoring.{text_stanzas};
 ghost use Rattle.sp_reflow.specs.Filling.{FilledAtMost};
-ghost use Rattle.sp_relay.specs.Kept.{CanSwap, HasPartRoom, laid_of, with_part};
+ghost use Rattle.sp_relay.specs.Changes.{CanChange, HasChangeRoom, with_change};
+ghost use Rattle.sp_relay.specs.Kept.{laid_of};
 ghost use Rattle.sp_made_parts.specs.Firsts.{IsLaidOf, first_rows};
 ghost use Rattle.sp_made_parts.specs.Made.{IsMadeOf, IsNumberedOf};
 ghost use Rattle.sp_text_entry.specs.TextEntries.{CanRedoText, CanUndoText, HasTextRoom, IsTextRedone, IsTextUndone, redone_text, undone_text};
@@ -27,11 +28,11 @@ use sp_made::{keeps_headings, lay, leaves_titles, make, number};
 use sp_made_parts::{Made, Numbered, laid_firsts};
 use sp_records::Records;
 use sp_reflow::Pages;
-use sp_relay::{KeptLayout, LayoutPart};
+use sp_relay::{KeptLayout, LayoutChange};
 use sp_reread::Stanzas;
 use sp_text::{Edit, EditFault, Lines};
 use sp_text_entry::{
-    EditedText, TextEntry, UnturnedText, edit_entry, redo_entry, swap_in_room, undo_entry,
+    EditedText, TextEntry, UnturnedText, change_in_room, edit_entry, redo_entry, undo_entry,
 };
 use spec_pages::Paper;
 use std::alloc::{AllocError, Global};
@@ -198,18 +199,18 @@ fn take_back(
     records: &mut Records,
     layout: &mut KeptLayout,
     text: TextEntry,
-    part: LayoutPart,
+    change: LayoutChange,
 )
     requires can { CanUndoText (state_of (text_of lines.old) records.old) text }
     requires stanzas { stanzas.old.stanzas ≡ text_stanzas (text_of lines.old) }
     requires room { HasTextRoom lines.old stanzas.old text }
-    requires swaps { CanSwap (laid_of layout.old) part.places (laid_of part.kept) }
-    requires layout_room { HasPartRoom layout.old part.places part.kept }
+    requires can_change { CanChange (laid_of layout.old) change }
+    requires layout_room { HasChangeRoom layout.old change }
     ensures state { state_of (text_of lines.new) records.new ≡ undone_text (state_of (text_of lines.old) records.old) text }
     ensures stanzas { stanzas.new.stanzas ≡ text_stanzas (text_of lines.new) }
-    ensures layout { laid_of layout.new ≡ with_part (laid_of layout.old) part.places (laid_of part.kept) }
+    ensures layout { laid_of layout.new ≡ with_change (laid_of layout.old) change }
 {
-    let _part = swap_in_room(layout, part);
+    let _change = change_in_room(layout, change);
     let _text = undo_in_room(lines, stanzas, records, text);
 }
 
@@ -234,7 +235,7 @@ fn firsts_before(
     }
 }
 
-/// Makes an edit. The part of the layout that it changes is laid out anew, the pages of its page window are filled again, and
+/// Makes an edit. What it changes of the layout is laid out anew, the pages of its page window are filled again, and
 /// sheets are made those of the new state; so are labels where a heading comes or goes, and title sheets where an element of a
 /// title page does. The first rows of page records are found once, and once more where those before the edit aren't known. A fault
 /// forgets them, and changes nothing else.
@@ -277,12 +278,12 @@ pub(crate) fn edit_made<S: Steps>(
     let before = firsts_before(alloc, lines, records, layout, firsts)?;
     let EditedText {
         text,
-        layout: part,
+        layout: change,
         rows,
         firsts: after,
     } = edit_entry(alloc, lines, stanzas, records, layout, &before, edit, steps)?;
-    let keeps_labels = keeps_headings(layout, &part);
-    let keeps_titles = leaves_titles(&part);
+    let keeps_labels = keeps_headings(layout, &change);
+    let keeps_titles = leaves_titles(&change);
     let keeps_firsts = before.as_slice() == after.as_slice();
     match refilled(
         alloc,
@@ -305,12 +306,12 @@ pub(crate) fn edit_made<S: Steps>(
             *firsts = Some(after);
             Ok(Entry {
                 text,
-                layout: part,
+                layout: change,
                 pages: swapped,
             })
         }
         Err(_) => {
-            take_back(lines, stanzas, records, layout, text, part);
+            take_back(lines, stanzas, records, layout, text, change);
             Err(EditFault::NoMemory)
         }
     }
@@ -353,16 +354,16 @@ pub(crate) fn undo_made(
     let _count = lines.len();
     let Entry {
         text,
-        layout: part,
+        layout: change,
         pages: back,
     } = entry;
     match undo_entry(lines, stanzas, records, text) {
         Ok(other) => match turn_made(
-            alloc, lines, stanzas, records, layout, firsts, pages, part, back, numbered,
+            alloc, lines, stanzas, records, layout, firsts, pages, change, back, numbered,
         ) {
             Ok(
                 Turned {
-                    layout: part,
+                    layout: change,
                     pages: swapped,
                     firsts: after,
                 },
@@ -370,13 +371,13 @@ pub(crate) fn undo_made(
                 *firsts = Some(after);
                 Ok(Entry {
                     text: other,
-                    layout: part,
+                    layout: change,
                     pages: swapped,
                 })
             }
             Err(
                 UnturnedPages {
-                    layout: part,
+                    layout: change,
                     pages: back,
                 },
             ) => {
@@ -385,7 +386,7 @@ pub(crate) fn undo_made(
                 Err(Unturned {
                     back: Entry {
                         text,
-                        layout: part,
+                        layout: change,
                         pages: back,
                     },
                 })
@@ -396,7 +397,7 @@ pub(crate) fn undo_made(
             Err(Unturned {
                 back: Entry {
                     text,
-                    layout: part,
+                    layout: change,
                     pages: back,
                 },
             })
@@ -441,16 +442,16 @@ pub(crate) fn redo_made(
     let _count = lines.len();
     let Entry {
         text,
-        layout: part,
+        layout: change,
         pages: back,
     } = entry;
     match redo_entry(lines, stanzas, records, text) {
         Ok(other) => match turn_made(
-            alloc, lines, stanzas, records, layout, firsts, pages, part, back, numbered,
+            alloc, lines, stanzas, records, layout, firsts, pages, change, back, numbered,
         ) {
             Ok(
                 Turned {
-                    layout: part,
+                    layout: change,
                     pages: swapped,
                     firsts: after,
                 },
@@ -458,13 +459,13 @@ pub(crate) fn redo_made(
                 *firsts = Some(after);
                 Ok(Entry {
                     text: other,
-                    layout: part,
+                    layout: change,
                     pages: swapped,
                 })
             }
             Err(
                 UnturnedPages {
-                    layout: part,
+                    layout: change,
                     pages: back,
                 },
             ) => {
@@ -473,7 +474,7 @@ pub(crate) fn redo_made(
                 Err(Unturned {
                     back: Entry {
                         text,
-                        layout: part,
+                        layout: change,
                         pages: back,
                     },
                 })
@@ -484,7 +485,7 @@ pub(crate) fn redo_made(
             Err(Unturned {
                 back: Entry {
                     text,
-                    layout: part,
+                    layout: change,
                     pages: back,
                 },
             })

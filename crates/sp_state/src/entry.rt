@@ -1,6 +1,6 @@
 //! The entry of an edit.
 use sp_reflow::SwappedPages;
-use sp_relay::LayoutPart;
+use sp_relay::LayoutChange;
 use sp_text_entry::TextEntry;
 use std::marker::Model;
 
@@ -8,7 +8,7 @@ use std::marker::Model;
 #[derive(Drop)]
 pub struct Entry {
     pub(crate) text: TextEntry,
-    pub(crate) layout: LayoutPart,
+    pub(crate) layout: LayoutChange,
     pub(crate) pages: SwappedPages,
 }
 

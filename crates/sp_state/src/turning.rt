@@ -13,7 +13,8 @@ ghost use Rattle.sp_exchange.specs.Restoring.{text_stanzas};
 ghost use Rattle.sp_reflow.specs.Starts.{many_more};
 ghost use Rattle.sp_reflow.specs.Filling.{FilledAtMost};
 ghost use Rattle.sp_reflow.specs.Updates.{AreStale, CanPutBack, taken_back, taken_of, with_taken};
-ghost use Rattle.sp_relay.specs.Kept.{CanSwap, laid_of, with_part};
+ghost use Rattle.sp_relay.specs.Changes.{CanChange, with_change};
+ghost use Rattle.sp_relay.specs.Kept.{laid_of};
 ghost use Rattle.sp_numbers.specs.HeadingIds.{laid_labels};
 ghost use Rattle.sp_numbers.specs.Locked.{AreSheetsBefore};
 ghost use Rattle.sp_numbers.specs.Numbered.{AreUnmarked};
@@ -28,10 +29,10 @@ use sp_made_parts::{Numbered, laid_firsts};
 use sp_numbers::firsts_stay;
 use sp_records::Records;
 use sp_reflow::{Pages, SwappedPages, UnswappedPages};
-use sp_relay::{KeptLayout, LayoutPart, UnswappedLayout};
+use sp_relay::{KeptLayout, LayoutChange, UnchangedLayout};
 use sp_reread::Stanzas;
 use sp_text::Lines;
-use sp_text_entry::swap_in_room;
+use sp_text_entry::change_in_room;
 use std::alloc::{AllocError, Global};
 
 /// Puts page starts back where there is room.
@@ -242,10 +243,10 @@ fn turned_pages(
     }
 }
 
-/// A part of a layout and page starts that were put back: what stood in their place, and the first rows of page records.
+/// A change of a layout and page starts that were put back: what stood in their place, and the first rows of page records.
 #[derive(Drop)]
 pub(crate) struct Turned {
-    pub layout: LayoutPart,
+    pub layout: LayoutChange,
     pub pages: SwappedPages,
     pub firsts: Vec<usize>,
 }
@@ -253,7 +254,7 @@ pub(crate) struct Turned {
 /// There was no memory; what was to be put back is handed back.
 #[derive(Drop)]
 pub(crate) struct UnturnedPages {
-    pub layout: LayoutPart,
+    pub layout: LayoutChange,
     pub pages: SwappedPages,
 }
 
@@ -270,14 +271,14 @@ pub(crate) fn turn_made(
     layout: &mut KeptLayout,
     known: &Option<Vec<usize>>,
     pages: &mut Pages,
-    part: LayoutPart,
+    change: LayoutChange,
     back: SwappedPages,
     numbered: &mut Numbered,
 ) -> Result<Turned, UnturnedPages>
     requires whole { IsWhole (state_of (text_of lines.now) records.now) }
     requires stanzas { stanzas.now.stanzas ≡ text_stanzas (text_of lines.now) }
-    requires swaps { CanSwap (laid_of layout.old) part.places (laid_of part.kept) }
-    requires laid { IsLaidOf (state_of (text_of lines.now) records.now) (with_part (laid_of layout.old) part.places (laid_of part.kept)) }
+    requires can_change { CanChange (laid_of layout.old) change }
+    requires laid { IsLaidOf (state_of (text_of lines.now) records.now) (with_change (laid_of layout.old) change) }
     requires can { CanPutBack pages.old.starts back }
     requires leads { with_taken pages.old.starts back ≡ pages_of (state_of (text_of lines.now) records.now) }
     requires labels { numbered.old.labels ≡ laid_labels (laid_of layout.old) (records.now).scenes }
@@ -285,8 +286,8 @@ pub(crate) fn turn_made(
     requires sheets { (records.now).pages ≡ None → (records.now).round ≡ 0 → AreUnmarked numbered.old.sheets pages.old.starts }
     requires kept { IfSome known.now (λ those. IfSome (records.now).pages (λ them. AreSheetsBefore them those.items pages.old.starts numbered.old.sheets)) }
     ensures laid { OnOk result (IsLaidOf (state_of (text_of lines.now) records.now) (laid_of layout.new)) }
-    ensures part { IfOk result (λ it. with_part (laid_of layout.new) it.layout.places (laid_of it.layout.kept) ≡ laid_of layout.old) }
-    ensures swaps { IfOk result (λ it. CanSwap (laid_of layout.new) it.layout.places (laid_of it.layout.kept)) }
+    ensures layout_back { IfOk result (λ it. with_change (laid_of layout.new) it.layout ≡ laid_of layout.old) }
+    ensures can_change { IfOk result (λ it. CanChange (laid_of layout.new) it.layout) }
     ensures pages { OnOk result (pages.new.starts ≡ pages_of (state_of (text_of lines.now) records.now)) }
     ensures back { IfOk result (λ it. with_taken pages.new.starts it.pages ≡ pages.old.starts) }
     ensures can { IfOk result (λ it. CanPutBack pages.new.starts it.pages) }
@@ -296,10 +297,10 @@ pub(crate) fn turn_made(
     ensures same { OnErr result (pages.new.starts ≡ pages.old.starts) }
     ensures same_layout { OnErr result (laid_of layout.new ≡ laid_of layout.old) }
     ensures handed_back { IfErr result (λ error. taken_of error.pages ≡ taken_of back) }
-    ensures again { IfErr result (λ error. CanSwap (laid_of layout.old) error.layout.places (laid_of error.layout.kept)) }
-    ensures leads_again { IfErr result (λ error. with_part (laid_of layout.old) error.layout.places (laid_of error.layout.kept) ≡ with_part (laid_of layout.old) part.places (laid_of part.kept)) }
+    ensures again { IfErr result (λ error. CanChange (laid_of layout.old) error.layout) }
+    ensures leads_again { IfErr result (λ error. with_change (laid_of layout.old) error.layout ≡ with_change (laid_of layout.old) change) }
 {
-    match layout.swap(part) {
+    match layout.change(change) {
         Ok(other) => {
             let keeps_labels = keeps_headings(layout, &other);
             let keeps_titles = leaves_titles(&other);
@@ -327,16 +328,16 @@ pub(crate) fn turn_made(
                     firsts,
                 }),
                 Err(UnswappedPages { back }) => {
-                    let part = swap_in_room(layout, other);
+                    let change = change_in_room(layout, other);
                     Err(UnturnedPages {
-                        layout: part,
+                        layout: change,
                         pages: back,
                     })
                 }
             }
         }
-        Err(UnswappedLayout { back: part }) => Err(UnturnedPages {
-            layout: part,
+        Err(UnchangedLayout { back: change }) => Err(UnturnedPages {
+            layout: change,
             pages: back,
         }),
     }

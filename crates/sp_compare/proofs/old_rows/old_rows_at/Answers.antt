@@ -2,9 +2,9 @@ use Rattle.std.proofs.Common.{◌≡◌, Option, Some, List, ap, sym, ◌∙◌}
 use Rattle.spec_pages.specs.Rows.{Row, ElementOf}
 use Rattle.sp_elements.specs.Bodies.{keyed_elements}
 use Rattle.sp_elements.specs.Exchanges.{rows_at, with_rows_at}
-use Rattle.sp_elements.proofs.RowSwaps.{rows_at-new}
+use Rattle.sp_elements.proofs.RowSwaps.{rows-get, rows_at-new}
 use Rattle.sp_compare.specs.OldElements.{OtherRowsOf, with_others}
-use Rattle.sp_compare.proofs.OtherRowLaws.{rows-elsewhere, rows-own}
+use Rattle.sp_compare.proofs.OtherRowLaws.{rows-elsewhere}
 use Rattle.sp_compare.proofs.RowPlaces.{element-read}
 use Rattle.sp_compare.proofs.old_rows.old_rows_at.Goals as goal
 use Rattle.sp_compare.proofs.old_rows.old_rows_at.Goals.{in-Some+else-others-place, in_default}
@@ -23,7 +23,7 @@ returns c =
     let body = keyed_elements c.args.body.now in
     let place = c.args.place in
     let element : ElementOf = record { first = c.element.inside.first; rows = c.element.inside.rows.items } in
-    let own : element.rows ≡ rows_at body.elements place = rows-own body.elements place element c.requires
+    let own : element.rows ≡ rows_at body.elements place = rows-get body.elements place element c.requires
     (element-read body.elements c.elements.result.now place c.index-elements-place.result element c.element.view_is c.index-elements-place.is c.elements.ensures) in
     let of : Option OtherRowsOf → List Row = λ (o : Option OtherRowsOf). rows_at (with_others body o).elements place in
     c.deref.ensures.value ∙ own ∙ elim c.match-others.branch [

@@ -11,7 +11,8 @@ use Rattle.spec_locked_pages.specs.Segments.{pages_of}
 use Rattle.spec_reflow.specs.Windows.{Exchange}
 use Rattle.sp_text.specs.Changing.{edit_of}
 use Rattle.sp_text.specs.Gap.{text_of}
-use Rattle.sp_relay.specs.Kept.{laid_of, with_part}
+use Rattle.sp_relay.specs.Changes.{with_change}
+use Rattle.sp_relay.specs.Kept.{laid_of}
 use Rattle.sp_made_parts.specs.Firsts.{first_rows, laid_in}
 use Rattle.sp_made_parts.specs.Made.{IsNumberedOf}
 use Rattle.sp_numbers.specs.Locked.{AreSheetsBefore}
@@ -47,8 +48,8 @@ refilled-requires-clause-labels g c keeps =
     let old : State = state_of (text_of c.args.lines.now) c.args.records.now in
     let new : State = state_of (text_of c.edit_entry.new.lines) c.edit_entry.new.records in
     let layout = laid_of c.edit_entry.new.layout in
-    let part = c.in_ok-text.field-0.layout in
-    labels-after old new layout (with_part layout part.places (laid_of part.kept)) c.args.numbered.now.labels c.requires.whole.text c.in_ok-text.ensures.whole c.in_ok-text.ensures.laid
+    let change = c.in_ok-text.field-0.layout in
+    labels-after old new layout (with_change layout change) c.args.numbered.now.labels c.requires.whole.text c.in_ok-text.ensures.whole c.in_ok-text.ensures.laid
     (c.in_ok-text.ensures.layout_back ∙ c.requires.laid) (ap (λ (s : State). s.scenes) c.in_ok-text.ensures.state) c.requires.numbered.labels (c.keeps_headings-keeps_labels.ensures.0 keeps)
 
 pub refilled-requires-clause-titles : goal.refilled-requires-clause-titles
@@ -56,11 +57,11 @@ refilled-requires-clause-titles g c keeps =
     let old : State = state_of (text_of c.args.lines.now) c.args.records.now in
     let new : State = state_of (text_of c.edit_entry.new.lines) c.edit_entry.new.records in
     let layout = laid_of c.edit_entry.new.layout in
-    let part = c.in_ok-text.field-0.layout in
+    let change = c.in_ok-text.field-0.layout in
     let starts = c.args.numbered.now.title_starts in
     let were =
-    titles-were old (with_part layout part.places (laid_of part.kept)) new.paper starts (c.in_ok-text.ensures.layout_back ∙ c.requires.laid) (ap (λ (s : State). s.paper) c.in_ok-text.ensures.state) c.requires.numbered.title_starts in
-    titles-after new layout (laid_of part.kept) part.places starts c.in_ok-text.ensures.laid were (c.leaves_titles-keeps_titles.ensures.0 keeps)
+    titles-were old (with_change layout change) new.paper starts (c.in_ok-text.ensures.layout_back ∙ c.requires.laid) (ap (λ (s : State). s.paper) c.in_ok-text.ensures.state) c.requires.numbered.title_starts in
+    titles-after new layout change starts c.in_ok-text.ensures.laid were (c.leaves_titles-keeps_titles.ensures.0 keeps)
 
 pub refilled-requires-clause-sheets : goal.refilled-requires-clause-sheets
 refilled-requires-clause-sheets g c none first =
@@ -123,7 +124,7 @@ returns-in-Ok g c =
       state = done.state;
       whole = done.whole;
       back = leads-back old new c.in_ok-text.field-0.text c.in_ok-text.field-0.layout c.in-Ok.swapped (laid_of c.args.layout.now) (laid_of c.edit_entry.new.layout) c.refilled.new.pages.starts
-          done.back c.requires.laid done.laid done.swaps done.layout_back filled.pages filled.can (filled.back ∙ c.requires.pages);
+          done.back c.requires.laid done.laid done.can_change done.layout_back filled.pages filled.can (filled.back ∙ c.requires.pages);
       range = done.range;
       laid = done.laid;
       numbered = filled.numbered;

@@ -51,7 +51,7 @@ returns-in-Ok-turn_made c =
     record {
       state = redone.state ∙ ap (redone_state state) c.entry.view_is;
       back = leads-back state after c.in-Ok.other it.layout it.pages (laid_of c.args.layout.now) (laid_of c.turn_made.new.layout) c.turn_made.new.pages.starts
-          redone.back c.requires.laid turned.laid turned.swaps turned.part turned.pages turned.can (turned.back ∙ c.requires.pages);
+          redone.back c.requires.laid turned.laid turned.can_change turned.layout_back turned.pages turned.can (turned.back ∙ c.requires.pages);
       range = redone.range ∙ ap undone_range c.entry.view_is;
       laid = turned.laid;
       numbered = turned.numbered;
