@@ -17,6 +17,7 @@ use sp_opening::open_state;
 use sp_session::session;
 use sp_words::{Origin, Status};
 use std::alloc::Global;
+use std::mem;
 
 /// The desk of the script that the shelf has under a name, with the records beside it. An error is the status that the form ends
 /// with (docs/RULES.md, "The program"). The source is not read, and what the shelf holds stays.
@@ -58,5 +59,8 @@ pub fn hold_session<I: Source, O: Sink, F: Shelf, S: Steps>(
         Err(status) => return status,
     };
     let mut lines = DeskLines { alloc, name, desk };
-    Status::from(session(alloc, &mut lines, input, output, shelf, steps))
+    let ended = session(alloc, &mut lines, input, output, shelf, steps);
+    // The program ends here: nothing needs its memory back.
+    mem::forget(lines);
+    Status::from(ended)
 }

@@ -12,6 +12,7 @@ use sp_room::Room;
 use sp_session::session;
 use sp_words::Status;
 use std::alloc::Global;
+use std::mem;
 
 /// Answers the command lines of the source by a room round the desk of the script that the shelf has under a name.
 pub fn hold_room<I: Source, O: Sink, F: Shelf, S: Steps>(
@@ -34,5 +35,8 @@ pub fn hold_room<I: Source, O: Sink, F: Shelf, S: Steps>(
         name,
         room: Room::open(alloc, desk),
     };
-    Status::from(session(alloc, &mut lines, input, output, shelf, steps))
+    let ended = session(alloc, &mut lines, input, output, shelf, steps);
+    // The program ends here: nothing needs its memory back.
+    mem::forget(lines);
+    Status::from(ended)
 }

@@ -24,6 +24,7 @@ use sp_opening::{Opened, open_state};
 use sp_state::Script;
 use sp_words::{Origin, Status, View};
 use std::alloc::Global;
+use std::mem;
 
 /// Writes a view of a script. Each stanza of it is read once and each page of its body filled once where it is opened, and
 /// nothing else is counted. An error is the status that the form ends with (docs/RULES.md, "The program"): with WriteFault or
@@ -63,7 +64,10 @@ fn show_opened<O: Sink, S: Steps>(
     if lacks_view(view, &script) {
         return Err(Status::NotLocked);
     }
-    write_view(alloc, view, &script, output)
+    let shown = write_view(alloc, view, &script, output);
+    // The program ends here: nothing needs its memory back.
+    mem::forget(script);
+    shown
 }
 
 /// Whether a script hasn't this view: a packet where its pages aren't locked, and no other.

@@ -32,29 +32,29 @@ pub returns-clause-ends : goal.returns-clause-ends
 returns-clause-ends g c =
     let from = counts_of (g.S.Steps.reads c.args.steps.now) (g.S.Steps.fills c.args.steps.now) in
     let opened = counts_of (g.S.Steps.reads c.open_desk.new.steps) (g.S.Steps.fills c.open_desk.new.steps) in
-    let to = counts_of (g.S.Steps.reads c.session.new.steps) (g.S.Steps.fills c.session.new.steps) in
+    let to = counts_of (g.S.Steps.reads c.session-ended.new.steps) (g.S.Steps.fills c.session-ended.new.steps) in
     let old = outside (g.I.Source.state c.args.input.now) (g.O.Sink.state c.args.output.now) (g.F.Shelf.state c.args.shelf.now) in
-    let new = outside (g.I.Source.state c.session.new.input) (g.O.Sink.state c.session.new.output) (g.F.Shelf.state c.session.new.shelf) in
+    let new = outside (g.I.Source.state c.session-ended.new.input) (g.O.Sink.state c.session-ended.new.output) (g.F.Shelf.state c.session-ended.new.shelf) in
     let between = g.F.Shelf.state c.open_desk.new.shelf in
-    let after = at_shelf c.session.new.responder (g.F.Shelf.state c.session.new.shelf) to in
-    let begun = subst (λ (room : RoomState). SessionEnds AnswersRoomLine StopsAtRoomLine (streams (g.I.Source.state c.open_desk.new.input) old.sink) (streams new.source new.sink) (room_at c.args.name.now room between opened) after c.session.result)
-    c.open.ensures.room c.session.ensures.ends in
-    let ends = subst (λ (source : SourceState). SessionEnds AnswersRoomLine StopsAtRoomLine (streams source old.sink) (streams new.source new.sink) (room_at c.args.name.now (opened_room c.in-Ok.desk) between opened) after c.session.result)
+    let after = at_shelf c.session-ended.new.responder (g.F.Shelf.state c.session-ended.new.shelf) to in
+    let begun = subst (λ (room : RoomState). SessionEnds AnswersRoomLine StopsAtRoomLine (streams (g.I.Source.state c.open_desk.new.input) old.sink) (streams new.source new.sink) (room_at c.args.name.now room between opened) after c.session-ended.result)
+    c.open.ensures.room c.session-ended.ensures.ends in
+    let ends = subst (λ (source : SourceState). SessionEnds AnswersRoomLine StopsAtRoomLine (streams source old.sink) (streams new.source new.sink) (room_at c.args.name.now (opened_room c.in-Ok.desk) between opened) after c.session-ended.result)
     (ap g.I.Source.state c.open_desk.ensures.source_kept) begun in
-    let held = room-held c.args.name.now old new from opened to between c.in-Ok.desk after c.session.result c.in-Ok.ensures.opened c.in-Ok.ensures.counts ends refl refl in
-    subst (RoomEnds c.args.name.now old new from to) (sym c.from.ensures) (held-ends (HeldRoom c.args.name.now old new from to) c.args.name.now old new from to c.session.result held)
+    let held = room-held c.args.name.now old new from opened to between c.in-Ok.desk after c.session-ended.result c.in-Ok.ensures.opened c.in-Ok.ensures.counts ends refl refl in
+    subst (RoomEnds c.args.name.now old new from to) (sym c.from.ensures) (held-ends (HeldRoom c.args.name.now old new from to) c.args.name.now old new from to c.session-ended.result held)
 
 pub returns-clause-others : goal.returns-clause-others
 returns-clause-others g c =
     let from = counts_of (g.S.Steps.reads c.args.steps.now) (g.S.Steps.fills c.args.steps.now) in
     let opened = counts_of (g.S.Steps.reads c.open_desk.new.steps) (g.S.Steps.fills c.open_desk.new.steps) in
-    let to = counts_of (g.S.Steps.reads c.session.new.steps) (g.S.Steps.fills c.session.new.steps) in
+    let to = counts_of (g.S.Steps.reads c.session-ended.new.steps) (g.S.Steps.fills c.session-ended.new.steps) in
     let old = outside (g.I.Source.state c.open_desk.new.input) (g.O.Sink.state c.args.output.now) (g.F.Shelf.state c.args.shelf.now) in
-    let new = outside (g.I.Source.state c.session.new.input) (g.O.Sink.state c.session.new.output) (g.F.Shelf.state c.session.new.shelf) in
+    let new = outside (g.I.Source.state c.session-ended.new.input) (g.O.Sink.state c.session-ended.new.output) (g.F.Shelf.state c.session-ended.new.shelf) in
     let between = g.F.Shelf.state c.open_desk.new.shelf in
-    let after = at_shelf c.session.new.responder (g.F.Shelf.state c.session.new.shelf) to in
+    let after = at_shelf c.session-ended.new.responder (g.F.Shelf.state c.session-ended.new.shelf) to in
     let name = c.args.name.now in
-    let ends = subst (λ (room : RoomState). SessionEnds AnswersRoomLine StopsAtRoomLine (streams old.source old.sink) (streams new.source new.sink) (room_at name room between opened) after c.session.result)
-    c.open.ensures.room c.session.ensures.ends in
+    let ends = subst (λ (room : RoomState). SessionEnds AnswersRoomLine StopsAtRoomLine (streams old.source old.sink) (streams new.source new.sink) (room_at name room between opened) after c.session-ended.result)
+    c.open.ensures.room c.session-ended.ensures.ends in
     subst (λ (files : Option Files). Changes files after.shelf.files (λ (one other : Files). KeepsAllBut one other name (records_name name))) c.open_desk.ensures.files_kept
-    (room-others name c.in-Ok.desk between opened old new after c.session.result ends)
+    (room-others name c.in-Ok.desk between opened old new after c.session-ended.result ends)
