@@ -250,7 +250,8 @@ def long_files(place):
         ran = place.run("collate", old, "f.desk")
         yield from differs(f"{old} collated with sheets past their limit", ran, (4, b"", "fountain: the text is too long\n"))
     os.truncate(long, 268_435_456)
-    yield from differs("sheets at their limit", place.run("collate", "f", "f.desk"), (13, b"", "fountain: not printed sheets, file 1 sheet 0\n"))
+    ran = place.run("collate", "f", "f.desk")
+    yield from differs("sheets at their limit", ran, (13, b"", "fountain: not printed sheets, file 1 sheet 0\n"))
 
 
 def old_versions(place):
