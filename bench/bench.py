@@ -11,6 +11,7 @@ much longer it took than at half the size, the ratio to `fold | pr`, and that of
 """
 
 import argparse
+import concurrent.futures
 import json
 import os
 import pathlib
@@ -225,13 +226,15 @@ def peak_memory(path):
 
 
 def session_peak(path, commands):
-    """The peak memory of one session in bytes: asked for before each piece of its replies is read."""
-    peak = 0
-    with open(commands, "rb") as asked:
-        with subprocess.Popen([PROGRAM, "desk", path], stdin=asked, stdout=subprocess.PIPE) as process:
-            while process.stdout.read1(1 << 16):
-                peak = max(peak, resident_peak(process))
-    return peak
+    """The peak memory of one session in bytes: asked for once all is answered, before the session ends."""
+    asked = commands.read_bytes()
+    with subprocess.Popen([PROGRAM, "desk", path], stdin=subprocess.PIPE, stdout=subprocess.PIPE) as process:
+        with concurrent.futures.ThreadPoolExecutor(1) as pool:
+            sent = pool.submit(lambda: (process.stdin.write(asked), process.stdin.flush()))
+            for _ in asked.splitlines():
+                process.stdout.readline()
+            sent.result()
+            return resident_peak(process)
 
 
 def main():

@@ -414,9 +414,9 @@ def bad_times(place):
             yield from differs(f"{what}, leaves", sorted(name for name in whole if place.files().get(name) != whole[name]), [])
         again()
         place.pass_saves("break")
-        yield from refuses(f"{words[0]}, whose desk ends before its save", place, 1, "s: the desk ended", *words)
+        yield from refuses(f"{words[0]}, whose desk ends before its save", place, 1, "s: the program ended", *words)
         place.pass_saves(behind="break", replies="sed -u /digest/d")
-        yield from differs(f"{words[0]}, whose desk ends behind its save", place.run(*words), (1, "", f"{words[0]}: s: the desk ended\n"))
+        yield from differs(f"{words[0]}, whose desk ends behind its save", place.run(*words), (1, "", f"{words[0]}: s: the program ended\n"))
         left = sorted(name for name in whole if place.files().get(name) != whole[name])
         records = [name for name in whole if name.startswith("s.kept/") and name.endswith(".desk")]
         yield from differs("the files that lack then", left, [max(records)])
