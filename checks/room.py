@@ -175,14 +175,17 @@ def at_once(*writers):
         thread.join()
 
 
-def kill_writer(writer, seat):
-    """Kills a writer, a moment after something of it was accepted."""
+def await_writer(name, seat):
+    """Waits until something of a writer is accepted."""
     end = time.monotonic() + SECONDS
     while time.monotonic() < end:
         told = seat.send(lines_of({"do": "since", "version": 0}))
-        if "changes" not in told or any(change["seat"] == "carl" for change in told["changes"]):
+        if "changes" not in told or any(change["seat"] == name for change in told["changes"]):
             break
-        time.sleep(0.05)
+        time.sleep(0.02)
+
+
+def kill_soon(writer):
     time.sleep(0.2)
     writer.kill()
     writer.wait()
@@ -221,9 +224,10 @@ def two_writers(folder):
 def three_writers(folder):
     """Two keep the text by what they are told, and write from what they saw some versions before; one writes until it is killed."""
     with Share(folder) as share:
-        seats = [share.seat(name, Reader) for name in ("anna", "bert")]
         third = subprocess.Popen([sys.executable, "-c", WRITER, share.place, "carl"])
-        at_once(*((seat.write, random.Random(seat.name)) for seat in seats), (kill_writer, third, share.seat("watch")))
+        await_writer("carl", share.seat("watch"))
+        seats = [share.seat(name, Reader) for name in ("anna", "bert")]
+        at_once(*((seat.write, random.Random(seat.name)) for seat in seats), (kill_soon, third))
         for seat in seats:
             at_once((seat.write, random.Random(seat.name + " alone")))
         seats[0].catch_up()
