@@ -54,7 +54,12 @@ class Place:
     def run(self, script, *words, **how):
         """The status of a script or of the program, what it wrote and what it told."""
         ran = self.start(script, *words, **how)
-        out, said = ran.communicate(timeout=4 * SECONDS)
+        try:
+            out, said = ran.communicate(timeout=4 * SECONDS)
+        except subprocess.TimeoutExpired:
+            # Its desk ends with it.
+            ran.kill()
+            raise
         return ran.returncode, out.decode(), said.decode()
 
     def desk(self, *commands, file="s"):
