@@ -28,7 +28,8 @@ fn fetch_sheets<F: Shelf>(alloc: Global, name: &str, shelf: &mut F) -> Result<Ve
 
 /// The collation of the files under two names, both fetched first.
 fn collated<F: Shelf>(alloc: Global, old: &str, new: &str, shelf: &mut F) -> Result<Vec<u8>, Status>
-    ensures comes { IfOk result (λ bytes. Comes old.now new.now (F.state shelf.old) (F.state shelf.new) (gives bytes.items)) }
+    ensures comes { IfOk result
+        (λ bytes. Comes old.now new.now (F.state shelf.old) (F.state shelf.new) (gives bytes.items)) }
     ensures refused { IfErr result (NotCollated old.now new.now (F.state shelf.old) (F.state shelf.new)) }
     ensures files_kept { (F.state shelf.new).files ≡ (F.state shelf.old).files }
 {
@@ -45,7 +46,8 @@ pub fn collate_files<O: Sink, F: Shelf>(
     output: &mut O,
     shelf: &mut F,
 ) -> Status
-    ensures ends { CollateEnds old.now new.now (F.state shelf.old) (F.state shelf.new) (O.state output.old) (O.state output.new) result }
+    ensures ends { CollateEnds old.now new.now (F.state shelf.old) (F.state shelf.new)
+        (O.state output.old) (O.state output.new) result }
     ensures files_kept { (F.state shelf.new).files ≡ (F.state shelf.old).files }
 {
     match collated(alloc, old, new, shelf) {

@@ -68,10 +68,19 @@ fn reply_to_seat<F: Shelf, S: Steps>(
     steps: &mut S,
 ) -> Result<Reply, AllocError>
     requires version { (room.old).version + 1 < 2 ^ 64 }
-    ensures reply { IfOk result (λ reply. SeatReplies (room_at name.now room.old (F.state shelf.old) (counts_of (S.reads steps.old) (S.fills steps.old))) (Ok (room_line_of asked)) (room_at name.now room.new (F.state shelf.new) (counts_of (S.reads steps.new) (S.fills steps.new))) (reply_of reply)) }
-    ensures stops { OnErr result (SeatStops (room_at name.now room.old (F.state shelf.old) (counts_of (S.reads steps.old) (S.fills steps.old))) (Ok (room_line_of asked)) (room_at name.now room.new (F.state shelf.new) (counts_of (S.reads steps.new) (S.fills steps.new)))) }
-    ensures counts { OnOk result (SeatCounts room.old (Ok (room_line_of asked)) (counts_of (S.reads steps.old) (S.fills steps.old)) (counts_of (S.reads steps.new) (S.fills steps.new))) }
-    ensures at_most { OnErr result (SeatCountsAtMost room.old (Ok (room_line_of asked)) (counts_of (S.reads steps.old) (S.fills steps.old)) (counts_of (S.reads steps.new) (S.fills steps.new))) }
+    ensures reply { IfOk result (λ reply. SeatReplies
+        (room_at name.now room.old (F.state shelf.old) (counts_of (S.reads steps.old) (S.fills steps.old)))
+        (Ok (room_line_of asked))
+        (room_at name.now room.new (F.state shelf.new) (counts_of (S.reads steps.new) (S.fills steps.new)))
+        (reply_of reply)) }
+    ensures stops { OnErr result (SeatStops
+        (room_at name.now room.old (F.state shelf.old) (counts_of (S.reads steps.old) (S.fills steps.old)))
+        (Ok (room_line_of asked))
+        (room_at name.now room.new (F.state shelf.new) (counts_of (S.reads steps.new) (S.fills steps.new)))) }
+    ensures counts { OnOk result (SeatCounts room.old (Ok (room_line_of asked))
+        (counts_of (S.reads steps.old) (S.fills steps.old)) (counts_of (S.reads steps.new) (S.fills steps.new))) }
+    ensures at_most { OnErr result (SeatCountsAtMost room.old (Ok (room_line_of asked))
+        (counts_of (S.reads steps.old) (S.fills steps.old)) (counts_of (S.reads steps.new) (S.fills steps.new))) }
     ensures follows { Follows (room.old).desk (room.new).desk }
     ensures version { (room.new).version ≤ (room.old).version + 1 }
 {
@@ -100,10 +109,19 @@ fn reply_to_room_line<F: Shelf, S: Steps>(
     steps: &mut S,
 ) -> Result<Reply, AllocError>
     requires version { (room.old).version + 1 < 2 ^ 64 }
-    ensures reply { IfOk result (λ reply. SeatReplies (room_at name.now room.old (F.state shelf.old) (counts_of (S.reads steps.old) (S.fills steps.old))) (room_line_of_line line.now) (room_at name.now room.new (F.state shelf.new) (counts_of (S.reads steps.new) (S.fills steps.new))) (reply_of reply)) }
-    ensures stops { OnErr result (SeatStops (room_at name.now room.old (F.state shelf.old) (counts_of (S.reads steps.old) (S.fills steps.old))) (room_line_of_line line.now) (room_at name.now room.new (F.state shelf.new) (counts_of (S.reads steps.new) (S.fills steps.new)))) }
-    ensures counts { OnOk result (SeatCounts room.old (room_line_of_line line.now) (counts_of (S.reads steps.old) (S.fills steps.old)) (counts_of (S.reads steps.new) (S.fills steps.new))) }
-    ensures at_most { OnErr result (SeatCountsAtMost room.old (room_line_of_line line.now) (counts_of (S.reads steps.old) (S.fills steps.old)) (counts_of (S.reads steps.new) (S.fills steps.new))) }
+    ensures reply { IfOk result (λ reply. SeatReplies
+        (room_at name.now room.old (F.state shelf.old) (counts_of (S.reads steps.old) (S.fills steps.old)))
+        (room_line_of_line line.now)
+        (room_at name.now room.new (F.state shelf.new) (counts_of (S.reads steps.new) (S.fills steps.new)))
+        (reply_of reply)) }
+    ensures stops { OnErr result (SeatStops
+        (room_at name.now room.old (F.state shelf.old) (counts_of (S.reads steps.old) (S.fills steps.old)))
+        (room_line_of_line line.now)
+        (room_at name.now room.new (F.state shelf.new) (counts_of (S.reads steps.new) (S.fills steps.new)))) }
+    ensures counts { OnOk result (SeatCounts room.old (room_line_of_line line.now)
+        (counts_of (S.reads steps.old) (S.fills steps.old)) (counts_of (S.reads steps.new) (S.fills steps.new))) }
+    ensures at_most { OnErr result (SeatCountsAtMost room.old (room_line_of_line line.now)
+        (counts_of (S.reads steps.old) (S.fills steps.old)) (counts_of (S.reads steps.new) (S.fills steps.new))) }
     ensures follows { Follows (room.old).desk (room.new).desk }
     ensures version { (room.new).version ≤ (room.old).version + 1 }
 {

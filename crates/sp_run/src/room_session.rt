@@ -1,9 +1,8 @@
 //! A session of a room (docs/RULES.md, "The program" and "Sessions").
 ghost use Rattle.sp_opening.specs.Records.{records_name};
 ghost use Rattle.sp_opening.specs.Saving.{Changes, KeepsAllBut};
-ghost use Rattle.sp_opening.specs.Unopened.{outside};
-ghost use Rattle.spec_session.specs.Runs.{counts_of};
 ghost use Rattle.sp_run.specs.RoomEnding.{RoomEnds};
+ghost use Rattle.sp_run.specs.World.{world};
 
 use crate::room_lines::RoomLines;
 use sp_desk_session::open_desk;
@@ -23,8 +22,12 @@ pub fn hold_room<I: Source, O: Sink, F: Shelf, S: Steps>(
     shelf: &mut F,
     steps: &mut S,
 ) -> Status
-    ensures ends { RoomEnds name.now (outside (I.state input.old) (O.state output.old) (F.state shelf.old)) (outside (I.state input.new) (O.state output.new) (F.state shelf.new)) (counts_of (S.reads steps.old) (S.fills steps.old)) (counts_of (S.reads steps.new) (S.fills steps.new)) result }
-    ensures others { Changes (F.state shelf.old).files (F.state shelf.new).files (λ old new. KeepsAllBut old new name.now (records_name name.now)) }
+    ensures ends { let here = world I.state O.state F.state S.reads S.fills in
+        let before = here input.old output.old shelf.old steps.old in
+        let after = here input.new output.new shelf.new steps.new in
+        RoomEnds name.now before.told after.told before.counts after.counts result }
+    ensures others { Changes (F.state shelf.old).files (F.state shelf.new).files
+        (λ old new. KeepsAllBut old new name.now (records_name name.now)) }
 {
     let desk = match open_desk(alloc, name, input, shelf, steps) {
         Ok(desk) => desk,

@@ -17,7 +17,8 @@ pub fn write_sample<O: Sink, S: Steps>(
     steps: &mut S,
 ) -> Result<(), Status>
     requires { rooms ≤ most_rooms }
-    ensures { SampleEndsAs rooms (O.state output.old) (O.state output.new) (counts_of (S.reads steps.old) (S.fills steps.old)) (counts_of (S.reads steps.new) (S.fills steps.new)) result }
+    ensures { SampleEndsAs rooms (O.state output.old) (O.state output.new)
+        (counts_of (S.reads steps.old) (S.fills steps.old)) (counts_of (S.reads steps.new) (S.fills steps.new)) result }
 {
     let line = run_sample(alloc, rooms, steps)?;
     write_whole(output, line.as_slice())?;

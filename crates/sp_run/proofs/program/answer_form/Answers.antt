@@ -1,29 +1,29 @@
 use Rattle.std.proofs.Common.{refl}
-use Rattle.spec_session.specs.Runs.{counts_of}
 use Rattle.sp_words.specs.declared.form.Form.TheVariants as forms
-use Rattle.sp_opening.specs.Unopened.{outside}
-use Rattle.sp_run.specs.Answering.{lent}
+use Rattle.sp_run.specs.World.{world}
 use Rattle.sp_run.proofs.Answering.{asked-as, untold-ends}
 use Rattle.sp_run.proofs.program.answer_form.Goals as goal
 
 pub returns-in-Ok : goal.returns-in-Ok
 returns-in-Ok g c =
+    let tell = world g.I.Source.state g.O.Sink.state g.F.Shelf.state g.S.Steps.reads g.S.Steps.fills in
     let was = c.args in
     let now = c.show_script.new in
     let it = c.in-Ok.ensures in
     asked-as _ _ _ _ c.args.form (forms.Show c.in-Show.view c.in-Show.origin)
-    (lent was.input.now was.output.now was.shelf.now was.steps.now (outside (g.I.Source.state was.input.now) (g.O.Sink.state was.output.now) (g.F.Shelf.state was.shelf.now)) (counts_of (g.S.Steps.reads was.steps.now) (g.S.Steps.fills was.steps.now)))
-    (lent now.input now.output now.shelf now.steps (outside (g.I.Source.state now.input) (g.O.Sink.state now.output) (g.F.Shelf.state now.shelf)) (counts_of (g.S.Steps.reads now.steps) (g.S.Steps.fills now.steps)))
+    (tell was.input.now was.output.now was.shelf.now was.steps.now)
+    (tell now.input now.output now.shelf now.steps)
     _ c.in-Show.is (it.ends, it.counts) (record { source = it.source_kept; shelf = it.shelf_kept; files = it.files_kept; budget = it.budget })
 
 pub returns-in-Err : goal.returns-in-Err
 returns-in-Err g c =
+    let tell = world g.I.Source.state g.O.Sink.state g.F.Shelf.state g.S.Steps.reads g.S.Steps.fills in
     let was = c.args in
     let now = c.show_script.new in
     let it = c.in-Err.ensures in
     asked-as _ _ _ _ c.args.form (forms.Show c.in-Show.view c.in-Show.origin)
-    (lent was.input.now was.output.now was.shelf.now was.steps.now (outside (g.I.Source.state was.input.now) (g.O.Sink.state was.output.now) (g.F.Shelf.state was.shelf.now)) (counts_of (g.S.Steps.reads was.steps.now) (g.S.Steps.fills was.steps.now)))
-    (lent now.input now.output now.shelf now.steps (outside (g.I.Source.state now.input) (g.O.Sink.state now.output) (g.F.Shelf.state now.shelf)) (counts_of (g.S.Steps.reads now.steps) (g.S.Steps.fills now.steps)))
+    (tell was.input.now was.output.now was.shelf.now was.steps.now)
+    (tell now.input now.output now.shelf now.steps)
     c.in-Err.status c.in-Show.is (it.ends.0, it.counts) (record { source = it.source_kept; shelf = it.shelf_kept; files = it.files_kept; budget = it.budget })
 
 pub returns-in-Desk : goal.returns-in-Desk
