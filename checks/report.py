@@ -1,8 +1,14 @@
-"""How checks tell what they found."""
+"""How checks tell what they found, and how signals come to them and to what they run."""
 
 import pathlib
+import signal
 import subprocess
 import tempfile
+
+# As at a terminal, also where a check was begun in the background or by nohup.
+for number, handler in ((signal.SIGINT, signal.default_int_handler), (signal.SIGTERM, signal.SIG_DFL), (signal.SIGHUP, signal.SIG_DFL)):
+    if signal.getsignal(number) == signal.SIG_IGN:
+        signal.signal(number, handler)
 
 
 def found_by(check, place):
