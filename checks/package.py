@@ -215,6 +215,8 @@ def completed_by(shell, package):
     home, record = package.folder / shell, package.folder / f"{shell}.record"
     commands = home / "bin"
     commands.mkdir(parents=True)
+    # Without this folder fish makes completions of all manual pages, and goes on behind its end.
+    (home / ".local/share/fish/generated_completions").mkdir(parents=True)
     record.write_text("")
     for name in ["fountain", *(path.name for path in (TOP / "scripts").glob("fountain-*")), "settled"]:
         (commands / name).write_text(WRITES)
