@@ -33,7 +33,7 @@ fn width_of(piece: &str) -> u16
 }
 
 /// Whether a text is printable ASCII alone, of which each byte is a cluster of one column.
-fn is_printable(text: &str) -> bool
+pub fn is_printable(text: &str) -> bool
     ensures { result ≡ list_all is_printable text.now }
 {
     text.as_bytes()
