@@ -97,7 +97,11 @@ fn seen_runs(alloc: Global, kept: &[Span], looks: &[Option<u8>]) -> Result<Vec<R
 fn has_markup(text: &str) -> bool
     ensures { result ≡ list_any is_markup text.now }
 {
-    text.as_bytes().iter().any(|byte| is_markup(*byte))
+    let mut found = false;
+    for byte in text.as_bytes() {
+        found |= is_markup(*byte);
+    }
+    found
 }
 
 /// The runs of parts that are seen as they stand.

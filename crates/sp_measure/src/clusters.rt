@@ -33,12 +33,14 @@ fn width_of(piece: &str) -> u16
 }
 
 /// Whether a text is printable ASCII alone, of which each byte is a cluster of one column.
-fn is_printable(text: &str) -> bool
+pub fn is_printable(text: &str) -> bool
     ensures { result ≡ list_all is_printable text.now }
 {
-    text.as_bytes()
-        .iter()
-        .all(|byte| (0x20..=0x7E).contains(byte))
+    let mut printable = true;
+    for byte in text.as_bytes() {
+        printable &= (0x20..=0x7E).contains(byte);
+    }
+    printable
 }
 
 /// The columns that a text of at most 4,096 bytes takes: the sum of the widths of its clusters, the text as one run

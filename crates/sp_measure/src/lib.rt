@@ -3,6 +3,7 @@
 
 mod clusters;
 mod cuts;
+mod list;
 mod rows;
 
 pub use clusters::columns;

@@ -5,8 +5,8 @@ use Rattle.spec_pages.proofs.CutLemmas.{IsOver, Shortens, Shortens-first_cut, fi
 use Rattle.sp_measure.proofs.cuts.first_cut.Goals as goal
 
 pub returns-in-Some : goal.returns-in-Some
-returns-in-Some c =
-    let clusters = c.args.clusters.now in
+returns-in-Some g c =
+    let clusters = g.C.ClusterList.clusters c.args.clusters.now in
     let place = c.fitting-place.result in
     let fits = c.fitting-place.ensures in
     let inside : place < length clusters = omega arith in
@@ -17,8 +17,8 @@ returns-in-Some c =
     record { value = sym value; within = short.within; shorter = short.shorter }
 
 pub returns-in-None-clause-value : goal.returns-in-None-clause-value
-returns-in-None-clause-value c =
-    let clusters = c.args.clusters.now in
+returns-in-None-clause-value g c =
+    let clusters = g.C.ClusterList.clusters c.args.clusters.now in
     let place = c.fitting-place.result in
     let fits = c.fitting-place.ensures in
     let inside : place < length clusters = omega arith in

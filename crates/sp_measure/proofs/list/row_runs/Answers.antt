@@ -1,6 +1,6 @@
 use Rattle.std.proofs.Common.{arith}
 use Rattle.std.proofs.lemmas.Grind.{common_steps}
-use Rattle.sp_measure.proofs.rows.row_runs.Goals as goal
+use Rattle.sp_measure.proofs.list.row_runs.Goals as goal
 
 pub loop-cluster-preserved : goal.loop-cluster-preserved
 loop-cluster-preserved c = grind (arith, common_steps)
