@@ -22,16 +22,17 @@ use Rattle.spec_relay.specs.Moved.{moved_place, moved_block, moved_group, speake
 use Rattle.spec_relay.specs.RelaidBlocks.{AreRelaid}
 use Rattle.spec_relay.specs.RelaidStanzas.{OpensApart, StanzasRelaid}
 use Rattle.spec_relay.proofs.PlacedElements.{element_first, spoken-firsts}
-use Rattle.spec_relay.proofs.LayoutParts.{laid_of, laid-append, rows_in, breaks-append}
+use Rattle.spec_relay.proofs.LayoutParts.{laid_of, laid-append}
 use Rattle.spec_relay.proofs.RelaidParts.{ElementsRelaid, elements-relaid}
 use Rattle.spec_relay.proofs.MovedElements.{GroupStays}
 use Rattle.spec_relay.proofs.RelaidStanzas.{front-stands, old-last, stanzas-relaid}
 use Rattle.spec_relay.proofs.Parts.{behind-append, behind-settled}
 use Rattle.spec_relay.proofs.StanzaBlocks.{lines-append, blocks-moved, blocks-three, blocks-past, any-blocks, opens-more}
 use Rattle.spec_reread.proofs.WindowBlocks.{blocks-append}
-use Rattle.spec_layout.specs.Layout.{is_title_element, in_body, breaks_from}
-use Rattle.sp_layout.specs.LaidOut.{LayoutOf, layout_behind}
+use Rattle.spec_layout.specs.Layout.{is_title_element, in_body}
+use Rattle.sp_layout.specs.LaidOut.{break_places, layout_behind, LayoutOf}
 use Rattle.sp_layout.specs.Speaking.{SpeakersOf, speakers_after}
+use Rattle.sp_runs.proofs.RunLaws.{slice-parts}
 use Rattle.sp_reread.specs.Cache.{GivesBack, SwappedState}
 use Rattle.sp_relay.specs.declared.edges.PartEdge.{PartEdge}
 use Rattle.sp_relay.specs.declared.kept.PartPlaces.{PartPlaces}
@@ -40,7 +41,8 @@ use Rattle.sp_relay.specs.Relaid.{IsRelaid, places_of}
 use Rattle.sp_relay.specs.Speeches.{LastOf, blocks_behind}
 use Rattle.sp_relay.specs.Edges.{CanPart, CanBegin, CanEnd, IsEdge, IsPartBegin, IsPartEnd, edge_places}
 use Rattle.sp_relay.specs.Edited.{AreAlike, IsEdited, WasLaid, last_behind, old_speakers, window_start, window_end, window_was}
-use Rattle.sp_relay.proofs.StanzaLists.{take-split, slice-split, part-four, opens-slice}
+use Rattle.sp_relay.proofs.BreakLaws.{breaks-append, elements_in}
+use Rattle.sp_relay.proofs.StanzaLists.{take-split, part-four, opens-slice}
 use Rattle.sp_relay.proofs.SpeakerLaws.{behind-quiet}
 use Rattle.sp_relay.proofs.SpeechLaws.{slice-low}
 use Rattle.sp_relay.proofs.EdgeLaws.{EdgeIs, edge-is, edge-last, can-part}
@@ -207,7 +209,7 @@ module _ (was_lines : List LineState) (lines : TextState) (stanzas : List Stanza
     window =
         let one = begins.within in
         let two = ends.low in
-        slice-split stanzas start.stanza at stop.stanza one (omega (arith, two)) ∙ ap (λ (ss : List StanzaOf). ahead ++ ss) (slice-split stanzas at to stop.stanza (omega arith) two)
+        sym (slice-parts stanzas start.stanza at stop.stanza one (omega (arith, two))) ∙ ap (λ (ss : List StanzaOf). ahead ++ ss) (sym (slice-parts stanzas at to stop.stanza (omega arith) two))
 
     -- The stanzas of both texts, of which some behind the window are laid out anew.
     old-front : olds ≡ front ++ (ahead ++ (gone ++ drop to stanzas))
@@ -321,7 +323,7 @@ module _ (was_lines : List LineState) (lines : TextState) (stanzas : List Stanza
           record {
             titles = ap (λ (e : PartEdge). e.titles) zero ∙ sym (ap (λ (gs : List (Group Spoken)). length (laid_of is_title_element it.before.lines gs)) nothing);
             body = ap (λ (e : PartEdge). e.body) zero ∙ sym (ap (λ (gs : List (Group Spoken)). length (laid_of in_body it.before.lines gs)) nothing);
-            breaks = ap (λ (e : PartEdge). e.breaks) zero ∙ sym (ap (λ (gs : List (Group Spoken)). length (breaks_from it.before.lines 0 gs)) nothing);
+            breaks = ap (λ (e : PartEdge). e.breaks) zero ∙ sym (ap (λ (gs : List (Group Spoken)). length (break_places 0 gs)) nothing);
           }
       | inr both ↦
           edge-is on it.before.lines layout it.of.was elements.elements_front (elements.elements_gone ++ elements.elements_rest) elements.old first start front-low
@@ -358,9 +360,9 @@ module _ (was_lines : List LineState) (lines : TextState) (stanzas : List Stanza
         two.titles ∙ ap (λ (es : List ElementOf). length es) (laid-append is_title_element b ef eg) ∙ length-append (laid_of is_title_element b ef) (laid_of is_title_element b eg) in
         let body : stop.body ≡ length (laid_of in_body b ef) + length (laid_of in_body b eg) =
         two.body ∙ ap (λ (es : List ElementOf). length es) (laid-append in_body b ef eg) ∙ length-append (laid_of in_body b ef) (laid_of in_body b eg) in
-        let rows : 0 + rows_in b ef ≡ rows_in b ef = omega arith in
-        let breaks : stop.breaks ≡ length (breaks_from b 0 ef) + length (breaks_from b (rows_in b ef) eg) =
-        two.breaks ∙ ap (λ (ns : List ℕ). length ns) (breaks-append b 0 ef eg ∙ ap (λ n. breaks_from b 0 ef ++ breaks_from b n eg) rows) ∙ length-append (breaks_from b 0 ef) (breaks_from b (rows_in b ef) eg) in
+        let count : 0 + elements_in b ef ≡ elements_in b ef = omega arith in
+        let breaks : stop.breaks ≡ length (break_places 0 ef) + length (break_places (elements_in b ef) eg) =
+        two.breaks ∙ ap (λ (ns : List ℕ). length ns) (breaks-append b 0 ef eg ∙ ap (λ n. break_places 0 ef ++ break_places n eg) count) ∙ length-append (break_places 0 ef) (break_places (elements_in b ef) eg) in
         places-same _ _ _ _ _ _ _ _ _ _ _ _ was end one.titles titles one.body body one.breaks breaks
 
     -- The blocks behind the part, in the text after the edit.

@@ -1,5 +1,5 @@
 -- Parts of lists of stanzas.
-use Rattle.std.proofs.Common.{◌≡◌, ℕ, suc, ◌+◌, ◌-◌, ◌<◌, ◌≤◌, true, false, List, [], ◌∷◌, ◌++◌, take, drop, slice_get, slice_range, Some, sym, ap, ap₂, subst, ◌∙◌, arith, append_assoc, take-add, drop-drop}
+use Rattle.std.proofs.Common.{◌≡◌, ℕ, suc, ◌+◌, ◌-◌, ◌<◌, ◌≤◌, true, false, List, [], ◌∷◌, ◌++◌, take, drop, slice_get, slice_range, Some, sym, ap, ap₂, subst, ◌∙◌, arith, append_assoc, take-add}
 use Rattle.std.proofs.lemmas.Option.{get_or_from_slice_get}
 use Rattle.spec_script.specs.BlockValues.{StanzaOf}
 use Rattle.spec_relay.specs.RelaidStanzas.{first_apart, OpensApart}
@@ -10,12 +10,6 @@ pub take-split : {X : Type 0} (xs : List X) (i j : ℕ) → i ≤ j → take j x
 take-split xs i j order =
     let same : j ≡ i + (j - i) = omega (arith, order) in
     ap (λ n. take n xs) same ∙ take-add i (j - i) xs
-
-pub slice-split : {X : Type 0} (xs : List X) (i j k : ℕ) → i ≤ j → j ≤ k → slice_range xs i k ≡ slice_range xs i j ++ slice_range xs j k
-slice-split xs i j k one two =
-    let count : k - i ≡ (j - i) + (k - j) = omega (arith, one, two) in
-    let same : i + (j - i) ≡ j = omega (arith, one) in
-    ap (λ n. take n (drop i xs)) count ∙ take-add (j - i) (k - j) (drop i xs) ∙ ap (λ ys. slice_range xs i j ++ take (k - j) ys) (drop-drop (j - i) i xs ∙ ap (λ n. drop n xs) same)
 
 pub part-four : {X : Type 0} (ws xs ys zs : List X) → ws ++ (xs ++ (ys ++ zs)) ≡ (ws ++ (xs ++ ys)) ++ zs
 part-four ws xs ys zs = ap (λ those. ws ++ those) (sym (append_assoc xs ys zs)) ∙ sym (append_assoc ws (xs ++ ys) zs)

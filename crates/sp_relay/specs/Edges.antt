@@ -1,5 +1,5 @@
 -- Where a part of a layout that is laid out anew begins and ends (docs/RULES.md, "Windows").
-use Rattle.std.specs.Prelude.{◌≡◌, ◌⊎◌, ℕ, ◌+◌, ◌<◌, ◌≤◌, false, Bool, ◌&&◌, List, [], ◌∷◌, ◌++◌, length, take, drop, slice_range, slice_index, AllPairs}
+use Rattle.std.specs.Prelude.{◌≡◌, ◌⊎◌, ℕ, ◌+◌, ◌<◌, ◌≤◌, true, false, Bool, ◌&&◌, List, [], ◌∷◌, ◌++◌, length, take, drop, slice_range, AllPairs}
 use Rattle.spec_script.specs.BlockValues.{StanzaOf}
 use Rattle.spec_reread.specs.Windows.{stanza_lines_in}
 use Rattle.spec_relay.specs.Moved.{moved_place}
@@ -9,7 +9,6 @@ use Rattle.sp_layout.specs.LaidOut.{LayoutOf}
 use Rattle.sp_reread.specs.Cache.{SwappedState}
 use Rattle.sp_relay.specs.declared.edges.PartEdge.{PartEdge}
 use Rattle.sp_relay.specs.declared.kept.PartPlaces.{PartPlaces}
-use Rattle.sp_relay.specs.Kept.{rows_to}
 
 -- A layout can be parted at a line.
 pub record CanPart (layout : LayoutOf) (line : ℕ) : Type 0 where
@@ -17,21 +16,11 @@ pub record CanPart (layout : LayoutOf) (line : ℕ) : Type 0 where
   pub body : ArePartedAt layout.body.elements line
   pub breaks : AllPairs (λ one other. one ≤ other) layout.breaks
 
--- A part begins or ends at a line: so many elements begin before it, and so many page breaks stand before the row that is then the
--- next, and none at it.
+-- A part begins or ends at a line: so many elements begin before it, and so many of those of the body are page breaks.
 pub record IsEdge (layout : LayoutOf) (line : ℕ) (edge : PartEdge) : Type 0 where
   pub titles : CountsBefore layout.titles.elements line edge.titles
   pub body : CountsBefore layout.body.elements line edge.body
-  pub breaks : CountsBelow layout.breaks (rows_to layout edge.body) edge.breaks
-  pub none : (i : ℕ) → edge.breaks ≤ i → i < length layout.breaks → rows_to layout edge.body < slice_index layout.breaks i
-
--- No edge lies there: right before the row that is then the next a page break stands.
-pub record BreaksAt (layout : LayoutOf) (line : ℕ) : Type 0 where
-  pub count : ℕ
-  pub body : CountsBefore layout.body.elements line count
-  pub place : ℕ
-  pub inside : place < length layout.breaks
-  pub is : slice_index layout.breaks place ≡ rows_to layout count
+  pub breaks : CountsBelow layout.breaks edge.body edge.breaks
 
 -- Before all, and behind all.
 abbrev pub first_edge : PartEdge
@@ -92,10 +81,15 @@ edge_places start stop was end = record {
   more = end;
 }
 
--- No edge lies before any stanza behind the first edge, up to the window, that begins with a block without a caret.
-pub record IsNearestStart (stanzas : List StanzaOf) (at : ℕ) (layout : LayoutOf) (place : ℕ) : Type 0 where
-  pub passed : (i : ℕ) → place < i → i < at → OpensApart (drop i stanzas) → BreaksAt layout (stanza_lines_in (take i stanzas))
+-- No stanza behind the first edge, up to the window, begins with a block without a caret.
+pub record IsNearestStart (stanzas : List StanzaOf) (at place : ℕ) : Type 0 where
+  pub passed : (i : ℕ) → place < i → i < at → OpensApart (drop i stanzas) → ⊥
 
--- The same from the window on before the last edge.
-pub record IsNearestEnd (stanzas : List StanzaOf) (to was end : ℕ) (layout : LayoutOf) (place : ℕ) : Type 0 where
-  pub passed : (i : ℕ) → to ≤ i → i < place → OpensApart (drop i stanzas) → BreaksAt layout (moved_place end was (stanza_lines_in (take i stanzas)))
+-- The same, and it is the window's where both windows begin with such a block.
+pub record IsNearestBegin (stanzas : List StanzaOf) (swapped : SwappedState) (place : ℕ) : Type 0 where
+  pub is : IsNearestStart stanzas swapped.at place
+  pub window : windows_open stanzas swapped ≡ true → place ≡ swapped.at
+
+-- No stanza from the window on before the last edge begins with such a block.
+pub record IsNearestEnd (stanzas : List StanzaOf) (to place : ℕ) : Type 0 where
+  pub passed : (i : ℕ) → to ≤ i → i < place → OpensApart (drop i stanzas) → ⊥

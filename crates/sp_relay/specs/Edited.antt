@@ -4,8 +4,7 @@ use Rattle.std.specs.List.{list_any}
 use Rattle.spec_text.specs.Lines.{LineState, TextState, IsText, line_texts}
 use Rattle.spec_script.specs.BlockValues.{StanzaOf}
 use Rattle.spec_script.specs.Stanzas.{PlacedBlock, blocks_from, stanzas_of}
-use Rattle.spec_layout.specs.Speakers.{spoken_elements}
-use Rattle.spec_layout.specs.Layout.{layout_of}
+use Rattle.spec_layout.specs.Speakers.{spoken_elements, text_elements}
 use Rattle.spec_reread.specs.Settling.{stanza_settles}
 use Rattle.spec_reread.specs.Windows.{stanza_lines_in}
 use Rattle.spec_relay.specs.Moved.{speaker_behind}
@@ -15,7 +14,7 @@ use Rattle.sp_reread.specs.Cache.{GivesBack, SwappedState}
 use Rattle.sp_relay.specs.declared.edges.PartEdge.{PartEdge}
 use Rattle.sp_relay.specs.declared.kept.PartPlaces.{PartPlaces}
 use Rattle.sp_relay.specs.Kept.{places_back}
-use Rattle.sp_relay.specs.Edges.{IsNearestEnd, IsPartBegin, IsPartEnd, edge_places}
+use Rattle.sp_relay.specs.Edges.{IsNearestBegin, IsNearestEnd, IsPartBegin, IsPartEnd, edge_places}
 use Rattle.sp_relay.specs.Speeches.{LastOf}
 
 -- The line with which the window of an edit begins, and the line behind it in the text after the edit and in that before it.
@@ -32,7 +31,7 @@ window_was stanzas swapped = window_start stanzas swapped + stanza_lines_in swap
 -- both texts have the same lines, with their ids and marks.
 pub record WasLaidOf (before : TextState) (lines : List LineState) (stanzas : List StanzaOf) (swapped : SwappedState) (speakers : Bool) (layout : LayoutOf) : Type 0 where
   pub keeps : IsText before
-  pub was : layout ≡ keyed before.lines (layout_of speakers before.lines)
+  pub was : layout ≡ keyed before.lines (text_elements speakers before.lines)
   pub back : GivesBack swapped stanzas (stanzas_of (line_texts before.lines))
   pub front : take (window_start stanzas swapped) before.lines ≡ take (window_start stanzas swapped) lines
   pub rest : drop (window_was stanzas swapped) before.lines ≡ drop (window_end stanzas swapped) lines
@@ -82,13 +81,14 @@ pub record AreAlike (lines : List LineState) (blocks : List PlacedBlock) (speake
   pub on : speakers.on ≡ others.on
   pub same : spoken_elements others.on lines speakers.last blocks ≡ spoken_elements others.on lines others.last blocks
 
--- The part that an edit lays out anew begins with the window or in front of it, and ends at the first edge behind the window. Where it
--- was put in, it stands at these places.
+-- The part that an edit lays out anew begins with the window or at the last edge in front of it, and ends at the first edge behind
+-- the window. Where it was put in, it stands at these places.
 pub record IsEditPart (stanzas : List StanzaOf) (swapped : SwappedState) (layout : LayoutOf) (places : PartPlaces) : Type 0 where
   pub start : PartEdge
   pub stop : PartEdge
   pub come : LayoutOf
   pub begins : IsPartBegin stanzas swapped layout start
   pub ends : IsPartEnd stanzas (swapped.at + swapped.stands) (window_was stanzas swapped) (window_end stanzas swapped) layout stop
-  pub nearest : IsNearestEnd stanzas (swapped.at + swapped.stands) (window_was stanzas swapped) (window_end stanzas swapped) layout stop.stanza
+  pub first : IsNearestBegin stanzas swapped start.stanza
+  pub last : IsNearestEnd stanzas (swapped.at + swapped.stands) stop.stanza
   pub at : places ≡ places_back (edge_places start stop (window_was stanzas swapped) (window_end stanzas swapped)) come

@@ -1,8 +1,8 @@
 //! Where the part of a layout that an edit changes begins and ends.
-ghost use Rattle.std.specs.Prelude.{◌≡◌, ◌<◌, ◌≤◌, ◌+◌, length, take, IfNone, IfSome};
+ghost use Rattle.std.specs.Prelude.{◌≡◌, ◌<◌, ◌≤◌, ◌+◌, length, take};
 ghost use Rattle.spec_reread.specs.Windows.{stanza_lines_in};
 ghost use Rattle.spec_relay.specs.RelaidStanzas.{OpensApart, first_apart};
-ghost use Rattle.sp_relay.specs.Edges.{BreaksAt, CanBegin, CanEnd, CanPart, IsEdge, IsNearestEnd, IsNearestStart, IsPartBegin, IsPartEnd, IsPartStart, opens_first, windows_open};
+ghost use Rattle.sp_relay.specs.Edges.{CanBegin, CanEnd, CanPart, IsEdge, IsNearestBegin, IsNearestEnd, IsNearestStart, IsPartBegin, IsPartEnd, IsPartStart, opens_first, windows_open};
 ghost use Rattle.sp_relay.specs.Kept.{laid_of};
 
 use crate::KeptLayout;
@@ -30,26 +30,20 @@ fn opens_apart(stanza: &Stanza) -> bool
     }
 }
 
-/// The edge before a stanza that begins at a line of the layout's text, unless a page break stands right there.
-fn edge_at(kept: &KeptLayout, stanza: usize, line: usize) -> Option<PartEdge>
+/// The edge before a stanza that begins at a line of the layout's text.
+fn edge_at(kept: &KeptLayout, stanza: usize, line: usize) -> PartEdge
     requires { CanPart (laid_of kept.now) line }
-    ensures is { IfSome result (IsEdge (laid_of kept.now) line) }
-    ensures stanza { IfSome result (λ edge. edge.stanza ≡ stanza) }
-    ensures none { IfNone result (BreaksAt (laid_of kept.now) line) }
+    ensures is { IsEdge (laid_of kept.now) line result }
+    ensures stanza { result.stanza ≡ stanza }
 {
     let titles = elements_before(kept.titles.elements(), line);
     let body = elements_before(kept.body.elements(), line);
-    let row = kept.body.rows_before(body);
-    let breaks = count_below(&kept.breaks, row);
-    if breaks < kept.breaks.len() && kept.breaks[breaks] == row {
-        return None;
-    }
-    Some(PartEdge {
+    PartEdge {
         stanza,
         titles,
         body,
-        breaks,
-    })
+        breaks: count_below(&kept.breaks, body),
+    }
 }
 
 /// The same of the first of these stanzas; not where there is none.
@@ -77,31 +71,29 @@ pub fn part_begin(stanzas: &Stanzas, swapped: &Swapped, kept: &KeptLayout) -> Pa
     requires within { swapped.now.at + swapped.now.stands ≤ length stanzas.now.stanzas }
     requires can { CanBegin stanzas.now.stanzas swapped.now.at (laid_of kept.now) }
     requires window { OpensApart swapped.now.stanzas → CanPart (laid_of kept.now) (stanza_lines_in (take swapped.now.at stanzas.now.stanzas)) }
-    ensures { IsPartBegin stanzas.now.stanzas swapped.now (laid_of kept.now) result }
+    ensures is { IsPartBegin stanzas.now.stanzas swapped.now (laid_of kept.now) result }
+    ensures nearest { IsNearestBegin stanzas.now.stanzas swapped.now result.stanza }
 {
     let at = swapped.at();
     if windows_open(stanzas, swapped) {
-        if let Some(edge) = edge_at(kept, at, stanzas.lines_before(at)) {
-            return edge;
-        }
+        return edge_at(kept, at, stanzas.lines_before(at));
     }
     part_start(stanzas, at, kept)
 }
 
-/// Where the part begins in front of the window that begins before the stanza `at`.
+/// Where the part begins in front of the window that begins before the stanza `at`: before the last stanza there that begins with a
+/// block without a caret, or before all.
 fn part_start(stanzas: &Stanzas, at: usize, kept: &KeptLayout) -> PartEdge
     requires within { at ≤ length stanzas.now.stanzas }
     requires can { CanBegin stanzas.now.stanzas at (laid_of kept.now) }
     ensures is { IsPartStart stanzas.now.stanzas at (laid_of kept.now) result }
-    ensures nearest { IsNearestStart stanzas.now.stanzas at (laid_of kept.now) result.stanza }
+    ensures nearest { IsNearestStart stanzas.now.stanzas at result.stanza }
 {
     let mut place = at;
     while place > 0 {
         place -= 1;
         if opens_apart(stanzas.stanza(place)) {
-            if let Some(edge) = edge_at(kept, place, stanzas.lines_before(place)) {
-                return edge;
-            }
+            return edge_at(kept, place, stanzas.lines_before(place));
         }
     }
     PartEdge {
@@ -112,21 +104,20 @@ fn part_start(stanzas: &Stanzas, at: usize, kept: &KeptLayout) -> PartEdge
     }
 }
 
-/// Where the part ends, behind the window that ends before the stanza `to`: with the line `end`, which was the line `was`.
+/// Where the part ends, behind the window that ends before the stanza `to`, with the line `end`, which was the line `was`: before the
+/// first stanza there that begins with a block without a caret, or behind all.
 pub fn part_end(stanzas: &Stanzas, to: usize, was: usize, end: usize, kept: &KeptLayout) -> PartEdge
     requires within { to ≤ length stanzas.now.stanzas }
     requires end { end ≡ stanza_lines_in (take to stanzas.now.stanzas) }
     requires low { was + stanza_lines_in stanzas.now.stanzas ≤ 9223372036854775807 }
     requires can { CanEnd stanzas.now.stanzas to was end (laid_of kept.now) }
     ensures is { IsPartEnd stanzas.now.stanzas to was end (laid_of kept.now) result }
-    ensures nearest { IsNearestEnd stanzas.now.stanzas to was end (laid_of kept.now) result.stanza }
+    ensures nearest { IsNearestEnd stanzas.now.stanzas to result.stanza }
 {
     for place in to..stanzas.len() {
         if opens_apart(stanzas.stanza(place)) {
             let line = stanzas.lines_before(place) - end + was;
-            if let Some(edge) = edge_at(kept, place, line) {
-                return edge;
-            }
+            return edge_at(kept, place, line);
         }
     }
     PartEdge {

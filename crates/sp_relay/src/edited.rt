@@ -4,7 +4,7 @@ ghost use Rattle.std.specs.List.{list_any};
 ghost use Rattle.spec_text.specs.Lines.{line_texts};
 ghost use Rattle.spec_script.specs.Stanzas.{blocks_from, stanzas_of};
 ghost use Rattle.spec_script.specs.Elements.{is_speech_block};
-ghost use Rattle.spec_layout.specs.Layout.{layout_of};
+ghost use Rattle.spec_layout.specs.Speakers.{text_elements};
 ghost use Rattle.spec_reread.specs.Settling.{stanza_settles};
 ghost use Rattle.spec_reread.specs.Windows.{stanza_lines_in};
 ghost use Rattle.sp_layout.specs.LaidOut.{keyed};
@@ -227,7 +227,7 @@ pub fn relay_edit(
 ) -> Result<LayoutChange, AllocError>
     requires list { stanzas.now.stanzas ≡ stanzas_of (line_texts lines.now.lines) }
     requires was { WasLaid old.now lines.now.lines stanzas.now.stanzas swapped.now speakers (laid_of kept.old) }
-    ensures layout { OnOk result (laid_of kept.new ≡ keyed lines.now.lines (layout_of speakers lines.now.lines)) }
+    ensures layout { OnOk result (laid_of kept.new ≡ keyed lines.now.lines (text_elements speakers lines.now.lines)) }
     ensures part { IfOk result (λ it. IsEditPart stanzas.now.stanzas swapped.now (laid_of kept.old) it.part.places) }
     ensures outside { IfOk result (λ it. StaysOutside old.now lines.now.lines (laid_of kept.new).body.elements it.part.places) }
     ensures back { IfOk result (λ it. with_change (laid_of kept.new) it ≡ laid_of kept.old) }

@@ -138,10 +138,6 @@ fn exchange_part(kept: &mut KeptLayout, at: &PartPlaces, part: &mut KeptLayout) 
     ensures kept_room { KeepsRoom kept.old kept.new }
     ensures part_room { KeepsRoom part.old part.new }
 {
-    let _len = kept.body.len();
-    let row = kept.body.rows_before(at.from);
-    let row_end = kept.body.rows_before(at.to);
-    let end = row + part.body.rows();
     let title_to = exchange_run(
         &mut kept.titles,
         at.title_from,
@@ -163,9 +159,9 @@ fn exchange_part(kept: &mut KeptLayout, at: &PartPlaces, part: &mut KeptLayout) 
         at.break_from,
         at.break_to,
         &mut part.breaks,
-        row,
-        row_end,
-        end,
+        at.from,
+        at.to,
+        to,
     );
     PartPlaces {
         title_from: at.title_from,

@@ -11,7 +11,6 @@ use Rattle.spec_script.specs.BlockValues.{StanzaOf}
 use Rattle.spec_script.specs.Stanzas.{PlacedBlock, blocks_from, blocks_of, stanzas_of}
 use Rattle.spec_pages.specs.Rows.{line_state}
 use Rattle.spec_layout.proofs.ElementPlaces.{LinesRise, placed_from, placed_to, blocks_of-stand}
-use Rattle.spec_reread.specs.Settling.{stanza_settles}
 use Rattle.spec_reread.specs.Windows.{HasFrom, stanza_lines_in}
 use Rattle.spec_reread.proofs.Places.{at_place, front-between, has-all}
 use Rattle.spec_relayout.proofs.WindowSides.{EndsBy, StandsIn, between-in, front-ends}

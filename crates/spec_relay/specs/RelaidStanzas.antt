@@ -1,11 +1,9 @@
 -- Stanzas of a text before and after an edit, of which those at both ends stay (docs/RULES.md, "Windows").
 use Rattle.std.specs.Prelude.{◌≡◌, ◌⊎◌, ℕ, ◌+◌, ◌<◌, ◌≤◌, Bool, true, false, not, List, [], ◌∷◌, ◌++◌}
-use Rattle.std.specs.List.{list_any}
 use Rattle.spec_text.specs.Lines.{LineState, line_texts}
 use Rattle.spec_script.specs.BlockValues.{BlockOf, StanzaOf}
 use Rattle.spec_script.specs.Stanzas.{stanzas_of}
 use Rattle.spec_pages.specs.Rows.{line_state}
-use Rattle.spec_reread.specs.Settling.{stanza_settles}
 use Rattle.spec_reread.specs.Windows.{stanza_lines_in}
 use Rattle.spec_relay.specs.Moved.{moved_place}
 
