@@ -1,6 +1,6 @@
 -- What stands before the edges of a part of a layout.
 use Rattle.std.proofs.Common.{◌≡◌, ℕ, ◌+◌, ◌-◌, ◌<◌, ◌≤◌, Bool, None, List, ◌++◌, length, get_or, take, drop, slice_range, inl, inr, refl, sym, ap, subst, ◌∙◌, arith, length-append, All}
-use Rattle.std.specs.Prelude.{AllPairs}
+use Rattle.std.specs.Prelude.{◌⊎◌, AllPairs}
 use Rattle.std.proofs.lemmas.Bool.{cases_lt}
 use Rattle.std.proofs.lemmas.List.{get_or_append_left, get_or-append_right}
 use Rattle.spec_text.specs.Lines.{LineState, TextState, IsText, line_texts}
@@ -13,20 +13,20 @@ use Rattle.spec_layout.specs.Layout.{is_title_element, in_body}
 use Rattle.spec_layout.proofs.RowLaws.{IsText-texts}
 use Rattle.spec_reread.specs.Windows.{stanza_lines_in}
 use Rattle.spec_reread.proofs.WindowBlocks.{blocks-append}
-use Rattle.spec_relay.specs.Moved.{speaker_behind}
-use Rattle.spec_relay.specs.RelaidStanzas.{OpensApart}
-use Rattle.spec_relay.proofs.Parts.{spoken-append}
+use Rattle.spec_relay.specs.Moved.{AreApart, speaker_behind}
+use Rattle.spec_relay.specs.RelaidStanzas.{ClosesApart, OpensApart}
+use Rattle.spec_relay.proofs.Parts.{spoken-apart}
 use Rattle.spec_relay.proofs.LayoutParts.{laid_of, laid-append}
 use Rattle.spec_relay.proofs.PlacedElements.{element_first, spoken-firsts, laid-firsts}
 use Rattle.spec_relay.proofs.RelaidStanzas.{front-stands}
-use Rattle.spec_relay.proofs.StanzaBlocks.{lines-append, blocks-past, opens-apart}
+use Rattle.spec_relay.proofs.StanzaBlocks.{lines-append, blocks-past, closes-ends, opens-apart}
 use Rattle.sp_layout.specs.LaidOut.{LayoutOf, break_places, keyed}
 use Rattle.sp_elements.specs.Places.{CountsBefore, CountsBelow}
 use Rattle.sp_elements.proofs.ElementCounts.{counts-one, counts-parts}
 use Rattle.sp_relay.specs.declared.edges.PartEdge.{PartEdge}
 use Rattle.sp_relay.specs.Edges.{CanPart, IsEdge, IsPartStart, IsPartEnd, last_edge}
 use Rattle.sp_relay.proofs.BreakLaws.{breaks-append, breaks-high, breaks-low, breaks-rise, elements_in}
-use Rattle.sp_relay.proofs.StanzaLists.{take-split, opens-slice}
+use Rattle.sp_relay.proofs.StanzaLists.{take-split}
 
 -- So many of these places are below a bound.
 below-are : (front behind : List ℕ) (bound count : ℕ) → All (λ (place : ℕ). place < bound) front → All (λ (place : ℕ). bound ≤ place) behind → CountsBelow (front ++ behind) bound count → count ≡ length front
@@ -112,10 +112,10 @@ edge-last on before layout was stanzas edge is front all = record {
   breaks = ap (λ (e : PartEdge). e.breaks) is ∙ ap (λ (l : LayoutOf). length l.breaks) was ∙ ap (λ (gs : List (Group Spoken)). length (break_places 0 gs)) all;
 }
 
--- The layout of a text can be parted where stanzas begin with a block without a caret.
-pub can-part : (on : Bool) (text : TextState) (layout : LayoutOf) → IsText text → layout ≡ keyed text.lines (text_elements on text.lines) → (xs ys : List StanzaOf) → stanzas_of (line_texts text.lines) ≡ xs ++ ys → OpensApart ys
+-- The layout of a text can be parted where stanzas begin with a block without a caret, or end with one that is joined with none behind it.
+pub can-part : (on : Bool) (text : TextState) (layout : LayoutOf) → IsText text → layout ≡ keyed text.lines (text_elements on text.lines) → (xs ys : List StanzaOf) → stanzas_of (line_texts text.lines) ≡ xs ++ ys → ClosesApart xs ⊎ OpensApart ys
     → CanPart layout (stanza_lines_in xs)
-can-part on text layout keeps was xs ys is opens =
+can-part on text layout keeps was xs ys is apart =
     let before = text.lines in
     let texts = line_texts before in
     let are = IsText-texts text keeps in
@@ -125,31 +125,35 @@ can-part on text layout keeps was xs ys is opens =
     let two = blocks_from line ys in
     let blocks : blocks_of texts ≡ one ++ two = ap (blocks_from 0) is ∙ blocks-append 0 xs ys ∙ ap (λ n. one ++ blocks_from n ys) start in
     let last = speaker_behind texts None one in
+    let both : AreApart one two = elim apart [
+      | inl closes ↦ inr (inl (closes-ends 0 xs closes))
+      | inr opens ↦ inr (inr (opens-apart line ys opens))
+    ] in
     let split : text_elements on before ≡ spoken_elements on before None one ++ spoken_elements on before last two =
-    ap (spoken_elements on before None) blocks ∙ spoken-append on before None one two (opens-apart line ys opens) in
+    ap (spoken_elements on before None) blocks ∙ spoken-apart on before None one two both in
     let stands = front-stands texts xs ys are.utf8 are.few is in
     parts-at on before layout was (spoken_elements on before None one) (spoken_elements on before last two) split line
     (spoken-firsts on before None (λ (p : PlacedBlock). p.first < line) one (λ k d h. (stands.each k d h).below))
     (spoken-firsts on before last (λ (p : PlacedBlock). line ≤ p.first) two (blocks-past line line ys (omega arith)))
 
 -- An edge that was found in front of a window, and one behind it.
-pub start-found : (stanzas : List StanzaOf) (at : ℕ) (layout : LayoutOf) (edge : PartEdge) (place line : ℕ) → edge.stanza ≡ place → place < at → OpensApart (drop place stanzas) → line ≡ stanza_lines_in (take place stanzas)
-    → IsEdge layout line edge → IsPartStart stanzas at layout edge
-start-found stanzas at layout edge place line stanza low opens is it = record {
+pub start-found : (stanzas : List StanzaOf) (at : ℕ) (layout : LayoutOf) (edge : PartEdge) (place line : ℕ) → edge.stanza ≡ place → place ≤ at → ClosesApart (take place stanzas) ⊎ OpensApart (slice_range stanzas place at)
+    → line ≡ stanza_lines_in (take place stanzas) → IsEdge layout line edge → IsPartStart stanzas at layout edge
+start-found stanzas at layout edge place line stanza low apart is it = record {
   within = omega (arith, stanza, low);
   is = inr (
-    subst (λ n. OpensApart (slice_range stanzas n at)) (sym stanza) (opens-slice stanzas place at low opens),
+    subst (λ n. ClosesApart (take n stanzas) ⊎ OpensApart (slice_range stanzas n at)) (sym stanza) apart,
     subst (λ n. IsEdge layout n edge) (is ∙ sym (ap (λ n. stanza_lines_in (take n stanzas)) stanza)) it,
   );
 }
 
-pub end-found : (stanzas : List StanzaOf) (to was end : ℕ) (layout : LayoutOf) (edge : PartEdge) (place line : ℕ) → edge.stanza ≡ place → to ≤ place → place < length stanzas → OpensApart (drop place stanzas)
-    → line ≡ stanza_lines_in (take place stanzas) - end + was → IsEdge layout line edge → IsPartEnd stanzas to was end layout edge
-end-found stanzas to was end layout edge place line stanza low inside opens is it = record {
+pub end-found : (stanzas : List StanzaOf) (to was end : ℕ) (layout : LayoutOf) (edge : PartEdge) (place line : ℕ) → edge.stanza ≡ place → to ≤ place → place ≤ length stanzas
+    → ClosesApart (slice_range stanzas to place) ⊎ OpensApart (drop place stanzas) → line ≡ stanza_lines_in (take place stanzas) - end + was → IsEdge layout line edge → IsPartEnd stanzas to was end layout edge
+end-found stanzas to was end layout edge place line stanza low inside apart is it = record {
   low = omega (arith, stanza, low);
   within = omega (arith, stanza, inside);
   is = inr (
-    subst (λ n. OpensApart (drop n stanzas)) (sym stanza) opens,
+    subst (λ n. ClosesApart (slice_range stanzas to n) ⊎ OpensApart (drop n stanzas)) (sym stanza) apart,
     subst (λ n. IsEdge layout n edge) (is ∙ sym (ap (λ n. stanza_lines_in (take n stanzas) - end + was) stanza)) it,
   );
 }

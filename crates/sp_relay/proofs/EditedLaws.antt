@@ -20,14 +20,14 @@ use Rattle.spec_reread.specs.Windows.{stanza_lines_in}
 use Rattle.spec_reread.proofs.Counts.{count-from}
 use Rattle.spec_relay.specs.Moved.{moved_place, moved_block, moved_group, speaker_behind}
 use Rattle.spec_relay.specs.RelaidBlocks.{AreRelaid}
-use Rattle.spec_relay.specs.RelaidStanzas.{OpensApart, StanzasRelaid}
+use Rattle.spec_relay.specs.RelaidStanzas.{ClosesApart, OpensApart, StanzasRelaid}
 use Rattle.spec_relay.proofs.PlacedElements.{element_first, spoken-firsts}
 use Rattle.spec_relay.proofs.LayoutParts.{laid_of, laid-append}
 use Rattle.spec_relay.proofs.RelaidParts.{ElementsRelaid, elements-relaid}
 use Rattle.spec_relay.proofs.MovedElements.{GroupStays}
 use Rattle.spec_relay.proofs.RelaidStanzas.{front-stands, old-last, stanzas-relaid}
 use Rattle.spec_relay.proofs.Parts.{behind-append, behind-settled}
-use Rattle.spec_relay.proofs.StanzaBlocks.{lines-append, blocks-moved, blocks-three, blocks-past, any-blocks, opens-more}
+use Rattle.spec_relay.proofs.StanzaBlocks.{any-blocks, blocks-moved, blocks-past, blocks-three, closes-more, lines-append, opens-more}
 use Rattle.spec_reread.proofs.WindowBlocks.{blocks-append}
 use Rattle.spec_layout.specs.Layout.{is_title_element, in_body}
 use Rattle.sp_layout.specs.LaidOut.{break_places, layout_behind, LayoutOf}
@@ -138,28 +138,41 @@ module _ (was_lines : List LineState) (lines : TextState) (stanzas : List Stanza
       let size = length-map it.before.lines (λ (line : LineState). line.text) in
       omega (arith, few, count, size, ap stanza_lines_in old-stanzas, lines-append (take at stanzas) (swapped.stanzas ++ drop to stanzas), lines-append swapped.stanzas (drop to stanzas))
 
+  -- Those in front of a place before the window, and those behind it.
+  old-before : (i : ℕ) → i ≤ at → olds ≡ take i stanzas ++ (slice_range stanzas i at ++ (swapped.stanzas ++ drop to stanzas))
+  old-before i low =
+      old-stanzas ∙ ap (λ (ss : List StanzaOf). ss ++ (swapped.stanzas ++ drop to stanzas)) (take-split stanzas i at low) ∙ append_assoc (take i stanzas) (slice_range stanzas i at) (swapped.stanzas ++ drop to stanzas)
+
   pub can-begin : CanBegin stanzas at layout
   can-begin = record {
-    each = λ i low opens.
-        let behind = slice_range stanzas i at ++ (swapped.stanzas ++ drop to stanzas) in
-        let is : olds ≡ take i stanzas ++ behind =
-        old-stanzas ∙ ap (λ (ss : List StanzaOf). ss ++ (swapped.stanzas ++ drop to stanzas)) (take-split stanzas i at (omega (arith, low))) ∙ append_assoc (take i stanzas) (slice_range stanzas i at) (swapped.stanzas ++ drop to stanzas) in
-        can-part on it.before layout it.of.keeps it.of.was (take i stanzas) behind is (opens-more (slice_range stanzas i at) (swapped.stanzas ++ drop to stanzas) (opens-slice stanzas i at low opens));
+    opens = λ i low opens.
+        can-part on it.before layout it.of.keeps it.of.was (take i stanzas) (slice_range stanzas i at ++ (swapped.stanzas ++ drop to stanzas)) (old-before i (omega (arith, low)))
+        (inr (opens-more (slice_range stanzas i at) (swapped.stanzas ++ drop to stanzas) (opens-slice stanzas i at low opens)));
+    closes = λ i low closes. can-part on it.before layout it.of.keeps it.of.was (take i stanzas) (slice_range stanzas i at ++ (swapped.stanzas ++ drop to stanzas)) (old-before i low) (inl closes);
   }
 
   pub can-begin-window : OpensApart swapped.stanzas → CanPart layout (stanza_lines_in (take at stanzas))
-  can-begin-window opens = can-part on it.before layout it.of.keeps it.of.was (take at stanzas) (swapped.stanzas ++ drop to stanzas) old-stanzas (opens-more swapped.stanzas (drop to stanzas) opens)
+  can-begin-window opens = can-part on it.before layout it.of.keeps it.of.was (take at stanzas) (swapped.stanzas ++ drop to stanzas) old-stanzas (inr (opens-more swapped.stanzas (drop to stanzas) opens))
+
+  can-end-where : (i : ℕ) → to ≤ i → ClosesApart (slice_range stanzas to i) ⊎ OpensApart (drop i stanzas) → CanPart layout (moved_place end was (stanza_lines_in (take i stanzas)))
+  can-end-where i low apart =
+      let later = slice_range stanzas to i in
+      let front = take at stanzas ++ (swapped.stanzas ++ later) in
+      let is : olds ≡ front ++ drop i stanzas =
+      old-stanzas ∙ ap (λ (ss : List StanzaOf). take at stanzas ++ (swapped.stanzas ++ ss)) (drop_split stanzas to i low) ∙ part-four (take at stanzas) swapped.stanzas later (drop i stanzas) in
+      let sum : stanza_lines_in (take i stanzas) ≡ end + stanza_lines_in later = ap stanza_lines_in (take-split stanzas to i low) ∙ lines-append (take to stanzas) later in
+      let line : stanza_lines_in front ≡ moved_place end was (stanza_lines_in (take i stanzas)) =
+      omega (arith, sum, lines-append (take at stanzas) (swapped.stanzas ++ later), lines-append swapped.stanzas later) in
+      let both : ClosesApart front ⊎ OpensApart (drop i stanzas) = elim apart [
+        | inl closes ↦ inl (closes-more (take at stanzas) (swapped.stanzas ++ later) (closes-more swapped.stanzas later closes))
+        | inr opens ↦ inr opens
+      ] in
+      subst (CanPart layout) line (can-part on it.before layout it.of.keeps it.of.was front (drop i stanzas) is both)
 
   pub can-end : CanEnd stanzas to was end layout
   can-end = record {
-    each = λ i low inside opens.
-        let front = take at stanzas ++ (swapped.stanzas ++ slice_range stanzas to i) in
-        let is : olds ≡ front ++ drop i stanzas =
-        old-stanzas ∙ ap (λ (ss : List StanzaOf). take at stanzas ++ (swapped.stanzas ++ ss)) (drop_split stanzas to i low) ∙ part-four (take at stanzas) swapped.stanzas (slice_range stanzas to i) (drop i stanzas) in
-        let sum : stanza_lines_in (take i stanzas) ≡ end + stanza_lines_in (slice_range stanzas to i) = ap stanza_lines_in (take-split stanzas to i low) ∙ lines-append (take to stanzas) (slice_range stanzas to i) in
-        let line : stanza_lines_in front ≡ moved_place end was (stanza_lines_in (take i stanzas)) =
-        omega (arith, sum, lines-append (take at stanzas) (swapped.stanzas ++ slice_range stanzas to i), lines-append swapped.stanzas (slice_range stanzas to i)) in
-        subst (CanPart layout) line (can-part on it.before layout it.of.keeps it.of.was front (drop i stanzas) is opens);
+    opens = λ i low inside opens. can-end-where i low (inr opens);
+    closes = λ i low within closes. can-end-where i (omega (arith, low)) (inl closes);
   }
 
   -- The lines outside the window.
@@ -234,7 +247,7 @@ module _ (was_lines : List LineState) (lines : TextState) (stanzas : List Stanza
     end-lines : end ≡ window_start stanzas swapped + stanza_lines_in come
     end-lines = ap stanza_lines_in (take-split stanzas at to (omega arith)) ∙ lines-append (take at stanzas) come
 
-    parts-to : (those others : List StanzaOf) → drop to stanzas ≡ those ++ others → (others ≡ []) ⊎ OpensApart others
+    parts-to : (those others : List StanzaOf) → drop to stanzas ≡ those ++ others → (others ≡ []) ⊎ (ClosesApart those ⊎ OpensApart others)
         → StanzasRelaid it.before.lines lines.lines front ahead gone come those others (window_start stanzas swapped) was end
     parts-to those others is apart = record {
       old = old-front ∙ part-to gone those others is;

@@ -1,7 +1,8 @@
 //! Where the part of a layout that an edit changes begins and ends.
 ghost use Rattle.std.specs.Prelude.{◌≡◌, ◌<◌, ◌≤◌, ◌+◌, length, take};
+ghost use Rattle.spec_script.specs.Elements.{is_speech_kind};
 ghost use Rattle.spec_reread.specs.Windows.{stanza_lines_in};
-ghost use Rattle.spec_relay.specs.RelaidStanzas.{OpensApart, first_apart};
+ghost use Rattle.spec_relay.specs.RelaidStanzas.{OpensApart, first_apart, last_apart};
 ghost use Rattle.sp_relay.specs.Edges.{CanBegin, CanEnd, CanPart, IsEdge, IsNearestBegin, IsNearestEnd, IsNearestStart, IsPartBegin, IsPartEnd, IsPartStart, opens_first, windows_open};
 ghost use Rattle.sp_relay.specs.Kept.{laid_of};
 
@@ -9,6 +10,7 @@ use crate::KeptLayout;
 use sp_block_values::Stanza;
 use sp_elements::{count_below, elements_before};
 use sp_reread::{Stanzas, Swapped};
+use spec_script::Kind;
 
 /// Where a part of a layout begins or ends: before which stanza, before which element of the title page and which of the
 /// body, and before which page break.
@@ -26,6 +28,22 @@ fn opens_apart(stanza: &Stanza) -> bool
 {
     match stanza.blocks.first() {
         Some(block) => !block.caret,
+        None => false,
+    }
+}
+
+fn is_speech(kind: Kind) -> bool
+    ensures { result ≡ is_speech_kind kind }
+{
+    matches!(kind, Kind::Speech)
+}
+
+/// Whether the last block of a stanza is no speech without a caret, so that it is joined with none behind it.
+fn closes_apart(stanza: &Stanza) -> bool
+    ensures { result ≡ last_apart stanza.now.blocks }
+{
+    match stanza.blocks.last() {
+        Some(block) => !is_speech(block.kind) || block.caret,
         None => false,
     }
 }
@@ -82,7 +100,7 @@ pub fn part_begin(stanzas: &Stanzas, swapped: &Swapped, kept: &KeptLayout) -> Pa
 }
 
 /// Where the part begins in front of the window that begins before the stanza `at`: before the last stanza there that begins with a
-/// block without a caret, or before all.
+/// block without a caret or behind the last one that ends with a block that is joined with none behind it, or before all.
 fn part_start(stanzas: &Stanzas, at: usize, kept: &KeptLayout) -> PartEdge
     requires within { at ≤ length stanzas.now.stanzas }
     requires can { CanBegin stanzas.now.stanzas at (laid_of kept.now) }
@@ -91,6 +109,9 @@ fn part_start(stanzas: &Stanzas, at: usize, kept: &KeptLayout) -> PartEdge
 {
     let mut place = at;
     while place > 0 {
+        if closes_apart(stanzas.stanza(place - 1)) {
+            return edge_at(kept, place, stanzas.lines_before(place));
+        }
         place -= 1;
         if opens_apart(stanzas.stanza(place)) {
             return edge_at(kept, place, stanzas.lines_before(place));
@@ -105,7 +126,8 @@ fn part_start(stanzas: &Stanzas, at: usize, kept: &KeptLayout) -> PartEdge
 }
 
 /// Where the part ends, behind the window that ends before the stanza `to`, with the line `end`, which was the line `was`: before the
-/// first stanza there that begins with a block without a caret, or behind all.
+/// first stanza there that begins with a block without a caret or behind the first one that ends with a block that is joined with none
+/// behind it, or behind all.
 pub fn part_end(stanzas: &Stanzas, to: usize, was: usize, end: usize, kept: &KeptLayout) -> PartEdge
     requires within { to ≤ length stanzas.now.stanzas }
     requires end { end ≡ stanza_lines_in (take to stanzas.now.stanzas) }
@@ -118,6 +140,10 @@ pub fn part_end(stanzas: &Stanzas, to: usize, was: usize, end: usize, kept: &Kep
         if opens_apart(stanzas.stanza(place)) {
             let line = stanzas.lines_before(place) - end + was;
             return edge_at(kept, place, line);
+        }
+        if closes_apart(stanzas.stanza(place)) {
+            let line = stanzas.lines_before(place + 1) - end + was;
+            return edge_at(kept, place + 1, line);
         }
     }
     PartEdge {

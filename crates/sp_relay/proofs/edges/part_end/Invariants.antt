@@ -1,9 +1,10 @@
-use Rattle.std.proofs.Common.{◌≤◌, ◌<◌, ℕ, drop}
-use Rattle.spec_relay.specs.RelaidStanzas.{OpensApart}
+use Rattle.std.proofs.Common.{◌≤◌, ◌<◌, ℕ, drop, slice_range}
+use Rattle.spec_relay.specs.RelaidStanzas.{ClosesApart, OpensApart}
 use Rattle.sp_relay.proofs.edges.part_end.Given as goal
 
--- None of the stanzas that were passed begins with a block without a caret.
+-- No edge lies before those that were passed, or right behind them.
 abbrev pub invariant-loop-place : goal.invariant-loop-place
 invariant-loop-place l = record {
-  passed : (i : ℕ) → l.to ≤ i → i < l.place → OpensApart (drop i l.stanzas.stanzas) → ⊥;
+  opens : (i : ℕ) → l.to ≤ i → i < l.place → OpensApart (drop i l.stanzas.stanzas) → ⊥;
+  closes : (i : ℕ) → l.to < i → i ≤ l.place → ClosesApart (slice_range l.stanzas.stanzas l.to i) → ⊥;
 }
