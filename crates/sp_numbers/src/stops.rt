@@ -1,8 +1,8 @@
 //! The stops of a state.
-ghost use Rattle.std.specs.Prelude.{◌≡◌, ◌++◌, ◌≤◌, option_map, take, AllPairs, IfOk, IsPermutation, Some};
+ghost use Rattle.std.specs.Prelude.{◌≡◌, ◌≤◌, option_map, take, AllPairs, IfOk, IsPermutation, Some};
 ghost use Rattle.std.specs.Bool.{OnTrue};
 ghost use Rattle.sp_elements.specs.Bodies.{row_count};
-ghost use Rattle.sp_layout.specs.LaidOut.{rows_before};
+ghost use Rattle.sp_numbers.specs.Stops.{stops_at};
 
 use sp_elements::Body;
 use std::alloc::{AllocError, Global};
@@ -22,7 +22,7 @@ pub fn merged_stops(
     breaks: &[usize],
     starts: &[usize],
 ) -> Result<Vec<usize>, AllocError>
-    ensures same { IfOk result (λ stops. IsPermutation (rows_before body.now.elements breaks.now ++ starts.now) stops.items) }
+    ensures same { IfOk result (λ stops. IsPermutation (stops_at body.now.elements breaks.now starts.now) stops.items) }
     ensures order { IfOk result (λ stops. AllPairs (λ one other. one ≤ other) stops.items) }
 {
     let mut stops = Vec::with_capacity(alloc, breaks.len() + starts.len())?;

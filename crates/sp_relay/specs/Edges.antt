@@ -36,7 +36,11 @@ pub record CanBegin (stanzas : List StanzaOf) (at : ℕ) (layout : LayoutOf) : T
   pub opens : (i : ℕ) → i < at → OpensApart (drop i stanzas) → CanPart layout (stanza_lines_in (take i stanzas))
   pub closes : (i : ℕ) → i ≤ at → ClosesApart (take i stanzas) → CanPart layout (stanza_lines_in (take i stanzas))
 
--- The same from one of them on, where lines from the line `end` on stood from the line `was` on.
+-- It can be parted where the window of an edit begins, if the text before the edit had such a block there.
+abbrev pub CanBeginWindow : List StanzaOf → SwappedState → LayoutOf → Type 0
+CanBeginWindow stanzas swapped layout = OpensApart swapped.stanzas → CanPart layout (stanza_lines_in (take swapped.at stanzas))
+
+-- The same as in front of one of these stanzas from one of them on, where lines from the line `end` on stood from the line `was` on.
 pub record CanEnd (stanzas : List StanzaOf) (to was end : ℕ) (layout : LayoutOf) : Type 0 where
   pub opens : (i : ℕ) → to ≤ i → i < length stanzas → OpensApart (drop i stanzas) → CanPart layout (moved_place end was (stanza_lines_in (take i stanzas)))
   pub closes : (i : ℕ) → to < i → i ≤ length stanzas → ClosesApart (slice_range stanzas to i) → CanPart layout (moved_place end was (stanza_lines_in (take i stanzas)))

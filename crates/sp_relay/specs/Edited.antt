@@ -13,9 +13,11 @@ use Rattle.sp_layout.specs.Speaking.{SpeakersOf, speakers_after}
 use Rattle.sp_reread.specs.Cache.{GivesBack, SwappedState}
 use Rattle.sp_relay.specs.declared.edges.PartEdge.{PartEdge}
 use Rattle.sp_relay.specs.declared.kept.PartPlaces.{PartPlaces}
-use Rattle.sp_relay.specs.Kept.{places_back}
+use Rattle.sp_relay.specs.Kept.{KeptOf, places_back}
+use Rattle.sp_relay.specs.Changes.{ChangeOf}
+use Rattle.sp_relay.specs.Outside.{StaysOutside}
 use Rattle.sp_relay.specs.Edges.{IsNearestBegin, IsNearestEnd, IsPartBegin, IsPartEnd, edge_places}
-use Rattle.sp_relay.specs.Speeches.{LastOf}
+use Rattle.sp_relay.specs.Speeches.{IsSaidAnew, LastOf, SaidOf}
 
 -- The line with which the window of an edit begins, and the line behind it in the text after the edit and in that before it.
 abbrev pub window_start : List StanzaOf → SwappedState → ℕ
@@ -67,10 +69,21 @@ last_behind olds lines stanzas swapped on from =
       after = record { on = on; last = speaker_behind (line_texts lines) now.last between };
     }
 
+-- Who spoke last before a stanza.
+abbrev pub speakers_to : List LineState → List StanzaOf → Bool → ℕ → SpeakersOf
+speakers_to lines stanzas on to = speakers_after (line_texts lines) on (blocks_from 0 (take to stanzas))
+
 -- They are these, or none are told, since it is the same one.
 abbrev pub AreLast : LastOf → Option LastOf → Type 0
 AreLast last None = last.before ≡ last.after
 AreLast last (Some told) = told ≡ last
+
+abbrev pub AreLastBehind : List LineState → List LineState → List StanzaOf → SwappedState → Bool → ℕ → Option LastOf → Type 0
+AreLastBehind olds lines stanzas swapped on from told = AreLast (last_behind olds lines stanzas swapped on from) told
+
+-- The first speech from a stanza behind the window on has other rows than before, or it goes on as before.
+abbrev pub IsSaidBehind : List LineState → List LineState → List StanzaOf → SwappedState → Bool → ℕ → Option SaidOf → Type 0
+IsSaidBehind olds lines stanzas swapped on from said = IsSaidAnew lines stanzas from (last_behind olds lines stanzas swapped on from) said
 
 -- A stanza of the window, or one that stood there before the edit, has a heading or a speech.
 abbrev pub windows_settle : List StanzaOf → SwappedState → Bool
@@ -80,6 +93,14 @@ windows_settle stanzas swapped = list_any stanza_settles swapped.stanzas || list
 pub record AreAlike (lines : List LineState) (blocks : List PlacedBlock) (speakers others : SpeakersOf) : Type 0 where
   pub on : speakers.on ≡ others.on
   pub same : spoken_elements others.on lines speakers.last blocks ≡ spoken_elements others.on lines others.last blocks
+
+-- They are so behind those who spoke last before a stanza.
+abbrev pub AreAlikeAt : List LineState → List StanzaOf → Bool → ℕ → List PlacedBlock → SpeakersOf → Type 0
+AreAlikeAt lines stanzas on to blocks speakers = AreAlike lines blocks speakers (speakers_to lines stanzas on to)
+
+-- Rows of a body outside the part that an edit changed stand on lines that the text before it has too.
+abbrev pub LeavesOutside : List LineState → List LineState → KeptOf → ChangeOf → Type 0
+LeavesOutside before lines kept change = StaysOutside before lines kept.body.elements change.part.places
 
 -- The part that an edit lays out anew begins with the window or at the last edge in front of it, and ends at the first edge behind
 -- the window. Where it was put in, it stands at these places.

@@ -1,5 +1,5 @@
 -- A text laid out that is kept, and parts of it that are exchanged (docs/RULES.md, "Windows").
-use Rattle.std.specs.Prelude.{ℕ, ◌+◌, ◌-◌, ◌≤◌, List, length}
+use Rattle.std.specs.Prelude.{◌≡◌, ℕ, ◌+◌, ◌-◌, ◌≤◌, List, length}
 use Rattle.sp_elements.specs.Bodies.{BodyOf, keyed_elements}
 use Rattle.sp_elements.specs.Exchanges.{with_run}
 use Rattle.sp_layout.specs.LaidOut.{LayoutOf}
@@ -29,6 +29,14 @@ with_part layout at part = record {
   body = with_run layout.body at.from at.to part.body at.less at.more;
   breaks = with_breaks layout.breaks at.break_from at.break_to part.breaks at.from at.to (at.from + length part.body.elements);
 }
+
+-- The layout that is kept with a part put in its place.
+abbrev pub with_kept : KeptOf → PartOf → LayoutOf
+with_kept kept part = with_part (laid_of kept) part.places (laid_of part.kept)
+
+-- The part is the same but for room.
+abbrev pub IsSamePart : PartOf → PartOf → Type 0
+IsSamePart one other = (one.places ≡ other.places) × (laid_of one.kept ≡ laid_of other.kept)
 
 -- Where the part stands that came, and where lines stood behind what it took the place of.
 abbrev pub places_back : PartPlaces → LayoutOf → PartPlaces

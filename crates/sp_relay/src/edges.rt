@@ -3,7 +3,7 @@ ghost use Rattle.std.specs.Prelude.{◌≡◌, ◌<◌, ◌≤◌, ◌+◌, leng
 ghost use Rattle.spec_script.specs.Elements.{is_speech_kind};
 ghost use Rattle.spec_reread.specs.Windows.{stanza_lines_in};
 ghost use Rattle.spec_relay.specs.RelaidStanzas.{OpensApart, first_apart, last_apart};
-ghost use Rattle.sp_relay.specs.Edges.{CanBegin, CanEnd, CanPart, IsEdge, IsNearestBegin, IsNearestEnd, IsNearestStart, IsPartBegin, IsPartEnd, IsPartStart, opens_first, windows_open};
+ghost use Rattle.sp_relay.specs.Edges.{CanBegin, CanBeginWindow, CanEnd, CanPart, IsEdge, IsNearestBegin, IsNearestEnd, IsNearestStart, IsPartBegin, IsPartEnd, IsPartStart, opens_first, windows_open};
 ghost use Rattle.sp_relay.specs.Kept.{laid_of};
 
 use crate::KeptLayout;
@@ -88,7 +88,7 @@ fn windows_open(stanzas: &Stanzas, swapped: &Swapped) -> bool
 pub fn part_begin(stanzas: &Stanzas, swapped: &Swapped, kept: &KeptLayout) -> PartEdge
     requires within { swapped.now.at + swapped.now.stands ≤ length stanzas.now.stanzas }
     requires can { CanBegin stanzas.now.stanzas swapped.now.at (laid_of kept.now) }
-    requires window { OpensApart swapped.now.stanzas → CanPart (laid_of kept.now) (stanza_lines_in (take swapped.now.at stanzas.now.stanzas)) }
+    requires window { CanBeginWindow stanzas.now.stanzas swapped.now (laid_of kept.now) }
     ensures is { IsPartBegin stanzas.now.stanzas swapped.now (laid_of kept.now) result }
     ensures nearest { IsNearestBegin stanzas.now.stanzas swapped.now result.stanza }
 {
