@@ -39,14 +39,15 @@ use Rattle.sp_relay.specs.declared.kept.PartPlaces.{PartPlaces}
 use Rattle.sp_relay.specs.Kept.{CanSwap}
 use Rattle.sp_relay.specs.Relaid.{IsRelaid, places_of}
 use Rattle.sp_relay.specs.Speeches.{LastOf, blocks_behind}
-use Rattle.sp_relay.specs.Edges.{CanPart, CanBegin, CanEnd, IsEdge, IsPartBegin, IsPartEnd, edge_places}
-use Rattle.sp_relay.specs.Edited.{AreAlike, IsEdited, WasLaid, last_behind, old_speakers, window_start, window_end, window_was}
+use Rattle.sp_relay.specs.Edges.{CanPart, CanBegin, CanEnd, IsEdge, IsNearestBegin, IsNearestEnd, IsPartBegin, IsPartEnd, edge_places}
+use Rattle.sp_relay.specs.Edited.{AreAlike, IsEdited, WasLaid, blocks_in, elements_at, last_behind, old_speakers, window_start, window_end, window_was}
 use Rattle.sp_relay.proofs.BreakLaws.{breaks-append, elements_in}
 use Rattle.sp_relay.proofs.StanzaLists.{take-split, part-four, opens-slice}
 use Rattle.sp_relay.proofs.SpeakerLaws.{behind-quiet}
 use Rattle.sp_relay.proofs.SpeechLaws.{slice-low}
 use Rattle.sp_relay.proofs.EdgeLaws.{EdgeIs, edge-is, edge-last, can-part}
 use Rattle.sp_relay.proofs.SwapLaws.{relaid-can}
+use Rattle.sp_relay.proofs.FewBlocks.{ahead-few, behind-few, blocks-append as blocks_in-append, blocks-placed, elements-few, laid-count}
 
 -- Where speakers who go on aren't told, nobody is remembered.
 pub spoken-last : (on : Bool) (lines : List LineState) (last : Option (List ℕ)) (blocks : List PlacedBlock) → spoken_elements on lines (cond on last None) blocks ≡ spoken_elements on lines last blocks
@@ -378,6 +379,16 @@ module _ (was_lines : List LineState) (lines : TextState) (stanzas : List Stanza
         two.breaks ∙ ap (λ (ns : List ℕ). length ns) (breaks-append b 0 ef eg ∙ ap (λ n. break_places 0 ef ++ break_places n eg) count) ∙ length-append (break_places 0 ef) (break_places (elements_in b ef) eg) in
         places-same _ _ _ _ _ _ _ _ _ _ _ _ was end one.titles titles one.body body one.breaks breaks
 
+    -- As many elements go as their blocks are at most.
+    pub gone-few : elements_at places ≤ blocks_in (ahead ++ (gone ++ behind))
+    gone-few =
+        let b = it.before.lines in
+        let eg = elements.elements_gone in
+        let mid = ahead ++ (gone ++ behind) in
+        let last = speaker_behind (line_texts b) None (blocks_from 0 front) in
+        let count : length eg ≡ length (spoken_elements on b last (blocks_from first mid)) = ap (λ (gs : List (Group Spoken)). length gs) elements.gone_is in
+        omega (arith, ap elements_at places-are, laid-count b eg, count, elements-few on b last (blocks_from first mid), blocks-placed first mid)
+
     -- The blocks behind the part, in the text after the edit.
     past-now : moved_place was end past ≡ stanza_lines_in (take stop.stanza stanzas)
     past-now =
@@ -612,4 +623,33 @@ edited was_lines lines stanzas swapped on layout it =
       keeps = it.of.keeps;
       back = subst (λ (ls : List LineState). GivesBack swapped stanzas (stanzas_of (line_texts ls))) it.is it.of.back;
       front = subst (λ (ls : List LineState). take start ls ≡ take start lines) it.is it.of.front;
+    }
+
+-- What is laid out, and what stood there, has at most one element more than the window has blocks in front of it and one behind it.
+pub record PartIsFew (stanzas : List StanzaOf) (swapped : SwappedState) (blocks : List PlacedBlock) (places : PartPlaces) : Type 0 where
+  pub come : length blocks ≤ blocks_in (slice_range stanzas swapped.at (swapped.at + swapped.stands)) + 2
+  pub go : elements_at places ≤ blocks_in swapped.stanzas + 2
+
+pub part-few : (was_lines : List LineState) (lines : TextState) (stanzas : List StanzaOf) (swapped : SwappedState) (on : Bool) (layout : LayoutOf) (it : WasLaid was_lines lines.lines stanzas swapped on layout) → stanzas ≡ stanzas_of (line_texts lines.lines) → IsText lines
+    → (start stop : PartEdge) (blocks : List PlacedBlock) (places : PartPlaces) → IsPartBegin stanzas swapped layout start → IsPartEnd stanzas (swapped.at + swapped.stands) (window_was stanzas swapped) (window_end stanzas swapped) layout stop
+    → IsNearestBegin stanzas swapped start.stanza → IsNearestEnd stanzas (swapped.at + swapped.stands) stop.stanza
+    → blocks ≡ blocks_from (stanza_lines_in (take start.stanza stanzas)) (slice_range stanzas start.stanza stop.stanza) → places ≡ edge_places start stop (window_was stanzas swapped) (window_end stanzas swapped)
+    → PartIsFew stanzas swapped blocks places
+part-few was_lines lines stanzas swapped on layout it list keeps start stop blocks places begins ends first last blocks_are places_are =
+    let at = swapped.at in
+    let to = swapped.at + swapped.stands in
+    let ahead = slice_range stanzas start.stanza at in
+    let come = slice_range stanzas at to in
+    let behind = slice_range stanzas to stop.stanza in
+    let one = ahead-few stanzas (line_texts lines.lines) list at start.stanza begins.within first.is in
+    let other = behind-few stanzas (line_texts lines.lines) list to stop.stanza ends.low last in
+    let within = begins.within in
+    let low = ends.low in
+    let window : slice_range stanzas start.stanza stop.stanza ≡ ahead ++ (come ++ behind) =
+    sym (slice-parts stanzas start.stanza at stop.stanza within (omega (arith, low))) ∙ ap (λ (ss : List StanzaOf). ahead ++ ss) (sym (slice-parts stanzas at to stop.stanza (omega arith) low)) in
+    let size = ap (λ (bs : List PlacedBlock). length bs) blocks_are ∙ blocks-placed (stanza_lines_in (take start.stanza stanzas)) (slice_range stanzas start.stanza stop.stanza) ∙ ap blocks_in window in
+    let gone = gone-few was_lines lines stanzas swapped on layout it list keeps start stop begins ends in
+    record {
+      come = omega (arith, one, other, size, blocks_in-append ahead (come ++ behind), blocks_in-append come behind);
+      go = omega (arith, one, other, gone, ap elements_at places_are, blocks_in-append ahead (swapped.stanzas ++ behind), blocks_in-append swapped.stanzas behind);
     }

@@ -14,3 +14,5 @@ pub mod EditDone
 pub mod WindowLaws
 pub mod WindowSpeakers
 mod OutsideLaws
+mod SpeechAlone
+mod FewBlocks

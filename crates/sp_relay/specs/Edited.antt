@@ -1,5 +1,5 @@
 -- A layout of the text before an edit, told by what the edit displaced of its stanzas (docs/RULES.md, "Windows").
-use Rattle.std.specs.Prelude.{◌≡◌, ℕ, ◌+◌, Bool, ◌||◌, List, ◌++◌, take, drop, slice_range, Option, Some, None}
+use Rattle.std.specs.Prelude.{◌≡◌, ℕ, ◌+◌, ◌-◌, ◌≤◌, Bool, ◌||◌, List, ◌++◌, length, sum_by, take, drop, slice_range, Option, Some, None}
 use Rattle.std.specs.List.{list_any}
 use Rattle.spec_text.specs.Lines.{LineState, TextState, IsText, line_texts}
 use Rattle.spec_script.specs.BlockValues.{StanzaOf}
@@ -113,3 +113,19 @@ pub record IsEditPart (stanzas : List StanzaOf) (swapped : SwappedState) (layout
   pub first : IsNearestBegin stanzas swapped start.stanza
   pub last : IsNearestEnd stanzas (swapped.at + swapped.stands) stop.stanza
   pub at : places ≡ places_back (edge_places start stop (window_was stanzas swapped) (window_end stanzas swapped)) come
+
+-- How many blocks stanzas have, how many elements stand at the places of a part, and how many are kept.
+abbrev pub blocks_in : List StanzaOf → ℕ
+blocks_in stanzas = sum_by (λ (stanza : StanzaOf). length stanza.blocks) stanzas
+
+abbrev pub elements_at : PartPlaces → ℕ
+elements_at places = (places.title_to - places.title_from) + (places.to - places.from)
+
+abbrev pub elements_kept : KeptOf → ℕ
+elements_kept kept = length kept.titles.elements + length kept.body.elements
+
+-- A change keeps to the window of its edit: of elements that were laid out anew it has at most two more than the window has blocks, one
+-- in front of it and one behind it, and it keeps at most two more than the stanzas had blocks that the edit displaced.
+pub record KeepsToWindow (stanzas : List StanzaOf) (swapped : SwappedState) (change : ChangeOf) : Type 0 where
+  pub laid : elements_at change.part.places ≤ blocks_in (slice_range stanzas swapped.at (swapped.at + swapped.stands)) + 2
+  pub kept : elements_kept change.part.kept ≤ blocks_in swapped.stanzas + 2

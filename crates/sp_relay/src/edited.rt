@@ -10,7 +10,7 @@ ghost use Rattle.spec_reread.specs.Windows.{stanza_lines_in};
 ghost use Rattle.sp_layout.specs.LaidOut.{keyed};
 ghost use Rattle.sp_relay.specs.Edges.{edge_places};
 ghost use Rattle.sp_relay.specs.Changes.{CanChange, HasChangeRoom, with_change};
-ghost use Rattle.sp_relay.specs.Edited.{AreAlikeAt, AreLastBehind, IsEditPart, IsEdited, IsSaidBehind, LeavesOutside, WasLaid, old_speakers, speakers_to, windows_settle};
+ghost use Rattle.sp_relay.specs.Edited.{AreAlikeAt, AreLastBehind, IsEditPart, IsEdited, IsSaidBehind, KeepsToWindow, LeavesOutside, WasLaid, old_speakers, speakers_to, windows_settle};
 ghost use Rattle.sp_relay.specs.Kept.{KeepsRoom, laid_of};
 
 use crate::edges::{PartEdge, part_begin, part_end};
@@ -210,9 +210,10 @@ fn places_between(start: PartEdge, stop: PartEdge, was: usize, end: usize) -> Pa
 /// Makes a kept layout that of the text after an edit (docs/RULES.md, "Windows"), by the text's stanzas, what their update
 /// displaced, and the lines of the text before. It lays out the stanzas of the edit's window and those round it that may be joined
 /// with them, and moves what stands behind; and where another one spoke last behind this part than before, the speech that comes
-/// first behind it, if no heading stands between, gets the rows with or without `(CONT'D)`. Each row outside the part stands on the
-/// lines, with their ids and marks, that it stood on before the edit. What it answers leads back when it is made in its turn. The
-/// error is want of memory alone; the layout is then as it was.
+/// first behind it, if no heading stands between, gets the rows with or without `(CONT'D)`. The part has at most one element more in
+/// front of the window and one behind it. Each row outside the part stands on the lines, with their ids and marks, that it stood on
+/// before the edit. What it answers leads back when it is made in its turn. The error is want of memory alone; the layout is then as
+/// it was.
 pub fn relay_edit(
     alloc: Global,
     lines: &Lines,
@@ -226,6 +227,7 @@ pub fn relay_edit(
     requires was { WasLaid old.now lines.now.lines stanzas.now.stanzas swapped.now speakers (laid_of kept.old) }
     ensures layout { OnOk result (laid_of kept.new ≡ keyed lines.now.lines (text_elements speakers lines.now.lines)) }
     ensures part { IfOk result (λ it. IsEditPart stanzas.now.stanzas swapped.now (laid_of kept.old) it.part.places) }
+    ensures few { IfOk result (KeepsToWindow stanzas.now.stanzas swapped.now) }
     ensures outside { IfOk result (LeavesOutside old.now lines.now.lines kept.new) }
     ensures back { IfOk result (λ it. with_change (laid_of kept.new) it ≡ laid_of kept.old) }
     ensures again { IfOk result (CanChange (laid_of kept.new)) }

@@ -2,7 +2,7 @@ use Rattle.std.proofs.Common.{◌≡◌, ◌+◌, List, take, slice_range, sym, 
 use Rattle.spec_text.specs.Lines.{LineState, line_texts}
 use Rattle.spec_script.specs.Elements.{PlacedLies, PlacesRise}
 use Rattle.spec_script.specs.Stanzas.{PlacedBlock, blocks_from}
-use Rattle.spec_layout.specs.Speakers.{text_elements}
+use Rattle.spec_layout.specs.Speakers.{spoken_elements, text_elements}
 use Rattle.spec_reread.specs.Windows.{stanza_lines_in}
 use Rattle.spec_relay.proofs.StanzaBlocks.{places-rise}
 use Rattle.sp_text.specs.Gap.{text_of}
@@ -14,11 +14,12 @@ use Rattle.sp_relay.specs.Edges.{IsNearestEnd, IsPartEnd, edge_places}
 use Rattle.sp_relay.specs.Changes.{CanSpeak}
 use Rattle.sp_relay.specs.Relaid.{relaid_elements}
 use Rattle.sp_relay.specs.Outside.{StaysOutside}
-use Rattle.sp_relay.specs.Edited.{AreAlike, window_was, window_end}
+use Rattle.sp_relay.specs.Edited.{AreAlike, elements_at, window_was, window_end}
 use Rattle.sp_relay.proofs.ChangeLaws.{room-spoken, room-through, speak-from, undo-can, undone}
 use Rattle.sp_relay.proofs.EditDone.{IsEditDone, can-stand, edit-done}
 use Rattle.sp_relay.proofs.OutsideLaws.{outside-said}
-use Rattle.sp_relay.proofs.EditedLaws.{EditedPart, at-window, edited, edited-part, can-begin, can-begin-window, can-end-at, old-few, few-lines, slice-lies}
+use Rattle.sp_relay.proofs.EditedLaws.{EditedPart, at-window, edited, edited-part, can-begin, can-begin-window, can-end-at, old-few, few-lines, part-few, slice-lies}
+use Rattle.sp_relay.proofs.FewBlocks.{elements-few, kept-count, laid-count}
 use Rattle.sp_relay.proofs.edited.relay_edit.Goals as goal
 
 pub lines_in-requires : goal.lines_in-requires
@@ -129,6 +130,36 @@ returns-clause-part c =
       first = c.part_begin-start.ensures.nearest;
       last = subst (λ n. IsNearestEnd stanzas n stop.stanza) to c.part_end-stop.ensures.nearest;
       at = c.in_ok-part.ensures.places ∙ ap (λ (p : PartPlaces). places_back p (layout_behind c.args.lines.now.lines c.in_ok-last.last c.deref-2.result.now)) (c.places_between-places.ensures ∙ ap₂ (λ n m. edge_places start stop n m) was end);
+    }
+
+pub returns-clause-few : goal.returns-clause-few
+returns-clause-few c =
+    let stanzas = c.args.stanzas.now.stanzas in
+    let swapped = c.args.swapped.now in
+    let lines = c.args.lines.now.lines in
+    let layout = laid_of c.args.kept.now in
+    let start = c.part_begin-start.result in
+    let stop = c.part_end-stop.result in
+    let places = c.places_between-places.result in
+    let blocks = c.deref-2.result.now in
+    let last = c.in_ok-last.last in
+    let come = layout_behind lines last blocks in
+    let part = c.in_ok-part.part in
+    let at : c.at-at.result ≡ swapped.at = c.at-at.ensures in
+    let to : c.at-at.result + c.stands.result ≡ swapped.at + swapped.stands = omega (arith, at, c.stands.ensures) in
+    let was : c.lines_before.result + c.lines_in.result ≡ window_was stanzas swapped =
+    ap₂ (λ n m. n + m) (c.lines_before.ensures ∙ ap (λ n. stanza_lines_in (take n stanzas)) at) (c.lines_in.ensures ∙ ap stanza_lines_in c.stanzas.ensures) in
+    let end : c.lines_before-end.result ≡ window_end stanzas swapped = c.lines_before-end.ensures ∙ ap (λ n. stanza_lines_in (take n stanzas)) to in
+    let few = part-few c.args.old.now (text_of c.args.lines.now) stanzas swapped c.args.speakers layout c.requires.was c.requires.list c.len-count.ensures.keeps start stop blocks places c.part_begin-start.ensures.is
+    (at-window (λ n m k. IsPartEnd stanzas n m k layout stop) to was end c.part_end-stop.ensures.is) c.part_begin-start.ensures.nearest
+    (subst (λ n. IsNearestEnd stanzas n stop.stanza) to c.part_end-stop.ensures.nearest) (c.deref-2.ensures.value ∙ c.in_ok-blocks.ensures) (c.places_between-places.ensures ∙ ap₂ (λ n m. edge_places start stop n m) was end) in
+    let laid = few.come in
+    let went = few.go in
+    let groups = spoken_elements last.on lines last.last blocks in
+    let kept = kept-count layout (laid_of c.relay.new.kept) come (laid_of part.kept) places part.places (part-of c).can c.in_ok-part.ensures.part c.in_ok-part.ensures.places c.in_ok-part.ensures.again c.in_ok-part.ensures.back in
+    record {
+      laid = omega (arith, laid, ap elements_at c.in_ok-part.ensures.places, laid-count lines groups, elements-few last.on lines last.last blocks);
+      kept = omega (arith, went, kept);
     }
 
 pub returns-clause-outside : goal.returns-clause-outside
