@@ -8,10 +8,10 @@ use Rattle.spec_script.specs.LongestRuns.{Group}
 use Rattle.spec_pages.specs.Rows.{Row, ElementOf, is_title, shifted_row, placed_rows}
 use Rattle.spec_labels.specs.declared.RowKey.{RowKey}
 use Rattle.spec_layout.specs.Speakers.{Spoken}
-use Rattle.spec_layout.specs.Layout.{laid_out, kind_of, is_title_element, in_body, is_page_break, breaks_from, layout_in, placed_in}
+use Rattle.spec_layout.specs.Layout.{laid_out, kind_of, is_title_element, in_body, is_page_break, layout_in, placed_in}
 use Rattle.spec_layout.specs.Shown.{row_key}
 use Rattle.sp_elements.specs.Bodies.{KeyedElements, with_element, row_count}
-use Rattle.sp_layout.specs.LaidOut.{LayoutOf, with_laid}
+use Rattle.sp_layout.specs.LaidOut.{LayoutOf, break_places, with_laid}
 use Rattle.sp_elements.proofs.BodyLaws.{placed_in-push}
 
 -- A body, with elements behind it.
@@ -23,7 +23,7 @@ abbrev pub followed_by : List LineState → LayoutOf → List (Group Spoken) →
 followed_by lines layout elements = record {
   titles = with_elements lines layout.titles (layout_in lines elements).titles;
   body = with_elements lines layout.body (layout_in lines elements).body;
-  breaks = layout.breaks ++ breaks_from lines (row_count layout.body.elements) elements;
+  breaks = layout.breaks ++ break_places (length layout.body.elements) elements;
 }
 
 -- One element and those behind it.
@@ -37,7 +37,7 @@ with_elements-push lines body element elements =
     (append_assoc body.keys (map key own) (map key (placed_in elements)) ∙ ap (λ (keys : List RowKey). body.keys ++ keys) (sym (map-append key own (placed_in elements))))
 
 -- No page break is a title page.
-title-break : (kind : Kind) → is_title kind ≡ true → is_page_break kind ≡ false
+pub title-break : (kind : Kind) → is_title kind ≡ true → is_page_break kind ≡ false
 title-break kinds.Title is = refl
 title-break kinds.PageBreak is = cc
 title-break kinds.Heading is = refl
@@ -49,7 +49,7 @@ title-break kinds.Centred is = refl
 title-break kinds.Section is = refl
 title-break kinds.Synopsis is = refl
 
-row_count-push : (elements : List ElementOf) (element : ElementOf) → row_count (elements ++ element ∷ []) ≡ row_count elements + length element.rows
+pub row_count-push : (elements : List ElementOf) (element : ElementOf) → row_count (elements ++ element ∷ []) ≡ row_count elements + length element.rows
 row_count-push elements element =
     let all = ap (λ (rows : List Row). length rows) (placed_in-push elements element) in
     let size = length-append (placed_in elements) (placed_rows element) in
@@ -58,14 +58,14 @@ row_count-push elements element =
 
 -- One more element is laid out: by whether it is a title page, and whether it is a page break.
 next-by : (lines : List LineState) (layout : LayoutOf) (laid : ElementOf) (titles bodies : List ElementOf) (elements : List (Group Spoken)) (t b : Bool) → (t ≡ true → b ≡ false)
-    → let count = row_count layout.body.elements in
+    → let count = length layout.body.elements in
     let new = cond t (record layout { titles = with_element lines layout.titles laid })
     (record layout { body = with_element lines layout.body laid; breaks = cond b (layout.breaks ++ count ∷ []) layout.breaks }) in
-    let behind = breaks_from lines (cond (not t) (count + length laid.rows) count) elements in
+    let behind = break_places (cond (not t) (count + 1) count) elements in
     ◌≡◌ {A = LayoutOf} (record {
       titles = with_elements lines new.titles titles;
       body = with_elements lines new.body bodies;
-      breaks = new.breaks ++ breaks_from lines (row_count new.body.elements) elements;
+      breaks = new.breaks ++ break_places (length new.body.elements) elements;
     }) (record {
       titles = with_elements lines layout.titles (cond t (laid ∷ titles) titles);
       body = with_elements lines layout.body (cond (not t) (laid ∷ bodies) bodies);
@@ -73,17 +73,17 @@ next-by : (lines : List LineState) (layout : LayoutOf) (laid : ElementOf) (title
     })
 next-by lines layout laid titles bodies elements true true not_both = let never : true ≡ false = not_both refl in cc
 next-by lines layout laid titles bodies elements true false not_both =
-    ap (λ (it : KeyedElements). record { titles = it; body = with_elements lines layout.body bodies; breaks = layout.breaks ++ breaks_from lines (row_count layout.body.elements) elements })
+    ap (λ (it : KeyedElements). record { titles = it; body = with_elements lines layout.body bodies; breaks = layout.breaks ++ break_places (length layout.body.elements) elements })
     (with_elements-push lines layout.titles laid titles)
 next-by lines layout laid titles bodies elements false true not_both =
-    let count = row_count layout.body.elements in
+    let count = length layout.body.elements in
     ap₂ (λ (it : KeyedElements) (breaks : List ℕ). record { titles = with_elements lines layout.titles titles; body = it; breaks = breaks })
     (with_elements-push lines layout.body laid bodies)
-    (append_assoc layout.breaks (count ∷ []) (breaks_from lines (row_count (layout.body.elements ++ laid ∷ [])) elements)
-    ∙ ap (λ n. layout.breaks ++ count ∷ breaks_from lines n elements) (row_count-push layout.body.elements laid))
+    (append_assoc layout.breaks (count ∷ []) (break_places (length (layout.body.elements ++ laid ∷ [])) elements)
+    ∙ ap (λ n. layout.breaks ++ count ∷ break_places n elements) (length-append layout.body.elements (laid ∷ [])))
 next-by lines layout laid titles bodies elements false false not_both =
-    ap₂ (λ (it : KeyedElements) n. record { titles = with_elements lines layout.titles titles; body = it; breaks = layout.breaks ++ breaks_from lines n elements })
-    (with_elements-push lines layout.body laid bodies) (row_count-push layout.body.elements laid)
+    ap₂ (λ (it : KeyedElements) n. record { titles = with_elements lines layout.titles titles; body = it; breaks = layout.breaks ++ break_places n elements })
+    (with_elements-push lines layout.body laid bodies) (length-append layout.body.elements (laid ∷ []))
 
 -- The elements behind, by whether the first of all is a title page.
 laid-titles : (lines : List LineState) (element : Group Spoken) (elements : List (Group Spoken)) (t : Bool)
@@ -101,5 +101,5 @@ followed-next lines layout element elements =
     ∙ ap₂ (λ (titles bodies : List ElementOf). record {
       titles = with_elements lines layout.titles titles;
       body = with_elements lines layout.body bodies;
-      breaks = layout.breaks ++ breaks_from lines (row_count layout.body.elements) (element ∷ elements);
+      breaks = layout.breaks ++ break_places (length layout.body.elements) (element ∷ elements);
     }) (sym (laid-titles lines element (filter is_title_element elements) t)) (sym (laid-titles lines element (filter in_body elements) (not t)))

@@ -1,3 +1,4 @@
+pub mod BreakPlaces
 mod Elements
 mod LastRows
 mod LastSpeakers

@@ -19,8 +19,8 @@ use spec_script::Kind;
 use std::alloc::{AllocError, Global};
 use std::marker::Model;
 
-/// A text laid out (docs/RULES.md, "Elements" and "Pages"): the elements of its title page, those of its body, and the rows
-/// of the body before which its page breaks stand.
+/// A text laid out (docs/RULES.md, "Elements" and "Pages"): the elements of its title page, those of its body, and which of
+/// these are page breaks.
 #[derive(Drop)]
 pub struct Layout {
     pub titles: Body,
@@ -84,7 +84,7 @@ fn add_block(
         return layout.titles.push(lines, element);
     }
     if is_page_break(block.kind) {
-        layout.breaks.push(layout.body.rows())?;
+        layout.breaks.push(layout.body.len())?;
     }
     layout.body.push(lines, element)
 }

@@ -196,7 +196,7 @@ pub fn laid_stops(
 ) -> Result<Vec<usize>, AllocError>
     ensures { (state : State) → IsWhole state → IsLaidOf state (laid_of layout.now) → firsts.now ≡ first_rows state → IfOk result (λ stops. AreStopsOf state stops.items) }
 {
-    merged_stops(alloc, &layout.breaks, firsts)
+    merged_stops(alloc, &layout.body, &layout.breaks, firsts)
 }
 
 /// The first rows of the pages of a state whose text is laid out, by those of its page records. Each page of the body is filled

@@ -3,13 +3,14 @@ use Rattle.std.specs.Prelude.{◌≡◌, ℕ, List, [], Option, Some, None}
 use Rattle.spec_text.specs.Lines.{LineState}
 use Rattle.spec_labels.specs.declared.RowKey.{RowKey}
 use Rattle.spec_labels.specs.PageRecords.{PageRecordOf, record_starts}
+use Rattle.spec_layout.specs.Speakers.{text_elements}
 use Rattle.spec_state.specs.State.{State}
-use Rattle.spec_state.specs.StateSheets.{keys_in, layout_in}
+use Rattle.spec_state.specs.StateSheets.{keys_in}
 use Rattle.sp_layout.specs.LaidOut.{LayoutOf, keyed}
 
 -- The layout of the state's text, with the keys of its rows. It asks nothing of its records.
 abbrev pub laid_in : State → LayoutOf
-laid_in state = keyed state.lines (layout_in state)
+laid_in state = keyed state.lines (text_elements state.speakers state.lines)
 
 abbrev pub IsLaidOf : State → LayoutOf → Type 0
 IsLaidOf state it = it ≡ laid_in state

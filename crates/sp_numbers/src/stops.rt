@@ -1,21 +1,34 @@
 //! The stops of a state.
-ghost use Rattle.std.specs.Prelude.{◌≡◌, ◌++◌, ◌≤◌, option_map, AllPairs, IfOk, IsPermutation, Some};
+ghost use Rattle.std.specs.Prelude.{◌≡◌, ◌≤◌, option_map, take, AllPairs, IfOk, IsPermutation, Some};
 ghost use Rattle.std.specs.Bool.{OnTrue};
+ghost use Rattle.sp_elements.specs.Bodies.{row_count};
+ghost use Rattle.sp_numbers.specs.Stops.{stops_at};
 
+use sp_elements::Body;
 use std::alloc::{AllocError, Global};
 
-/// The rows of page breaks and the first rows of page records together, in order: the stops of pages (docs/RULES.md, "Pages").
-/// `AllocError` comes for want of memory alone.
+/// How many rows stand before the element at a place, or how many there are.
+fn row_before(body: &Body, place: usize) -> usize
+    ensures { result ≡ row_count (take place body.now.elements) }
+{
+    body.rows_before(place.min(body.len()))
+}
+
+/// The rows before which page breaks stand, which are elements of a body at these places, and the first rows of page records
+/// together, in order: the stops of pages (docs/RULES.md, "Pages"). `AllocError` comes for want of memory alone.
 pub fn merged_stops(
     alloc: Global,
+    body: &Body,
     breaks: &[usize],
     starts: &[usize],
 ) -> Result<Vec<usize>, AllocError>
-    ensures same { IfOk result (λ stops. IsPermutation (breaks.now ++ starts.now) stops.items) }
+    ensures same { IfOk result (λ stops. IsPermutation (stops_at body.now.elements breaks.now starts.now) stops.items) }
     ensures order { IfOk result (λ stops. AllPairs (λ one other. one ≤ other) stops.items) }
 {
     let mut stops = Vec::with_capacity(alloc, breaks.len() + starts.len())?;
-    stops.extend_from_slice(breaks)?;
+    for place in breaks {
+        stops.push(row_before(body, *place))?;
+    }
     stops.extend_from_slice(starts)?;
     stops.sort()?;
     Ok(stops)

@@ -3,11 +3,11 @@ use Rattle.std.proofs.Common.{◌≡◌, ℕ, ◌+◌, ◌-◌, ◌<◌, ◌≤�
 use Rattle.std.proofs.lemmas.List.{length-map}
 use Rattle.spec_pages.specs.Rows.{ElementOf}
 use Rattle.sp_elements.specs.Bodies.{KeyedElements, BodyOf, row_count}
-use Rattle.sp_elements.specs.Exchanges.{AreRowsAlike, moved_element, rows_at, with_rows, with_rows_at, with_run}
-use Rattle.sp_elements.proofs.RowSwaps.{alike-back, count-alike, drop-rows, firsts-rows, length-rows, rows-run, rows_at-new, rows_at-run, slice-rows, take-rows, with_rows-back}
+use Rattle.sp_elements.specs.Exchanges.{AreRowsAlike, moved_element, rows_at, with_run}
+use Rattle.sp_elements.proofs.RowSwaps.{alike-back, count-alike, drop-rows, firsts-rows, length-rows, rows-run, rows_at-new, rows_at-run, slice-rows, with_rows-back}
 use Rattle.sp_layout.specs.LaidOut.{LayoutOf}
 use Rattle.sp_relay.specs.declared.kept.PartPlaces.{PartPlaces}
-use Rattle.sp_relay.specs.Runs.{MovesBack, ElementMoves, CanExchangeBreaks, HasRoom, with_breaks}
+use Rattle.sp_relay.specs.Runs.{MovesBack, ElementMoves, HasRoom}
 use Rattle.sp_relay.specs.Kept.{CanSwap, HasPartRoom, KeepsRoom, KeptOf, laid_of, with_part}
 use Rattle.sp_relay.specs.Changes.{CanChange, CanMoveSpeech, CanSpeak, ChangeOf, KeepsAllRoom, SpeaksBehind, SpeechOf, moved_speech, speech_back, with_change, with_speech}
 
@@ -43,8 +43,6 @@ swap-spoken layout at part (Some speech) behind can =
     let es = layout.body.elements in
     let order = can.body.order in
     let within = can.body.within in
-    let from_rows : row_count (take at.from es) ≡ row_count (take at.from (with_rows_at es speech.element speech.rows)) = sym (ap row_count (take-rows es at.from speech.element speech.rows (omega (arith, order, behind)))) in
-    let to_rows : row_count (take at.to es) ≡ row_count (take at.to (with_rows_at es speech.element speech.rows)) = sym (ap row_count (take-rows es at.to speech.element speech.rows behind)) in
     record {
       titles = can.titles;
       body = record {
@@ -52,8 +50,7 @@ swap-spoken layout at part (Some speech) behind can =
         within = omega (arith, within, length-rows es speech.element speech.rows);
         later = subst (All (ElementMoves at.less at.more)) (sym (drop-rows es at.to speech.element speech.rows behind)) (firsts-rows (MovesBack at.less at.more) (drop at.to es) (speech.element - at.to) speech.rows can.body.later);
       };
-      breaks = subst (λ n. CanExchangeBreaks layout.breaks at.break_from at.break_to part.breaks n (row_count (take at.to (with_rows_at es speech.element speech.rows))) (n + row_count part.body.elements)) from_rows
-          (subst (λ n. CanExchangeBreaks layout.breaks at.break_from at.break_to part.breaks (row_count (take at.from es)) n (row_count (take at.from es) + row_count part.body.elements)) to_rows can.breaks);
+      breaks = can.breaks;
     }
 
 -- It is all one whether the part is exchanged before the speech or behind it.
@@ -61,12 +58,8 @@ pub part-spoken : (layout : LayoutOf) (at : PartPlaces) (part : LayoutOf) (speec
     → with_part (with_speech layout speech) at part ≡ with_speech (with_part layout at part) (moved_speech at.to (at.from + length part.body.elements) speech)
 part-spoken layout at part None behind order within = refl
 part-spoken layout at part (Some speech) behind order within =
-    let es = layout.body.elements in
     let titles = with_run layout.titles at.title_from at.title_to part.titles at.less at.more in
-    let from_rows = ap row_count (take-rows es at.from speech.element speech.rows (omega (arith, order, behind))) in
-    let to_rows = ap row_count (take-rows es at.to speech.element speech.rows behind) in
-    ap₂ (λ n m. record { titles = titles; body = with_run (with_rows layout.body speech.element speech.rows) at.from at.to part.body at.less at.more; breaks = with_breaks layout.breaks at.break_from at.break_to part.breaks n m (n + row_count part.body.elements) }) from_rows to_rows
-    ∙ ap (λ (body : KeyedElements). record { titles = titles; body = body; breaks = (with_part layout at part).breaks }) (rows-run layout.body speech.element speech.rows at.from at.to part.body at.less at.more order behind within)
+    ap (λ (body : KeyedElements). record { titles = titles; body = body; breaks = (with_part layout at part).breaks }) (rows-run layout.body speech.element speech.rows at.from at.to part.body at.less at.more order behind within)
 
 -- The speech stands behind the part that came.
 pub speak-moved : (layout : LayoutOf) (at : PartPlaces) (part : LayoutOf) (speech : Option SpeechOf) → at.from ≤ at.to → at.to ≤ length layout.body.elements → CanSpeak layout at.to speech

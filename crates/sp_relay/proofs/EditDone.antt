@@ -8,7 +8,7 @@ use Rattle.spec_script.specs.LongestRuns.{Group}
 use Rattle.spec_script.specs.Stanzas.{PlacedBlock, stanzas_of}
 use Rattle.spec_pages.specs.Rows.{ElementOf}
 use Rattle.spec_layout.specs.Speakers.{Spoken, spoken_elements, text_elements}
-use Rattle.spec_layout.specs.Layout.{in_body, laid_out, layout_in, layout_of}
+use Rattle.spec_layout.specs.Layout.{in_body, laid_out}
 use Rattle.spec_relay.proofs.LayoutParts.{laid_of, laid-append}
 use Rattle.sp_layout.specs.LaidOut.{LayoutOf, keyed, layout_behind}
 use Rattle.sp_layout.specs.Speaking.{SpeakersOf}
@@ -31,7 +31,7 @@ same-count one other groups = length-map (filter in_body groups) (laid_out one) 
 
 module _ (olds before : List LineState) (text : TextState) (stanzas : List StanzaOf) (swapped : SwappedState) (on : Bool) (stop : PartEdge) (layout : LayoutOf) (speakers : SpeakersOf) (blocks : List PlacedBlock) (places : PartPlaces)
     (it : EditedPart olds before text.lines stanzas swapped on stop layout speakers blocks places) (mid : LayoutOf)
-    (is : mid ≡ keyed text.lines (layout_in text.lines (relaid_elements before text.lines speakers blocks places layout it.relaid))) (keeps : IsText text) (list : stanzas ≡ stanzas_of (line_texts text.lines)) (same : speakers.on ≡ on) where
+    (is : mid ≡ keyed text.lines (relaid_elements before text.lines speakers blocks places layout it.relaid)) (keeps : IsText text) (list : stanzas ≡ stanzas_of (line_texts text.lines)) (same : speakers.on ≡ on) where
   abbrev ls : List LineState
   ls = text.lines
 
@@ -47,9 +47,9 @@ module _ (olds before : List LineState) (text : TextState) (stanzas : List Stanz
   abbrev behind : List PlacedBlock
   behind = blocks_behind stanzas stop.stanza
 
-  mid-was : mid ≡ keyed ls (layout_in ls (fore ++ spoken_elements on ls last.before.last behind))
+  mid-was : mid ≡ keyed ls (fore ++ spoken_elements on ls last.before.last behind)
   mid-was =
-      is ∙ ap (λ (gs : List (Group Spoken)). keyed ls (layout_in ls gs)) (ap (λ (gs : List (Group Spoken)). it.relaid.front ++ (come ++ gs)) it.behind.rest_now ∙ sym (append_assoc it.relaid.front come (spoken_elements on ls last.before.last behind)))
+      is ∙ ap (λ (gs : List (Group Spoken)). keyed ls gs) (ap (λ (gs : List (Group Spoken)). it.relaid.front ++ (come ++ gs)) it.behind.rest_now ∙ sym (append_assoc it.relaid.front come (spoken_elements on ls last.before.last behind)))
 
   text-is : fore ++ spoken_elements on ls last.after.last behind ≡ text_elements on ls
   text-is =
@@ -81,12 +81,12 @@ module _ (olds before : List LineState) (text : TextState) (stanzas : List Stanz
   -- What the speech's exchange needs, and makes.
   pub record IsEditDone (speech : Option SpeechOf) : Type 0 where
     pub can : CanSpeak mid to speech
-    pub layout_is : with_speech mid speech ≡ keyed ls (layout_of on ls)
+    pub layout_is : with_speech mid speech ≡ keyed ls (text_elements on ls)
 
   pub edit-done : (said : Option SaidOf) (speech : Option SpeechOf) → IsSaidAnew ls stanzas stop.stanza last said → IsPlacedIn stanzas mid.body.elements said speech → IsEditDone speech
   edit-done None None anew there = record {
     can = tt;
-    layout_is = mid-was ∙ ap (λ (gs : List (Group Spoken)). keyed ls (layout_in ls gs)) (ap (λ (gs : List (Group Spoken)). fore ++ gs) (spoken-same on ls last.before.last last.after.last behind anew) ∙ text-is);
+    layout_is = mid-was ∙ ap (λ (gs : List (Group Spoken)). keyed ls gs) (ap (λ (gs : List (Group Spoken)). fore ++ gs) (spoken-same on ls last.before.last last.after.last behind anew) ∙ text-is);
   }
   edit-done None (Some speech) anew there = absurd there
   edit-done (Some said) None anew there = absurd there
@@ -96,5 +96,5 @@ module _ (olds before : List LineState) (text : TextState) (stanzas : List Stanz
       let low = done.in_it.behind in
       record {
         can = record { behind = omega (arith, low, to-is); inside = done.in_it.inside; alike = done.in_it.alike };
-        layout_is = done.laid ∙ ap (λ (gs : List (Group Spoken)). keyed ls (layout_in ls gs)) text-is;
+        layout_is = done.laid ∙ ap (λ (gs : List (Group Spoken)). keyed ls gs) text-is;
       }

@@ -20,31 +20,34 @@ use Rattle.spec_reread.specs.Windows.{stanza_lines_in}
 use Rattle.spec_reread.proofs.Counts.{count-from}
 use Rattle.spec_relay.specs.Moved.{moved_place, moved_block, moved_group, speaker_behind}
 use Rattle.spec_relay.specs.RelaidBlocks.{AreRelaid}
-use Rattle.spec_relay.specs.RelaidStanzas.{OpensApart, StanzasRelaid}
+use Rattle.spec_relay.specs.RelaidStanzas.{ClosesApart, OpensApart, StanzasRelaid}
 use Rattle.spec_relay.proofs.PlacedElements.{element_first, spoken-firsts}
-use Rattle.spec_relay.proofs.LayoutParts.{laid_of, laid-append, rows_in, breaks-append}
+use Rattle.spec_relay.proofs.LayoutParts.{laid_of, laid-append}
 use Rattle.spec_relay.proofs.RelaidParts.{ElementsRelaid, elements-relaid}
 use Rattle.spec_relay.proofs.MovedElements.{GroupStays}
 use Rattle.spec_relay.proofs.RelaidStanzas.{front-stands, old-last, stanzas-relaid}
 use Rattle.spec_relay.proofs.Parts.{behind-append, behind-settled}
-use Rattle.spec_relay.proofs.StanzaBlocks.{lines-append, blocks-moved, blocks-three, blocks-past, any-blocks, opens-more}
+use Rattle.spec_relay.proofs.StanzaBlocks.{any-blocks, blocks-moved, blocks-past, blocks-three, closes-more, lines-append, opens-more}
 use Rattle.spec_reread.proofs.WindowBlocks.{blocks-append}
-use Rattle.spec_layout.specs.Layout.{is_title_element, in_body, breaks_from}
-use Rattle.sp_layout.specs.LaidOut.{LayoutOf, layout_behind}
+use Rattle.spec_layout.specs.Layout.{is_title_element, in_body}
+use Rattle.sp_layout.specs.LaidOut.{break_places, layout_behind, LayoutOf}
 use Rattle.sp_layout.specs.Speaking.{SpeakersOf, speakers_after}
+use Rattle.sp_runs.proofs.RunLaws.{slice-parts}
 use Rattle.sp_reread.specs.Cache.{GivesBack, SwappedState}
 use Rattle.sp_relay.specs.declared.edges.PartEdge.{PartEdge}
 use Rattle.sp_relay.specs.declared.kept.PartPlaces.{PartPlaces}
 use Rattle.sp_relay.specs.Kept.{CanSwap}
 use Rattle.sp_relay.specs.Relaid.{IsRelaid, places_of}
 use Rattle.sp_relay.specs.Speeches.{LastOf, blocks_behind}
-use Rattle.sp_relay.specs.Edges.{CanPart, CanBegin, CanEnd, IsEdge, IsPartBegin, IsPartEnd, edge_places}
-use Rattle.sp_relay.specs.Edited.{AreAlike, IsEdited, WasLaid, last_behind, old_speakers, window_start, window_end, window_was}
-use Rattle.sp_relay.proofs.StanzaLists.{take-split, slice-split, part-four, opens-slice}
+use Rattle.sp_relay.specs.Edges.{CanPart, CanBegin, CanEnd, IsEdge, IsNearestBegin, IsNearestEnd, IsPartBegin, IsPartEnd, edge_places}
+use Rattle.sp_relay.specs.Edited.{AreAlike, IsEdited, WasLaid, blocks_in, elements_at, last_behind, old_speakers, window_start, window_end, window_was}
+use Rattle.sp_relay.proofs.BreakLaws.{breaks-append, elements_in}
+use Rattle.sp_relay.proofs.StanzaLists.{take-split, part-four, opens-slice}
 use Rattle.sp_relay.proofs.SpeakerLaws.{behind-quiet}
 use Rattle.sp_relay.proofs.SpeechLaws.{slice-low}
 use Rattle.sp_relay.proofs.EdgeLaws.{EdgeIs, edge-is, edge-last, can-part}
 use Rattle.sp_relay.proofs.SwapLaws.{relaid-can}
+use Rattle.sp_relay.proofs.FewBlocks.{ahead-few, behind-few, blocks-append as blocks_in-append, blocks-placed, elements-few, laid-count}
 
 -- Where speakers who go on aren't told, nobody is remembered.
 pub spoken-last : (on : Bool) (lines : List LineState) (last : Option (List ℕ)) (blocks : List PlacedBlock) → spoken_elements on lines (cond on last None) blocks ≡ spoken_elements on lines last blocks
@@ -136,28 +139,41 @@ module _ (was_lines : List LineState) (lines : TextState) (stanzas : List Stanza
       let size = length-map it.before.lines (λ (line : LineState). line.text) in
       omega (arith, few, count, size, ap stanza_lines_in old-stanzas, lines-append (take at stanzas) (swapped.stanzas ++ drop to stanzas), lines-append swapped.stanzas (drop to stanzas))
 
+  -- Those in front of a place before the window, and those behind it.
+  old-before : (i : ℕ) → i ≤ at → olds ≡ take i stanzas ++ (slice_range stanzas i at ++ (swapped.stanzas ++ drop to stanzas))
+  old-before i low =
+      old-stanzas ∙ ap (λ (ss : List StanzaOf). ss ++ (swapped.stanzas ++ drop to stanzas)) (take-split stanzas i at low) ∙ append_assoc (take i stanzas) (slice_range stanzas i at) (swapped.stanzas ++ drop to stanzas)
+
   pub can-begin : CanBegin stanzas at layout
   can-begin = record {
-    each = λ i low opens.
-        let behind = slice_range stanzas i at ++ (swapped.stanzas ++ drop to stanzas) in
-        let is : olds ≡ take i stanzas ++ behind =
-        old-stanzas ∙ ap (λ (ss : List StanzaOf). ss ++ (swapped.stanzas ++ drop to stanzas)) (take-split stanzas i at (omega (arith, low))) ∙ append_assoc (take i stanzas) (slice_range stanzas i at) (swapped.stanzas ++ drop to stanzas) in
-        can-part on it.before layout it.of.keeps it.of.was (take i stanzas) behind is (opens-more (slice_range stanzas i at) (swapped.stanzas ++ drop to stanzas) (opens-slice stanzas i at low opens));
+    opens = λ i low opens.
+        can-part on it.before layout it.of.keeps it.of.was (take i stanzas) (slice_range stanzas i at ++ (swapped.stanzas ++ drop to stanzas)) (old-before i (omega (arith, low)))
+        (inr (opens-more (slice_range stanzas i at) (swapped.stanzas ++ drop to stanzas) (opens-slice stanzas i at low opens)));
+    closes = λ i low closes. can-part on it.before layout it.of.keeps it.of.was (take i stanzas) (slice_range stanzas i at ++ (swapped.stanzas ++ drop to stanzas)) (old-before i low) (inl closes);
   }
 
   pub can-begin-window : OpensApart swapped.stanzas → CanPart layout (stanza_lines_in (take at stanzas))
-  can-begin-window opens = can-part on it.before layout it.of.keeps it.of.was (take at stanzas) (swapped.stanzas ++ drop to stanzas) old-stanzas (opens-more swapped.stanzas (drop to stanzas) opens)
+  can-begin-window opens = can-part on it.before layout it.of.keeps it.of.was (take at stanzas) (swapped.stanzas ++ drop to stanzas) old-stanzas (inr (opens-more swapped.stanzas (drop to stanzas) opens))
+
+  can-end-where : (i : ℕ) → to ≤ i → ClosesApart (slice_range stanzas to i) ⊎ OpensApart (drop i stanzas) → CanPart layout (moved_place end was (stanza_lines_in (take i stanzas)))
+  can-end-where i low apart =
+      let later = slice_range stanzas to i in
+      let front = take at stanzas ++ (swapped.stanzas ++ later) in
+      let is : olds ≡ front ++ drop i stanzas =
+      old-stanzas ∙ ap (λ (ss : List StanzaOf). take at stanzas ++ (swapped.stanzas ++ ss)) (drop_split stanzas to i low) ∙ part-four (take at stanzas) swapped.stanzas later (drop i stanzas) in
+      let sum : stanza_lines_in (take i stanzas) ≡ end + stanza_lines_in later = ap stanza_lines_in (take-split stanzas to i low) ∙ lines-append (take to stanzas) later in
+      let line : stanza_lines_in front ≡ moved_place end was (stanza_lines_in (take i stanzas)) =
+      omega (arith, sum, lines-append (take at stanzas) (swapped.stanzas ++ later), lines-append swapped.stanzas later) in
+      let both : ClosesApart front ⊎ OpensApart (drop i stanzas) = elim apart [
+        | inl closes ↦ inl (closes-more (take at stanzas) (swapped.stanzas ++ later) (closes-more swapped.stanzas later closes))
+        | inr opens ↦ inr opens
+      ] in
+      subst (CanPart layout) line (can-part on it.before layout it.of.keeps it.of.was front (drop i stanzas) is both)
 
   pub can-end : CanEnd stanzas to was end layout
   can-end = record {
-    each = λ i low inside opens.
-        let front = take at stanzas ++ (swapped.stanzas ++ slice_range stanzas to i) in
-        let is : olds ≡ front ++ drop i stanzas =
-        old-stanzas ∙ ap (λ (ss : List StanzaOf). take at stanzas ++ (swapped.stanzas ++ ss)) (drop_split stanzas to i low) ∙ part-four (take at stanzas) swapped.stanzas (slice_range stanzas to i) (drop i stanzas) in
-        let sum : stanza_lines_in (take i stanzas) ≡ end + stanza_lines_in (slice_range stanzas to i) = ap stanza_lines_in (take-split stanzas to i low) ∙ lines-append (take to stanzas) (slice_range stanzas to i) in
-        let line : stanza_lines_in front ≡ moved_place end was (stanza_lines_in (take i stanzas)) =
-        omega (arith, sum, lines-append (take at stanzas) (swapped.stanzas ++ slice_range stanzas to i), lines-append swapped.stanzas (slice_range stanzas to i)) in
-        subst (CanPart layout) line (can-part on it.before layout it.of.keeps it.of.was front (drop i stanzas) is opens);
+    opens = λ i low inside opens. can-end-where i low (inr opens);
+    closes = λ i low within closes. can-end-where i (omega (arith, low)) (inl closes);
   }
 
   -- The lines outside the window.
@@ -207,7 +223,7 @@ module _ (was_lines : List LineState) (lines : TextState) (stanzas : List Stanza
     window =
         let one = begins.within in
         let two = ends.low in
-        slice-split stanzas start.stanza at stop.stanza one (omega (arith, two)) ∙ ap (λ (ss : List StanzaOf). ahead ++ ss) (slice-split stanzas at to stop.stanza (omega arith) two)
+        sym (slice-parts stanzas start.stanza at stop.stanza one (omega (arith, two))) ∙ ap (λ (ss : List StanzaOf). ahead ++ ss) (sym (slice-parts stanzas at to stop.stanza (omega arith) two))
 
     -- The stanzas of both texts, of which some behind the window are laid out anew.
     old-front : olds ≡ front ++ (ahead ++ (gone ++ drop to stanzas))
@@ -232,7 +248,7 @@ module _ (was_lines : List LineState) (lines : TextState) (stanzas : List Stanza
     end-lines : end ≡ window_start stanzas swapped + stanza_lines_in come
     end-lines = ap stanza_lines_in (take-split stanzas at to (omega arith)) ∙ lines-append (take at stanzas) come
 
-    parts-to : (those others : List StanzaOf) → drop to stanzas ≡ those ++ others → (others ≡ []) ⊎ OpensApart others
+    parts-to : (those others : List StanzaOf) → drop to stanzas ≡ those ++ others → (others ≡ []) ⊎ (ClosesApart those ⊎ OpensApart others)
         → StanzasRelaid it.before.lines lines.lines front ahead gone come those others (window_start stanzas swapped) was end
     parts-to those others is apart = record {
       old = old-front ∙ part-to gone those others is;
@@ -321,7 +337,7 @@ module _ (was_lines : List LineState) (lines : TextState) (stanzas : List Stanza
           record {
             titles = ap (λ (e : PartEdge). e.titles) zero ∙ sym (ap (λ (gs : List (Group Spoken)). length (laid_of is_title_element it.before.lines gs)) nothing);
             body = ap (λ (e : PartEdge). e.body) zero ∙ sym (ap (λ (gs : List (Group Spoken)). length (laid_of in_body it.before.lines gs)) nothing);
-            breaks = ap (λ (e : PartEdge). e.breaks) zero ∙ sym (ap (λ (gs : List (Group Spoken)). length (breaks_from it.before.lines 0 gs)) nothing);
+            breaks = ap (λ (e : PartEdge). e.breaks) zero ∙ sym (ap (λ (gs : List (Group Spoken)). length (break_places 0 gs)) nothing);
           }
       | inr both ↦
           edge-is on it.before.lines layout it.of.was elements.elements_front (elements.elements_gone ++ elements.elements_rest) elements.old first start front-low
@@ -358,10 +374,20 @@ module _ (was_lines : List LineState) (lines : TextState) (stanzas : List Stanza
         two.titles ∙ ap (λ (es : List ElementOf). length es) (laid-append is_title_element b ef eg) ∙ length-append (laid_of is_title_element b ef) (laid_of is_title_element b eg) in
         let body : stop.body ≡ length (laid_of in_body b ef) + length (laid_of in_body b eg) =
         two.body ∙ ap (λ (es : List ElementOf). length es) (laid-append in_body b ef eg) ∙ length-append (laid_of in_body b ef) (laid_of in_body b eg) in
-        let rows : 0 + rows_in b ef ≡ rows_in b ef = omega arith in
-        let breaks : stop.breaks ≡ length (breaks_from b 0 ef) + length (breaks_from b (rows_in b ef) eg) =
-        two.breaks ∙ ap (λ (ns : List ℕ). length ns) (breaks-append b 0 ef eg ∙ ap (λ n. breaks_from b 0 ef ++ breaks_from b n eg) rows) ∙ length-append (breaks_from b 0 ef) (breaks_from b (rows_in b ef) eg) in
+        let count : 0 + elements_in b ef ≡ elements_in b ef = omega arith in
+        let breaks : stop.breaks ≡ length (break_places 0 ef) + length (break_places (elements_in b ef) eg) =
+        two.breaks ∙ ap (λ (ns : List ℕ). length ns) (breaks-append b 0 ef eg ∙ ap (λ n. break_places 0 ef ++ break_places n eg) count) ∙ length-append (break_places 0 ef) (break_places (elements_in b ef) eg) in
         places-same _ _ _ _ _ _ _ _ _ _ _ _ was end one.titles titles one.body body one.breaks breaks
+
+    -- As many elements go as their blocks are at most.
+    pub gone-few : elements_at places ≤ blocks_in (ahead ++ (gone ++ behind))
+    gone-few =
+        let b = it.before.lines in
+        let eg = elements.elements_gone in
+        let mid = ahead ++ (gone ++ behind) in
+        let last = speaker_behind (line_texts b) None (blocks_from 0 front) in
+        let count : length eg ≡ length (spoken_elements on b last (blocks_from first mid)) = ap (λ (gs : List (Group Spoken)). length gs) elements.gone_is in
+        omega (arith, ap elements_at places-are, laid-count b eg, count, elements-few on b last (blocks_from first mid), blocks-placed first mid)
 
     -- The blocks behind the part, in the text after the edit.
     past-now : moved_place was end past ≡ stanza_lines_in (take stop.stanza stanzas)
@@ -597,4 +623,33 @@ edited was_lines lines stanzas swapped on layout it =
       keeps = it.of.keeps;
       back = subst (λ (ls : List LineState). GivesBack swapped stanzas (stanzas_of (line_texts ls))) it.is it.of.back;
       front = subst (λ (ls : List LineState). take start ls ≡ take start lines) it.is it.of.front;
+    }
+
+-- What is laid out, and what stood there, has at most one element more than the window has blocks in front of it and one behind it.
+pub record PartIsFew (stanzas : List StanzaOf) (swapped : SwappedState) (blocks : List PlacedBlock) (places : PartPlaces) : Type 0 where
+  pub come : length blocks ≤ blocks_in (slice_range stanzas swapped.at (swapped.at + swapped.stands)) + 2
+  pub go : elements_at places ≤ blocks_in swapped.stanzas + 2
+
+pub part-few : (was_lines : List LineState) (lines : TextState) (stanzas : List StanzaOf) (swapped : SwappedState) (on : Bool) (layout : LayoutOf) (it : WasLaid was_lines lines.lines stanzas swapped on layout) → stanzas ≡ stanzas_of (line_texts lines.lines) → IsText lines
+    → (start stop : PartEdge) (blocks : List PlacedBlock) (places : PartPlaces) → IsPartBegin stanzas swapped layout start → IsPartEnd stanzas (swapped.at + swapped.stands) (window_was stanzas swapped) (window_end stanzas swapped) layout stop
+    → IsNearestBegin stanzas swapped start.stanza → IsNearestEnd stanzas (swapped.at + swapped.stands) stop.stanza
+    → blocks ≡ blocks_from (stanza_lines_in (take start.stanza stanzas)) (slice_range stanzas start.stanza stop.stanza) → places ≡ edge_places start stop (window_was stanzas swapped) (window_end stanzas swapped)
+    → PartIsFew stanzas swapped blocks places
+part-few was_lines lines stanzas swapped on layout it list keeps start stop blocks places begins ends first last blocks_are places_are =
+    let at = swapped.at in
+    let to = swapped.at + swapped.stands in
+    let ahead = slice_range stanzas start.stanza at in
+    let come = slice_range stanzas at to in
+    let behind = slice_range stanzas to stop.stanza in
+    let one = ahead-few stanzas (line_texts lines.lines) list at start.stanza begins.within first.is in
+    let other = behind-few stanzas (line_texts lines.lines) list to stop.stanza ends.low last in
+    let within = begins.within in
+    let low = ends.low in
+    let window : slice_range stanzas start.stanza stop.stanza ≡ ahead ++ (come ++ behind) =
+    sym (slice-parts stanzas start.stanza at stop.stanza within (omega (arith, low))) ∙ ap (λ (ss : List StanzaOf). ahead ++ ss) (sym (slice-parts stanzas at to stop.stanza (omega arith) low)) in
+    let size = ap (λ (bs : List PlacedBlock). length bs) blocks_are ∙ blocks-placed (stanza_lines_in (take start.stanza stanzas)) (slice_range stanzas start.stanza stop.stanza) ∙ ap blocks_in window in
+    let gone = gone-few was_lines lines stanzas swapped on layout it list keeps start stop begins ends in
+    record {
+      come = omega (arith, one, other, size, blocks_in-append ahead (come ++ behind), blocks_in-append come behind);
+      go = omega (arith, one, other, gone, ap elements_at places_are, blocks_in-append ahead (swapped.stanzas ++ behind), blocks_in-append swapped.stanzas behind);
     }

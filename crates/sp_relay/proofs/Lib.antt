@@ -5,7 +5,8 @@ pub mod SpeakerLaws
 pub mod SpokenAnew
 pub mod QuietLaws
 pub mod EdgeLaws
-pub mod ChangeLaws
+pub mod BreakLaws
+mod ChangeLaws
 pub mod SwapLaws
 pub mod SpeechLaws
 pub mod EditedLaws
@@ -13,3 +14,5 @@ pub mod EditDone
 pub mod WindowLaws
 pub mod WindowSpeakers
 mod OutsideLaws
+mod SpeechAlone
+mod FewBlocks

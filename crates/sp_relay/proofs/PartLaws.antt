@@ -1,5 +1,5 @@
 -- A part of a layout exchanged gives the layout of the text after an edit.
-use Rattle.std.proofs.Common.{◌≡◌, ℕ, ◌+◌, ◌-◌, Bool, List, ◌++◌, length, map, take, drop, refl, sym, ap, ap₂, ◌∙◌, arith, take_at}
+use Rattle.std.proofs.Common.{◌≡◌, ℕ, ◌+◌, ◌-◌, Bool, List, ◌++◌, length, map, take, drop, refl, sym, ap, ap₂, ◌∙◌, arith}
 use Rattle.std.specs.Prelude.{All}
 use Rattle.std.proofs.lemmas.List.{map-append, length-map}
 use Rattle.spec_text.specs.Lines.{LineState}
@@ -9,21 +9,22 @@ use Rattle.spec_labels.specs.declared.RowKey.{RowKey}
 use Rattle.spec_layout.specs.Shown.{row_key}
 use Rattle.spec_script.specs.Stanzas.{PlacedBlock}
 use Rattle.spec_layout.specs.Speakers.{Spoken, spoken_elements}
-use Rattle.spec_layout.specs.Layout.{is_title_element, in_body, breaks_from, layout_in, placed_in}
+use Rattle.spec_layout.specs.Layout.{is_title_element, in_body, placed_in}
 use Rattle.spec_relay.specs.Moved.{moved_group}
 use Rattle.spec_relay.proofs.MovedElements.{GroupStays}
-use Rattle.spec_relay.proofs.LayoutParts.{laid_of, laid-three, rows_in, breaks-append, breaks-shifted, laid-moved, keys-moved, breaks-moved, still-groups, still-laid}
+use Rattle.spec_relay.proofs.LayoutParts.{laid_of, laid-three, laid-moved, keys-moved, still-groups, still-laid}
 use Rattle.sp_splice.specs.Moves.{shifted}
 use Rattle.sp_elements.specs.Bodies.{KeyedElements, body_of, row_count}
 use Rattle.sp_elements.specs.Exchanges.{moved_element, with_run}
 use Rattle.sp_layout.specs.Speaking.{SpeakersOf}
-use Rattle.sp_layout.specs.LaidOut.{LayoutOf, keyed, layout_behind}
+use Rattle.sp_layout.specs.LaidOut.{LayoutOf, break_places, keyed, layout_behind}
 use Rattle.sp_elements.proofs.BodyExchanges.{count-append}
 use Rattle.sp_elements.proofs.BodyLaws.{placed_in-append}
 use Rattle.sp_relay.specs.declared.kept.PartPlaces.{PartPlaces}
 use Rattle.sp_relay.specs.Runs.{with_breaks}
 use Rattle.sp_relay.specs.Kept.{with_part}
 use Rattle.sp_relay.specs.Relaid.{places_of, IsRelaid, relaid_elements}
+use Rattle.sp_relay.proofs.BreakLaws.{breaks-moved, breaks-shifted, breaks-three, elements_in}
 use Rattle.sp_relay.proofs.RunsBack.{front-of}
 
 keys-append : (lines : List LineState) (one other : List ElementOf) → map (row_key lines) (placed_in (one ++ other)) ≡ map (row_key lines) (placed_in one) ++ map (row_key lines) (placed_in other)
@@ -60,9 +61,6 @@ module _ (lines later : List LineState) (less more : ℕ) (front gone come rest 
   front-keys : (among : Group Spoken → Bool) → map (row_key later) (placed_in (laid_of among lines front)) ≡ map (row_key lines) (placed_in (laid_of among lines front))
   front-keys among = ap (λ (es : List ElementOf). map (row_key later) (placed_in es)) (sym (still-laid (laid_of among lines front))) ∙ keys-moved 0 0 lines later among front still
 
-  front-breaks : breaks_from later 0 front ≡ breaks_from lines 0 front
-  front-breaks = ap (breaks_from later 0) (sym (still-groups front)) ∙ breaks-moved 0 0 lines later 0 front still
-
   elements-part : (among : Group Spoken → Bool) → ((l m : ℕ) (g : Group Spoken) → among (moved_group l m g) ≡ among g)
       → with_run (body_of lines (laid_of among lines (front ++ (gone ++ rest)))) (length (laid_of among lines front)) (length (laid_of among lines front) + length (laid_of among lines gone)) (body_of later (laid_of among later come)) less more
       ≡ body_of later (laid_of among later (front ++ (come ++ map (moved_group less more) rest)))
@@ -82,70 +80,46 @@ module _ (lines later : List LineState) (less more : ℕ) (front gone come rest 
   body-same : (l m : ℕ) (g : Group Spoken) → in_body (moved_group l m g) ≡ in_body g
   body-same l m g = refl
 
-  -- Rows in front, up to the end of what goes, and what comes.
+  -- Elements in front, those that go, and those that come.
   abbrev rf : ℕ
-  rf = rows_in lines front
+  rf = elements_in lines front
 
   abbrev rg : ℕ
-  rg = rows_in lines gone
+  rg = elements_in lines gone
 
   abbrev rc : ℕ
-  rc = rows_in later come
+  rc = elements_in later come
 
-  rows-front : rows_in later front ≡ rf
-  rows-front = ap (λ (es : List ElementOf). length (placed_in es)) (front-laid lines later front still in_body (body-same 0 0))
-
-  breaks-part : with_breaks (breaks_from lines 0 (front ++ (gone ++ rest))) (length (breaks_from lines 0 front)) (length (breaks_from lines 0 front) + length (breaks_from lines rf gone)) (breaks_from later 0 come) rf (rf + rg) (rf + rc)
-      ≡ breaks_from later 0 (front ++ (come ++ map (moved_group less more) rest))
+  breaks-part : with_breaks (break_places 0 (front ++ (gone ++ rest))) (length (break_places 0 front)) (length (break_places 0 front) + length (break_places rf gone)) (break_places 0 come) rf (rf + rg) (rf + rc)
+      ≡ break_places 0 (front ++ (come ++ map (moved_group less more) rest))
   breaks-part =
-      let f = breaks_from lines 0 front in
-      let g = breaks_from lines rf gone in
-      let k = breaks_from lines (rf + rg) rest in
-      let first : 0 + rf ≡ rf = omega arith in
-      let split : breaks_from lines 0 (front ++ (gone ++ rest)) ≡ f ++ (g ++ k) =
-      breaks-append lines 0 front (gone ++ rest) ∙ ap (λ n. f ++ breaks_from lines n (gone ++ rest)) first ∙ ap (λ (ns : List ℕ). f ++ ns) (breaks-append lines rf gone rest) in
+      let f = break_places 0 front in
+      let g = break_places rf gone in
+      let k = break_places (rf + rg) rest in
       let parts = front-of f g k (length f) (length f + length g) refl refl in
       let come_at : 0 - 0 + rf ≡ rf = omega arith in
       let rest_at : rf + rg - (rf + rg) + (rf + rc) ≡ rf + rc = omega arith in
-      let behind : 0 + rows_in later front ≡ rf = omega (arith, rows-front) in
-      ap (λ (ns : List ℕ). take (length f) ns ++ (map (shifted 0 rf) (breaks_from later 0 come) ++ map (shifted (rf + rg) (rf + rc)) (drop (length f + length g) ns))) split
-      ∙ ap₂ (λ (xs ys : List ℕ). xs ++ (map (shifted 0 rf) (breaks_from later 0 come) ++ map (shifted (rf + rg) (rf + rc)) ys)) parts.0 parts.2
+      ap (λ (ns : List ℕ). take (length f) ns ++ (map (shifted 0 rf) (break_places 0 come) ++ map (shifted (rf + rg) (rf + rc)) (drop (length f + length g) ns))) (breaks-three lines lines front gone rest)
+      ∙ ap₂ (λ (xs ys : List ℕ). xs ++ (map (shifted 0 rf) (break_places 0 come) ++ map (shifted (rf + rg) (rf + rc)) ys)) parts.0 parts.2
       ∙ ap₂ (λ (xs ys : List ℕ). f ++ (xs ++ ys))
-      (breaks-shifted later 0 rf 0 come (omega arith) ∙ ap (λ n. breaks_from later n come) come_at)
-      (breaks-shifted lines (rf + rg) (rf + rc) (rf + rg) rest (omega arith) ∙ ap (λ n. breaks_from lines n rest) rest_at ∙ sym (breaks-moved less more lines later (rf + rc) rest moved))
-      ∙ sym (breaks-append later 0 front (come ++ map (moved_group less more) rest)
-      ∙ ap₂ (λ (xs : List ℕ) n. xs ++ breaks_from later n (come ++ map (moved_group less more) rest)) front-breaks behind
-      ∙ ap (λ (ns : List ℕ). f ++ ns) (breaks-append later rf come (map (moved_group less more) rest)))
-
-  pub body-till : row_count (take (length (laid_of in_body lines front)) (laid_of in_body lines (front ++ (gone ++ rest)))) ≡ rf
-  body-till = ap (λ (es : List ElementOf). row_count (take (length (laid_of in_body lines front)) es)) (laid-three in_body lines front gone rest)
-      ∙ ap row_count (take_at (laid_of in_body lines front) (laid_of in_body lines gone ++ laid_of in_body lines rest) (length (laid_of in_body lines front)) refl)
-
-  pub body-end : row_count (take (length (laid_of in_body lines front) + length (laid_of in_body lines gone)) (laid_of in_body lines (front ++ (gone ++ rest)))) ≡ rf + rg
-  body-end =
-      let f = laid_of in_body lines front in
-      let g = laid_of in_body lines gone in
-      ap (λ (es : List ElementOf). row_count (take (length f + length g) es)) (laid-three in_body lines front gone rest)
-      ∙ ap row_count ((front-of f g (laid_of in_body lines rest) (length f) (length f + length g) refl refl).1) ∙ count-append f g
+      (breaks-shifted 0 rf 0 come (omega arith) ∙ ap (λ n. break_places n come) come_at)
+      (breaks-shifted (rf + rg) (rf + rc) (rf + rg) rest (omega arith) ∙ ap (λ n. break_places n rest) rest_at ∙ sym (breaks-moved less more (rf + rc) rest))
+      ∙ sym (breaks-three lines later front come (map (moved_group less more) rest))
 
   -- The layout after the edit: that before it, with the elements that come laid out in the place of those that go.
-  pub part-is : with_part (keyed lines (layout_in lines (front ++ (gone ++ rest)))) (places_of lines front gone less more) (keyed later (layout_in later come))
-      ≡ keyed later (layout_in later (front ++ (come ++ map (moved_group less more) rest)))
+  pub part-is : with_part (keyed lines (front ++ (gone ++ rest))) (places_of lines front gone less more) (keyed later come) ≡ keyed later (front ++ (come ++ map (moved_group less more) rest))
   part-is =
       let at = places_of lines front gone less more in
-      let old = breaks_from lines 0 (front ++ (gone ++ rest)) in
-      let come_breaks = breaks_from later 0 come in
       let titles = with_run (body_of lines (laid_of is_title_element lines (front ++ (gone ++ rest)))) at.title_from at.title_to (body_of later (laid_of is_title_element later come)) less more in
       let body = with_run (body_of lines (laid_of in_body lines (front ++ (gone ++ rest)))) at.from at.to (body_of later (laid_of in_body later come)) less more in
-      ap₂ (λ n m. record { titles = titles; body = body; breaks = with_breaks old at.break_from at.break_to come_breaks n m (n + rc) }) body-till body-end
-      ∙ ap (λ (those : List ℕ). record { titles = titles; body = body; breaks = those }) breaks-part
-      ∙ ap₂ (λ (t b : KeyedElements). record { titles = t; body = b; breaks = breaks_from later 0 (front ++ (come ++ map (moved_group less more) rest)) }) (elements-part is_title_element title-same) (elements-part in_body body-same)
+      ap (λ (those : List ℕ). record { titles = titles; body = body; breaks = those }) breaks-part
+      ∙ ap₂ (λ (t b : KeyedElements). record { titles = t; body = b; breaks = break_places 0 (front ++ (come ++ map (moved_group less more) rest)) }) (elements-part is_title_element title-same) (elements-part in_body body-same)
 
 -- The layout of the elements after an edit, with those behind the part as they were.
 pub relaid-is : (before lines : List LineState) (speakers : SpeakersOf) (blocks : List PlacedBlock) (places : PartPlaces) (layout : LayoutOf) (it : IsRelaid before lines speakers blocks places layout)
-    → with_part layout places (layout_behind lines speakers blocks) ≡ keyed lines (layout_in lines (relaid_elements before lines speakers blocks places layout it))
+    → with_part layout places (layout_behind lines speakers blocks) ≡ keyed lines (relaid_elements before lines speakers blocks places layout it)
 relaid-is before lines speakers blocks places layout it =
     let part = layout_behind lines speakers blocks in
     let come = spoken_elements speakers.on lines speakers.last blocks in
-    ap₂ (λ (l : LayoutOf) (at : PartPlaces). with_part l at part) (it.was ∙ ap (λ (those : List (Group Spoken)). keyed before (layout_in before those)) it.old) it.at
+    ap₂ (λ (l : LayoutOf) (at : PartPlaces). with_part l at part) (it.was ∙ ap (keyed before) it.old) it.at
     ∙ part-is before lines places.less places.more it.front it.gone come it.rest it.still it.moved

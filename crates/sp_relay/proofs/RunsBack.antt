@@ -62,9 +62,6 @@ pub record RunBack (body others new taken : KeyedElements) (from to end less mor
   pub rows : row_count new.elements + row_count taken.elements ≡ row_count body.elements + row_count others.elements
   pub taken_count : length taken.elements ≡ to - from
   pub run_rows : row_count (slice_range new.elements from end) ≡ row_count others.elements
-  pub from_rows : row_count (take from new.elements) ≡ row_count (take from body.elements)
-  pub to_rows : row_count (take end new.elements) ≡ row_count (take from body.elements) + row_count others.elements
-  pub taken_rows : row_count (take from body.elements) + row_count taken.elements ≡ row_count (take to body.elements)
 
 pub run-back : (body others : KeyedElements) (from to end less more : ℕ) → CanExchange body from to less more → length body.keys ≡ row_count body.elements → length others.keys ≡ row_count others.elements
     → end ≡ from + length others.elements → RunBack body others (with_run body from to others less more) (run_of body from to) from to end less more
@@ -111,9 +108,6 @@ run-back body others from to end less more can keys other_keys end_is =
       rows = omega (arith, new_rows, m_count, all, till);
       taken_count = r_len;
       run_rows = ap row_count run_is;
-      from_rows = ap row_count parts.0;
-      to_rows = rows_till;
-      taken_rows = sym till;
     }
 
 -- The same of page breaks.

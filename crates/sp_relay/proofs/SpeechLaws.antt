@@ -13,7 +13,7 @@ use Rattle.spec_script.specs.LongestRuns.{Group}
 use Rattle.spec_script.specs.Stanzas.{PlacedBlock, blocks_from, stanzas_of}
 use Rattle.spec_pages.specs.Rows.{Row, ElementOf}
 use Rattle.spec_layout.specs.Speakers.{Spoken, spoken_elements}
-use Rattle.spec_layout.specs.Layout.{in_body, laid_out, layout_in}
+use Rattle.spec_layout.specs.Layout.{in_body, laid_out}
 use Rattle.spec_layout.proofs.RowLaws.{IsText-texts}
 use Rattle.spec_reread.specs.Windows.{stanza_lines_in}
 use Rattle.spec_reread.proofs.WindowBlocks.{blocks-append}
@@ -22,6 +22,7 @@ use Rattle.spec_relay.proofs.LayoutParts.{laid_of, laid-append}
 use Rattle.spec_relay.proofs.PlacedElements.{element_first, spoken-firsts, laid-firsts}
 use Rattle.spec_relay.proofs.RelaidStanzas.{front-stands}
 use Rattle.spec_relay.proofs.StanzaBlocks.{any-blocks, any-placed, blocks-past, lines-append}
+use Rattle.sp_runs.proofs.RunLaws.{slice-parts}
 use Rattle.sp_elements.specs.Exchanges.{rows_at}
 use Rattle.sp_elements.specs.Places.{ArePartedAt, CountsBefore}
 use Rattle.sp_elements.proofs.ElementCounts.{counts-one, counts-parts}
@@ -31,7 +32,7 @@ use Rattle.sp_relay.specs.Changes.{IsSpeechIn, SpeechOf, with_speech}
 use Rattle.sp_relay.specs.Speeches.{IsFirstSettling, IsSpeechElement, SpeaksNone, blocks_behind, body_blocks, first_goes_on}
 use Rattle.sp_relay.proofs.SpokenAnew.{SpeechParts, first-rows, goes-behind, goes-past-heading, head_of, quiet-count, quiet-split, speech-in, speech-laid, speech-parts}
 use Rattle.sp_piles.proofs.SettlingLaws.{drop-at}
-use Rattle.sp_relay.proofs.StanzaLists.{one-there, slice-split, take-split}
+use Rattle.sp_relay.proofs.StanzaLists.{one-there, take-split}
 
 -- Blocks of the stanzas of a text from one on begin before a later one.
 pub slice-low : (text : TextState) (stanzas : List StanzaOf) (from to : ℕ) → IsText text → stanzas ≡ stanzas_of (line_texts text.lines) → from ≤ to
@@ -54,7 +55,7 @@ filled stanzas from place s order there some p =
     let own : slice_range stanzas place (place + 1) ≡ s ∷ [] = ap₂ (λ n (ss : List StanzaOf). take n ss) one (drop-at stanzas place s there) in
     let q = p + stanza_lines_in early in
     let all : blocks_from p (slice_range stanzas from (place + 1)) ≡ blocks_from p early ++ (map (placed_at q) s.blocks ++ []) =
-    ap (blocks_from p) (slice-split stanzas from place (place + 1) order (omega arith)) ∙ blocks-append p early (slice_range stanzas place (place + 1)) ∙ ap (λ (ss : List StanzaOf). blocks_from p early ++ blocks_from q ss) own in
+    ap (blocks_from p) (sym (slice-parts stanzas from place (place + 1) order (omega arith))) ∙ blocks-append p early (slice_range stanzas place (place + 1)) ∙ ap (λ (ss : List StanzaOf). blocks_from p early ++ blocks_from q ss) own in
     omega (arith, ap (λ (bs : List PlacedBlock). length bs) all, length-append (blocks_from p early) (map (placed_at q) s.blocks ++ []), length-append (map (placed_at q) s.blocks) [], length-map s.blocks (placed_at q), some)
 
 -- Blocks from a stanza on, before a later one and from that on.
@@ -132,7 +133,7 @@ module _ (stanzas : List StanzaOf) (from : ℕ) (place : BlockPlace) (it : IsFir
       let mine = blocks_from line (slice_range stanzas place.stanza until) in
       let more = blocks_from (line + it.stanza.lines) (slice_range stanzas (place.stanza + 1) until) in
       let parts : mine ≡ map (placed_at line) it.stanza.blocks ++ more =
-      ap (blocks_from line) (slice-split stanzas place.stanza (place.stanza + 1) until (omega arith) low ∙ ap (λ (ss : List StanzaOf). ss ++ slice_range stanzas (place.stanza + 1) until) own) in
+      ap (blocks_from line) (sym (slice-parts stanzas place.stanza (place.stanza + 1) until (omega arith) low) ∙ ap (λ (ss : List StanzaOf). ss ++ slice_range stanzas (place.stanza + 1) until) own) in
       let count : length mine ≡ length it.stanza.blocks + length more =
       omega (arith, ap (λ (bs : List PlacedBlock). length bs) parts, length-append (map (placed_at line) it.stanza.blocks) more, length-map it.stanza.blocks (placed_at line)) in
       let rest = blocks_from (line + stanza_lines_in (slice_range stanzas place.stanza until)) (drop until stanzas) in
@@ -165,7 +166,7 @@ module _ (stanzas : List StanzaOf) (from : ℕ) (place : BlockPlace) (it : IsFir
   goes-at texts last = ap (first_goes_on texts last) from-quiet ∙ goes-behind texts last quiet (speech_at ∷ blocks_past) quiet-none
 
   module _ (says : is_speech_kind it.block.kind ≡ true) (text : TextState) (keeps : IsText text) (list : stanzas ≡ stanzas_of (line_texts text.lines)) (on : Bool) (one other : Option (List ℕ)) (front : List (Group Spoken)) (layout : LayoutOf)
-      (was : layout ≡ keyed text.lines (layout_in text.lines (front ++ spoken_elements on text.lines one (blocks_behind stanzas from)))) (low : All (λ (g : Group Spoken). element_first g < stanza_lines_in (take from stanzas)) front) where
+      (was : layout ≡ keyed text.lines (front ++ spoken_elements on text.lines one (blocks_behind stanzas from))) (low : All (λ (g : Group Spoken). element_first g < stanza_lines_in (take from stanzas)) front) where
     abbrev ls : List LineState
     ls = text.lines
 
@@ -217,7 +218,7 @@ module _ (stanzas : List StanzaOf) (from : ℕ) (place : BlockPlace) (it : IsFir
     -- With the rows behind the other speaker it is the layout of the elements behind that one.
     pub record SpeechDone (speech : SpeechOf) : Type 0 where
       pub in_it : IsSpeechIn layout (length (laid_of in_body ls front)) speech
-      pub laid : with_speech layout (Some speech) ≡ keyed ls (layout_in ls (front ++ spoken_elements on ls other (blocks_behind stanzas from)))
+      pub laid : with_speech layout (Some speech) ≡ keyed ls (front ++ spoken_elements on ls other (blocks_behind stanzas from))
 
     pub speech-done : (speech : SpeechOf) → IsSpeechElement stanzas layout.body.elements place speech.element
         → speech.rows ≡ rows_at (laid_of in_body ls (spoken_elements on ls other (take 2 (drop place.block (blocks_behind stanzas place.stanza))))) 0 → SpeechDone speech
@@ -228,8 +229,8 @@ module _ (stanzas : List StanzaOf) (from : ℕ) (place : BlockPlace) (it : IsFir
         let own : SpeechOf = record { element = length (laid_of in_body ls fore); rows = (laid_out ls new).rows } in
         let is : speech ≡ own = ap₂ (λ n (those : List Row). record { element = n; rows = those }) (element-is speech.element element)
         (rows ∙ ap (λ (bs : List PlacedBlock). rows_at (laid_of in_body ls (spoken_elements on ls other (take 2 bs))) 0) from-speech ∙ first-rows on ls other speech_at blocks_past says) in
-        let old_is : layout ≡ keyed ls (layout_in ls (fore ++ old ∷ parts.later)) =
-        was ∙ ap (λ (gs : List (Group Spoken)). keyed ls (layout_in ls gs)) (ap (λ (bs : List PlacedBlock). front ++ spoken_elements on ls one bs) from-quiet ∙ ap (λ (gs : List (Group Spoken)). front ++ gs) parts.old ∙ sym (append_assoc front parts.front (old ∷ parts.later))) in
+        let old_is : layout ≡ keyed ls (fore ++ old ∷ parts.later) =
+        was ∙ ap (λ (gs : List (Group Spoken)). keyed ls gs) (ap (λ (bs : List PlacedBlock). front ++ spoken_elements on ls one bs) from-quiet ∙ ap (λ (gs : List (Group Spoken)). front ++ gs) parts.old ∙ sym (append_assoc front parts.front (old ∷ parts.later))) in
         let new_is : front ++ spoken_elements on ls other (blocks_behind stanzas from) ≡ fore ++ new ∷ parts.later =
         ap (λ (bs : List PlacedBlock). front ++ spoken_elements on ls other bs) from-quiet ∙ ap (λ (gs : List (Group Spoken)). front ++ gs) parts.new ∙ sym (append_assoc front parts.front (new ∷ parts.later)) in
         let inner = subst (IsSpeechIn layout 0) (sym is) (subst (λ (l : LayoutOf). IsSpeechIn l 0 own) (sym old_is) (speech-in ls fore new old parts.later parts.alike)) in
@@ -239,5 +240,5 @@ module _ (stanzas : List StanzaOf) (from : ℕ) (place : BlockPlace) (it : IsFir
             inside = inner.inside;
             alike = inner.alike;
           };
-          laid = ap₂ (λ (l : LayoutOf) (s : SpeechOf). with_speech l (Some s)) old_is is ∙ speech-laid ls fore new old parts.later parts.alike ∙ sym (ap (λ (gs : List (Group Spoken)). keyed ls (layout_in ls gs)) new_is);
+          laid = ap₂ (λ (l : LayoutOf) (s : SpeechOf). with_speech l (Some s)) old_is is ∙ speech-laid ls fore new old parts.later parts.alike ∙ sym (ap (λ (gs : List (Group Spoken)). keyed ls gs) new_is);
         }

@@ -19,20 +19,21 @@ use Rattle.spec_pages.specs.Columns.{has_rows}
 use Rattle.spec_labels.specs.declared.RowKey.{RowKey}
 use Rattle.spec_layout.specs.Shown.{row_key}
 use Rattle.spec_layout.specs.Speakers.{Spoken, cue_text, is_last_speaker, is_pair, name_in, named_block, named_from, settled, settled_element, speaker_after, speaker_by, spoken_elements}
-use Rattle.spec_layout.specs.Layout.{breaks_from, in_body, is_page_break, is_title_element, kind_of, laid_out, layout_in, placed_in, rows_behind}
+use Rattle.spec_layout.specs.Layout.{in_body, is_page_break, is_title_element, kind_of, laid_out, placed_in}
 use Rattle.spec_layout.proofs.SpokenLaws.{spoken_alone, spoken_elements-alone, spoken_elements-pair, spoken_pair}
 use Rattle.spec_reread.specs.Settling.{settles_kind}
 use Rattle.spec_relay.specs.Moved.{settles}
-use Rattle.spec_relay.proofs.LayoutParts.{laid_of, laid-append, rows_in, breaks-append}
+use Rattle.spec_relay.proofs.LayoutParts.{laid_of, laid-append}
 use Rattle.spec_relay.proofs.Parts.{settled-by}
 use Rattle.sp_elements.specs.Bodies.{body_of}
 use Rattle.sp_elements.specs.Exchanges.{AreRowsAlike, rows_at, with_rows_at}
 use Rattle.sp_elements.proofs.BodyLaws.{placed_in-append}
-use Rattle.sp_elements.proofs.RowSwaps.{length-alike, rows-beside, rows-there}
-use Rattle.sp_layout.specs.LaidOut.{LayoutOf, keyed}
+use Rattle.sp_elements.proofs.RowSwaps.{rows-beside, rows-there}
+use Rattle.sp_layout.specs.LaidOut.{LayoutOf, break_places, keyed, places_behind}
 use Rattle.sp_layout.specs.Speaking.{SpeakersOf, speakers_after}
 use Rattle.sp_relay.specs.Changes.{IsSpeechIn, SpeechOf, with_speech}
 use Rattle.sp_relay.specs.Speeches.{body_blocks, Speaks, first_goes_on, goes_by}
+use Rattle.sp_relay.proofs.BreakLaws.{breaks-append, elements_in}
 use Rattle.sp_relay.proofs.SpeakerLaws.{passed-by, says-alike}
 
 -- ---- kinds
@@ -399,7 +400,7 @@ module _ (lines : List LineState) (front : List (Group Spoken)) (new old : Group
   speech = record { element = place; rows = rows }
 
   abbrev was : LayoutOf
-  was = keyed lines (layout_in lines (front ++ old ∷ later))
+  was = keyed lines (front ++ old ∷ later)
 
   body-with : (group : Group Spoken) → in_body group ≡ true → laid_of in_body lines (front ++ group ∷ later) ≡ laid_of in_body lines front ++ laid_out lines group ∷ laid_of in_body lines later
   body-with group is = laid-append in_body lines front (group ∷ later) ∙ ap (λ (es : List ElementOf). laid_of in_body lines front ++ es) (laid-body lines group later is)
@@ -408,12 +409,12 @@ module _ (lines : List LineState) (front : List (Group Spoken)) (new old : Group
   titles-with group none = laid-append is_title_element lines front (group ∷ later) ∙ ap (λ (es : List ElementOf). laid_of is_title_element lines front ++ es) (laid-titles lines group later none)
 
   breaks-with : (group : Group Spoken) → in_body group ≡ true → is_page_break (kind_of group) ≡ false
-      → breaks_from lines 0 (front ++ group ∷ later) ≡ breaks_from lines 0 front ++ breaks_from lines (0 + rows_in lines front + length (laid_out lines group).rows) later
+      → break_places 0 (front ++ group ∷ later) ≡ break_places 0 front ++ break_places (0 + elements_in lines front + 1) later
   breaks-with group is none =
-      let count = 0 + rows_in lines front in
+      let count = 0 + elements_in lines front in
       breaks-append lines 0 front (group ∷ later)
-      ∙ ap (λ b. breaks_from lines 0 front ++ cond b (count ∷ breaks_from lines (rows_behind lines count group) later) (breaks_from lines (rows_behind lines count group) later)) none
-      ∙ ap (λ b. breaks_from lines 0 front ++ breaks_from lines (cond b (count + length (laid_out lines group).rows) count) later) is
+      ∙ ap (λ b. break_places 0 front ++ cond b (count ∷ break_places (places_behind count group) later) (break_places (places_behind count group) later)) none
+      ∙ ap (λ b. break_places 0 front ++ break_places (cond b (count + 1) count) later) is
 
   keys-with : (group : Group Spoken) → map (row_key lines) (placed_in (laid_of in_body lines front ++ laid_out lines group ∷ laid_of in_body lines later))
       ≡ map (row_key lines) (placed_in (laid_of in_body lines front)) ++ (map (row_key lines) (placed_rows (laid_out lines group)) ++ map (row_key lines) (placed_in (laid_of in_body lines later)))
@@ -443,13 +444,10 @@ module _ (lines : List LineState) (front : List (Group Spoken)) (new old : Group
       ∙ ap (λ (ks : List RowKey). map (row_key lines) (placed_in (laid_of in_body lines front)) ++ (ks ++ map (row_key lines) (placed_in (laid_of in_body lines later)))) (sym alike.keys)
       ∙ sym (ap (λ (es : List ElementOf). map (row_key lines) (placed_in es)) (body-with new alike.body.0) ∙ keys-with new)
 
-  breaks-is : breaks_from lines 0 (front ++ old ∷ later) ≡ breaks_from lines 0 (front ++ new ∷ later)
-  breaks-is =
-      breaks-with old alike.body.1 alike.breaks.1
-      ∙ ap (λ n. breaks_from lines 0 front ++ breaks_from lines (0 + rows_in lines front + n) later) (sym (length-alike rows (laid_out lines old).rows alike.rows))
-      ∙ sym (breaks-with new alike.body.0 alike.breaks.0)
+  breaks-is : break_places 0 (front ++ old ∷ later) ≡ break_places 0 (front ++ new ∷ later)
+  breaks-is = breaks-with old alike.body.1 alike.breaks.1 ∙ sym (breaks-with new alike.body.0 alike.breaks.0)
 
-  pub speech-laid : with_speech was (Some speech) ≡ keyed lines (layout_in lines (front ++ new ∷ later))
+  pub speech-laid : with_speech was (Some speech) ≡ keyed lines (front ++ new ∷ later)
   speech-laid =
       ap₂ (λ (es : List ElementOf) (ks : List RowKey). record { titles = was.titles; body = record { elements = es; keys = ks }; breaks = was.breaks }) elements-is keys-is
       ∙ ap₂ (λ (es : List ElementOf) (ns : List ℕ). record { titles = body_of lines es; body = body_of lines (laid_of in_body lines (front ++ new ∷ later)); breaks = ns })

@@ -1,8 +1,9 @@
 -- Parts of lists of stanzas.
-use Rattle.std.proofs.Common.{◌≡◌, ℕ, suc, ◌+◌, ◌-◌, ◌<◌, ◌≤◌, true, false, List, [], ◌∷◌, ◌++◌, take, drop, slice_get, slice_range, Some, sym, ap, ap₂, subst, ◌∙◌, arith, append_assoc, take-add, drop-drop}
+use Rattle.std.proofs.Common.{◌≡◌, ℕ, zero, suc, ◌+◌, ◌-◌, ◌<◌, ◌≤◌, true, false, not, List, [], ◌∷◌, ◌++◌, length, take, drop, slice_get, slice_range, Some, sym, ap, ap₂, subst, ◌∙◌, arith, append_assoc, take-add}
 use Rattle.std.proofs.lemmas.Option.{get_or_from_slice_get}
-use Rattle.spec_script.specs.BlockValues.{StanzaOf}
-use Rattle.spec_relay.specs.RelaidStanzas.{first_apart, OpensApart}
+use Rattle.spec_script.specs.BlockValues.{BlockOf, StanzaOf}
+use Rattle.spec_relay.specs.Moved.{is_left}
+use Rattle.spec_relay.specs.RelaidStanzas.{first_apart, last_apart, ClosesApart, OpensApart}
 use Rattle.sp_piles.proofs.SettlingLaws.{drop-at}
 use Rattle.sp_relay.specs.Edges.{opens_first}
 
@@ -10,12 +11,6 @@ pub take-split : {X : Type 0} (xs : List X) (i j : ℕ) → i ≤ j → take j x
 take-split xs i j order =
     let same : j ≡ i + (j - i) = omega (arith, order) in
     ap (λ n. take n xs) same ∙ take-add i (j - i) xs
-
-pub slice-split : {X : Type 0} (xs : List X) (i j k : ℕ) → i ≤ j → j ≤ k → slice_range xs i k ≡ slice_range xs i j ++ slice_range xs j k
-slice-split xs i j k one two =
-    let count : k - i ≡ (j - i) + (k - j) = omega (arith, one, two) in
-    let same : i + (j - i) ≡ j = omega (arith, one) in
-    ap (λ n. take n (drop i xs)) count ∙ take-add (j - i) (k - j) (drop i xs) ∙ ap (λ ys. slice_range xs i j ++ take (k - j) ys) (drop-drop (j - i) i xs ∙ ap (λ n. drop n xs) same)
 
 pub part-four : {X : Type 0} (ws xs ys zs : List X) → ws ++ (xs ++ (ys ++ zs)) ≡ (ws ++ (xs ++ ys)) ++ zs
 part-four ws xs ys zs = ap (λ those. ws ++ those) (sym (append_assoc xs ys zs)) ∙ sym (append_assoc ws (xs ++ ys) zs)
@@ -35,6 +30,45 @@ opens-at stanzas i s at is = subst OpensApart (sym (drop-at stanzas i s at)) is
 
 pub opens-first : (stanzas : List StanzaOf) (i : ℕ) (s : StanzaOf) → slice_get stanzas i ≡ Some s → OpensApart (drop i stanzas) → first_apart s.blocks ≡ true
 opens-first stanzas i s at is = subst OpensApart (drop-at stanzas i s at) is
+
+-- Where the last of them ends with a block that is joined with none behind it.
+pub last-get : (blocks : List BlockOf) (b : BlockOf) → slice_get blocks (length blocks - 1) ≡ Some b → last_apart blocks ≡ not (is_left b)
+last-get [] b at = cc
+last-get (x ∷ []) b at = let same : x ≡ b = cc (at) in ap (λ (it : BlockOf). not (is_left it)) same
+last-get (x ∷ y ∷ bs) b at =
+    let place : length (x ∷ y ∷ bs) - 1 ≡ suc (length (y ∷ bs) - 1) = omega arith in
+    last-get (y ∷ bs) b (sym (ap (slice_get (x ∷ y ∷ bs)) place) ∙ at)
+
+pub closes-at : (stanzas : List StanzaOf) (i : ℕ) (s : StanzaOf) → slice_get stanzas i ≡ Some s → last_apart s.blocks ≡ true → ClosesApart (take (suc i) stanzas)
+closes-at [] i s at is = let bad : ⊥ = cc (at) in absurd bad
+closes-at (x ∷ xs) zero s at is = let same : x ≡ s = cc (at) in subst (λ (t : StanzaOf). last_apart t.blocks ≡ true) (sym same) is
+closes-at (x ∷ []) (suc i) s at is = let bad : ⊥ = cc (at) in absurd bad
+closes-at (x ∷ y ∷ xs) (suc i) s at is = closes-at (y ∷ xs) i s at is
+
+pub closes-of : (stanzas : List StanzaOf) (i : ℕ) (s : StanzaOf) → slice_get stanzas i ≡ Some s → ClosesApart (take (suc i) stanzas) → last_apart s.blocks ≡ true
+closes-of [] i s at is = let bad : ⊥ = cc (at) in absurd bad
+closes-of (x ∷ xs) zero s at is = let same : x ≡ s = cc (at) in subst (λ (t : StanzaOf). last_apart t.blocks ≡ true) same is
+closes-of (x ∷ []) (suc i) s at is = let bad : ⊥ = cc (at) in absurd bad
+closes-of (x ∷ y ∷ xs) (suc i) s at is = closes-of (y ∷ xs) i s at is
+
+-- The same up to a place, and from one to before another.
+pub closes-before : (stanzas : List StanzaOf) (i j : ℕ) (s : StanzaOf) → j ≡ i + 1 → slice_get stanzas i ≡ Some s → last_apart s.blocks ≡ true → ClosesApart (take j stanzas)
+closes-before stanzas i j s next at is = let count : suc i ≡ j = omega (arith, next) in subst (λ n. ClosesApart (take n stanzas)) count (closes-at stanzas i s at is)
+
+pub closes-before-of : (stanzas : List StanzaOf) (i j : ℕ) (s : StanzaOf) → j ≡ i + 1 → slice_get stanzas i ≡ Some s → ClosesApart (take j stanzas) → last_apart s.blocks ≡ true
+closes-before-of stanzas i j s next at is = let count : j ≡ suc i = omega (arith, next) in closes-of stanzas i s at (subst (λ n. ClosesApart (take n stanzas)) count is)
+
+dropped-at : (stanzas : List StanzaOf) (to i : ℕ) (s : StanzaOf) → to ≤ i → slice_get stanzas i ≡ Some s → slice_get (drop to stanzas) (i - to) ≡ Some s
+dropped-at stanzas zero i s low at = let same : i - 0 ≡ i = omega arith in ap (slice_get stanzas) same ∙ at
+dropped-at [] (suc to) i s low at = let bad : ⊥ = cc (at) in absurd bad
+dropped-at (x ∷ xs) (suc to) zero s low at = absurd (omega (arith, low))
+dropped-at (x ∷ xs) (suc to) (suc i) s low at = let same : suc i - suc to ≡ i - to = omega arith in ap (slice_get (drop to xs)) same ∙ dropped-at xs to i s (omega (arith, low)) at
+
+pub closes-slice : (stanzas : List StanzaOf) (to i j : ℕ) (s : StanzaOf) → j ≡ i + 1 → to ≤ i → slice_get stanzas i ≡ Some s → last_apart s.blocks ≡ true → ClosesApart (slice_range stanzas to j)
+closes-slice stanzas to i j s next low at is = closes-before (drop to stanzas) (i - to) (j - to) s (omega (arith, next, low)) (dropped-at stanzas to i s low at) is
+
+pub closes-slice-of : (stanzas : List StanzaOf) (to i j : ℕ) (s : StanzaOf) → j ≡ i + 1 → to ≤ i → slice_get stanzas i ≡ Some s → ClosesApart (slice_range stanzas to j) → last_apart s.blocks ≡ true
+closes-slice-of stanzas to i j s next low at is = closes-before-of (drop to stanzas) (i - to) (j - to) s (omega (arith, next, low)) (dropped-at stanzas to i s low at) is
 
 -- Whether those from one place to before another begin so.
 pub opens-window : (stanzas : List StanzaOf) (at stands : ℕ) (s : StanzaOf) → slice_get stanzas at ≡ Some s → 0 < stands → opens_first (slice_range stanzas at (at + stands)) ≡ first_apart s.blocks

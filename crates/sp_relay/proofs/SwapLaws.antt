@@ -6,22 +6,21 @@ use Rattle.spec_script.specs.LongestRuns.{Group}
 use Rattle.spec_script.specs.Stanzas.{PlacedBlock, blocks_of}
 use Rattle.spec_pages.specs.Rows.{ElementOf}
 use Rattle.spec_layout.specs.Speakers.{Spoken, spoken_elements, text_elements}
-use Rattle.spec_layout.specs.Layout.{is_title_element, in_body, breaks_from, layout_in}
+use Rattle.spec_layout.specs.Layout.{is_title_element, in_body}
 use Rattle.spec_layout.proofs.ElementPlaces.{blocks_of-stand}
-use Rattle.spec_layout.proofs.RowCounts.{layout_of-few}
 use Rattle.spec_layout.proofs.RowLaws.{IsText-texts}
 use Rattle.spec_relay.proofs.MovedElements.{GroupStays}
-use Rattle.spec_relay.proofs.LayoutParts.{laid_of, laid-three, rows_in, rows-append, breaks-append}
-use Rattle.spec_relay.proofs.PlacedElements.{element_first, spoken-firsts, laid-firsts, breaks-low, breaks-high}
-use Rattle.sp_elements.specs.Bodies.{KeyedElements, row_count}
-use Rattle.sp_layout.specs.LaidOut.{LayoutOf, keyed, layout_behind}
+use Rattle.spec_relay.proofs.LayoutParts.{laid_of, laid-three}
+use Rattle.spec_relay.proofs.PlacedElements.{element_first, spoken-firsts, laid-firsts}
+use Rattle.sp_elements.specs.Bodies.{KeyedElements}
+use Rattle.sp_layout.specs.LaidOut.{LayoutOf, break_places, layout_behind}
 use Rattle.sp_layout.specs.Speaking.{SpeakersOf}
 use Rattle.sp_relay.specs.declared.kept.PartPlaces.{PartPlaces}
 use Rattle.sp_relay.specs.Runs.{MovesBack, ElementMoves, CanExchange, CanExchangeBreaks}
-use Rattle.sp_relay.specs.Kept.{CanSwap, rows_to}
+use Rattle.sp_relay.specs.Kept.{CanSwap}
 use Rattle.sp_relay.specs.Relaid.{IsRelaid}
 use Rattle.sp_relay.proofs.RunsBack.{front-of}
-use Rattle.sp_relay.proofs.PartLaws.{body-till, body-end}
+use Rattle.sp_relay.proofs.BreakLaws.{breaks-high, breaks-low, breaks-three, elements-append, elements_in, text-few}
 
 -- A run of elements can be exchanged.
 run-can : (body : KeyedElements) (front gone rest : List ElementOf) (from to less more : ℕ) → body.elements ≡ front ++ (gone ++ rest) → from ≡ length front → to ≡ length front + length gone → All (ElementMoves less more) rest
@@ -69,7 +68,7 @@ groups-move less more before lines groups stay low few k d h =
     let two = low k d h in
     record { here = record { from = one; fits = omega (arith, two, few) }; was = omega (arith, two) }
 
--- The layouts of both texts have few rows; so the part can be put in.
+-- The layouts of both texts have few elements; so the part can be put in.
 pub relaid-can : (before : TextState) (lines : TextState) (speakers : SpeakersOf) (blocks : List PlacedBlock) (places : PartPlaces) (layout : LayoutOf) → IsText before → IsText lines
     → places.more ≤ 200000 → IsRelaid before.lines lines.lines speakers blocks places layout → CanSwap layout places (layout_behind lines.lines speakers blocks)
 relaid-can before lines speakers blocks places layout old_keeps new_keeps near it =
@@ -86,40 +85,32 @@ relaid-can before lines speakers blocks places layout old_keeps new_keeps near i
     ap (λ (l : LayoutOf). l.titles.elements) it.was ∙ ap (laid_of is_title_element olds) it.old ∙ laid-three is_title_element olds it.front it.gone it.rest in
     let body_is : layout.body.elements ≡ laid_of in_body olds it.front ++ (laid_of in_body olds it.gone ++ laid_of in_body olds it.rest) =
     ap (λ (l : LayoutOf). l.body.elements) it.was ∙ ap (laid_of in_body olds) it.old ∙ laid-three in_body olds it.front it.gone it.rest in
-    let rf = rows_in olds it.front in
-    let rg = rows_in olds it.gone in
-    let rr = rows_in olds it.rest in
-    let rc = rows_in news come in
-    let first : 0 + rf ≡ rf = omega arith in
-    let breaks_are : layout.breaks ≡ breaks_from olds 0 it.front ++ (breaks_from olds rf it.gone ++ breaks_from olds (rf + rg) it.rest) =
-    ap (λ (l : LayoutOf). l.breaks) it.was ∙ ap (breaks_from olds 0) it.old ∙ breaks-append olds 0 it.front (it.gone ++ it.rest)
-    ∙ ap (λ n. breaks_from olds 0 it.front ++ breaks_from olds n (it.gone ++ it.rest)) first
-    ∙ ap (λ (ns : List ℕ). breaks_from olds 0 it.front ++ ns) (breaks-append olds rf it.gone it.rest) in
-    let old_rows : rf + rg + rr ≤ 16777216 =
-    let few = layout_of-few on before old_keeps in
-    omega (arith, few, ap (rows_in olds) it.old, rows-append olds it.front (it.gone ++ it.rest), rows-append olds it.gone it.rest) in
-    let new_rows : rc ≤ 16777216 =
-    let few = layout_of-few on lines new_keeps in
-    omega (arith, few, ap (rows_in news) it.new, rows-append news it.front (come ++ it.said), rows-append news come it.said) in
+    let rf = elements_in olds it.front in
+    let rg = elements_in olds it.gone in
+    let rr = elements_in olds it.rest in
+    let rc = elements_in news come in
+    let breaks_are : layout.breaks ≡ break_places 0 it.front ++ (break_places rf it.gone ++ break_places (rf + rg) it.rest) =
+    ap (λ (l : LayoutOf). l.breaks) it.was ∙ ap (break_places 0) it.old ∙ breaks-three olds olds it.front it.gone it.rest in
+    let old_count : rf + rg + rr ≤ 200000 =
+    let few = text-few on before old_keeps in
+    omega (arith, few, ap (elements_in olds) it.old, elements-append olds it.front (it.gone ++ it.rest), elements-append olds it.gone it.rest) in
+    let new_count : rc ≤ 200000 =
+    let few = text-few on lines new_keeps in
+    omega (arith, few, ap (elements_in news) it.new, elements-append news it.front (come ++ it.said), elements-append news come it.said) in
     let title_from = ap (λ (p : PartPlaces). p.title_from) it.at in
     let title_to = ap (λ (p : PartPlaces). p.title_to) it.at in
     let from = ap (λ (p : PartPlaces). p.from) it.at in
     let to = ap (λ (p : PartPlaces). p.to) it.at in
     let break_from = ap (λ (p : PartPlaces). p.break_from) it.at in
     let break_to = ap (λ (p : PartPlaces). p.break_to) it.at in
-    let split = it.was ∙ ap (λ (gs : List (Group Spoken)). keyed olds (layout_in olds gs)) it.old in
-    let row_from : rows_to layout places.from ≡ rf =
-    ap₂ (λ (l : LayoutOf) n. row_count (take n l.body.elements)) split from ∙ body-till olds news less more it.front it.gone come it.rest it.still it.moved in
-    let row_to : rows_to layout places.to ≡ rf + rg =
-    ap₂ (λ (l : LayoutOf) n. row_count (take n l.body.elements)) split to ∙ body-end olds news less more it.front it.gone come it.rest it.still it.moved in
-    let stops = stops-can layout.breaks (breaks_from olds 0 it.front) (breaks_from olds rf it.gone) (breaks_from olds (rf + rg) it.rest) (breaks_from news 0 come) places.break_from places.break_to rf (rf + rg) (rf + rc) breaks_are break_from break_to
-    (λ k d h. let high = breaks-high news 0 come k d h in record { here = record { from = omega arith; fits = omega (arith, high, old_rows, new_rows) }; was = omega (arith, high, new_rows) })
-    (λ k d h. let low = breaks-low olds rf it.gone k d h in let high = breaks-high olds rf it.gone k d h in record { here = record { from = low; fits = omega (arith, high, old_rows) }; was = omega (arith, high, old_rows) })
-    (λ k d h. let low = breaks-low olds (rf + rg) it.rest k d h in let high = breaks-high olds (rf + rg) it.rest k d h in record { here = record { from = low; fits = omega (arith, high, old_rows, new_rows) }; was = omega (arith, high, old_rows) }) in
+    let stops = stops-can layout.breaks (break_places 0 it.front) (break_places rf it.gone) (break_places (rf + rg) it.rest) (break_places 0 come) places.break_from places.break_to rf (rf + rg) (rf + rc) breaks_are break_from break_to
+    (λ k d h. let high = breaks-high news 0 come k d h in record { here = record { from = omega arith; fits = omega (arith, high, old_count, new_count) }; was = omega (arith, high, new_count) })
+    (λ k d h. let low = breaks-low rf it.gone k d h in let high = breaks-high olds rf it.gone k d h in record { here = record { from = low; fits = omega (arith, high, old_count) }; was = omega (arith, high, old_count) })
+    (λ k d h. let low = breaks-low (rf + rg) it.rest k d h in let high = breaks-high olds (rf + rg) it.rest k d h in record { here = record { from = low; fits = omega (arith, high, old_count, new_count) }; was = omega (arith, high, old_count) }) in
     record {
       titles = run-can layout.titles (laid_of is_title_element olds it.front) (laid_of is_title_element olds it.gone) (laid_of is_title_element olds it.rest) places.title_from places.title_to less more titles_are title_from title_to
           (laid-firsts (MovesBack less more) is_title_element olds it.rest moves);
       body = run-can layout.body (laid_of in_body olds it.front) (laid_of in_body olds it.gone) (laid_of in_body olds it.rest) places.from places.to less more body_is from to (laid-firsts (MovesBack less more) in_body olds it.rest moves);
-      breaks = subst (λ n. CanExchangeBreaks layout.breaks places.break_from places.break_to (breaks_from news 0 come) n (rows_to layout places.to) (n + rc)) (sym row_from)
-          (subst (λ m. CanExchangeBreaks layout.breaks places.break_from places.break_to (breaks_from news 0 come) rf m (rf + rc)) (sym row_to) stops);
+      breaks = subst (λ n. CanExchangeBreaks layout.breaks places.break_from places.break_to (break_places 0 come) n places.to (n + rc)) (sym from)
+          (subst (λ m. CanExchangeBreaks layout.breaks places.break_from places.break_to (break_places 0 come) rf m (rf + rc)) (sym to) stops);
     }

@@ -2,7 +2,7 @@
 use Rattle.std.proofs.Common.{◌≡◌, ℕ, ◌+◌, ◌-◌, ◌≤◌, Bool, List, ◌++◌, take, drop, slice_range, sym, ap, subst, ◌∙◌, arith, take-take, drop-drop, length, length-append, length-take, append_assoc, take_at, drop_at}
 use Rattle.spec_text.specs.Lines.{LineState, TextState, IsText, line_texts}
 use Rattle.spec_script.specs.Stanzas.{stanzas_of}
-use Rattle.spec_layout.specs.Layout.{layout_of}
+use Rattle.spec_layout.specs.Speakers.{text_elements}
 use Rattle.spec_reread.specs.Windows.{IsEdited, IsWindow, stanza_lines_in, stanzas_between}
 use Rattle.spec_reread.proofs.Counts.{count-between}
 use Rattle.spec_reread.proofs.Edits.{edited-lines}
@@ -15,7 +15,7 @@ use Rattle.sp_relay.specs.Edited.{WasLaidOf, window_start, window_end, window_wa
 use Rattle.sp_relay.proofs.StanzaLists.{take-split}
 
 -- An edit displaced the stanzas of its window, and left the lines outside its range as they were.
-pub was-laid-of : (before after : TextState) (swapped : SwappedState) (on : Bool) (layout : LayoutOf) (first old new a b : ℕ) → IsText before → layout ≡ keyed before.lines (layout_of on before.lines)
+pub was-laid-of : (before after : TextState) (swapped : SwappedState) (on : Bool) (layout : LayoutOf) (first old new a b : ℕ) → IsText before → layout ≡ keyed before.lines (text_elements on before.lines)
     → take first before.lines ≡ take first after.lines → drop (first + old) before.lines ≡ drop (first + new) after.lines
     → IsEdited (line_texts before.lines) (line_texts after.lines) first old new → IsWindow (line_texts before.lines) (line_texts after.lines) first old new a b
     → GivesBack swapped (stanzas_of (line_texts after.lines)) (stanzas_of (line_texts before.lines))
@@ -57,7 +57,7 @@ was-laid-of before after swapped on layout first old new a b keeps was start res
     }
 
 -- The same where the edit put some lines in the place of others.
-pub was-laid-put : (before after : TextState) (others : List LineState) (swapped : SwappedState) (on : Bool) (layout : LayoutOf) (first old a b : ℕ) → IsText before → layout ≡ keyed before.lines (layout_of on before.lines)
+pub was-laid-put : (before after : TextState) (others : List LineState) (swapped : SwappedState) (on : Bool) (layout : LayoutOf) (first old a b : ℕ) → IsText before → layout ≡ keyed before.lines (text_elements on before.lines)
     → first + old ≤ length before.lines → after.lines ≡ take first before.lines ++ (others ++ drop (first + old) before.lines)
     → IsWindow (line_texts before.lines) (line_texts after.lines) first old (length others) a b
     → GivesBack swapped (stanzas_of (line_texts after.lines)) (stanzas_of (line_texts before.lines))

@@ -1,6 +1,6 @@
 -- A text laid out that is kept, and parts of it that are exchanged (docs/RULES.md, "Windows").
-use Rattle.std.specs.Prelude.{ℕ, ◌+◌, ◌-◌, ◌≤◌, List, length, take}
-use Rattle.sp_elements.specs.Bodies.{BodyOf, keyed_elements, row_count}
+use Rattle.std.specs.Prelude.{◌≡◌, ℕ, ◌+◌, ◌-◌, ◌≤◌, List, length}
+use Rattle.sp_elements.specs.Bodies.{BodyOf, keyed_elements}
 use Rattle.sp_elements.specs.Exchanges.{with_run}
 use Rattle.sp_layout.specs.LaidOut.{LayoutOf}
 use Rattle.sp_relay.specs.declared.kept.PartPlaces.{PartPlaces}
@@ -22,17 +22,21 @@ pub record PartOf : Type 0 where
   pub places : PartPlaces
   pub kept : KeptOf
 
--- How many rows of the body stand before a part, up to its end, and so many come.
-abbrev pub rows_to : LayoutOf → ℕ → ℕ
-rows_to layout place = row_count (take place layout.body.elements)
-
 -- The layout with a part in the place of what stood there.
 abbrev pub with_part : LayoutOf → PartPlaces → LayoutOf → LayoutOf
 with_part layout at part = record {
   titles = with_run layout.titles at.title_from at.title_to part.titles at.less at.more;
   body = with_run layout.body at.from at.to part.body at.less at.more;
-  breaks = with_breaks layout.breaks at.break_from at.break_to part.breaks (rows_to layout at.from) (rows_to layout at.to) (rows_to layout at.from + row_count part.body.elements);
+  breaks = with_breaks layout.breaks at.break_from at.break_to part.breaks at.from at.to (at.from + length part.body.elements);
 }
+
+-- The layout that is kept with a part put in its place.
+abbrev pub with_kept : KeptOf → PartOf → LayoutOf
+with_kept kept part = with_part (laid_of kept) part.places (laid_of part.kept)
+
+-- The part is the same but for room.
+abbrev pub IsSamePart : PartOf → PartOf → Type 0
+IsSamePart one other = (one.places ≡ other.places) × (laid_of one.kept ≡ laid_of other.kept)
 
 -- Where the part stands that came, and where lines stood behind what it took the place of.
 abbrev pub places_back : PartPlaces → LayoutOf → PartPlaces
@@ -51,7 +55,7 @@ places_back at part = record {
 pub record CanSwap (layout : LayoutOf) (at : PartPlaces) (part : LayoutOf) : Type 0 where
   pub titles : CanExchange layout.titles at.title_from at.title_to at.less at.more
   pub body : CanExchange layout.body at.from at.to at.less at.more
-  pub breaks : CanExchangeBreaks layout.breaks at.break_from at.break_to part.breaks (rows_to layout at.from) (rows_to layout at.to) (rows_to layout at.from + row_count part.body.elements)
+  pub breaks : CanExchangeBreaks layout.breaks at.break_from at.break_to part.breaks at.from at.to (at.from + length part.body.elements)
 
 -- There is room for it, and for what stands there.
 pub record HasPartRoom (kept : KeptOf) (at : PartPlaces) (part : KeptOf) : Type 0 where

@@ -4,12 +4,12 @@ use Rattle.spec_text.specs.Lines.{LineState}
 use Rattle.spec_script.specs.LongestRuns.{Group}
 use Rattle.spec_script.specs.Stanzas.{PlacedBlock}
 use Rattle.spec_layout.specs.Speakers.{Spoken, spoken_elements, text_elements}
-use Rattle.spec_layout.specs.Layout.{is_title_element, in_body, breaks_from, layout_in, layout_of}
+use Rattle.spec_layout.specs.Layout.{is_title_element, in_body}
 use Rattle.spec_relay.specs.Moved.{moved_group}
 use Rattle.spec_relay.proofs.MovedElements.{GroupStays}
-use Rattle.spec_relay.proofs.LayoutParts.{laid_of, rows_in}
+use Rattle.spec_relay.proofs.LayoutParts.{laid_of}
 use Rattle.sp_layout.specs.Speaking.{SpeakersOf}
-use Rattle.sp_layout.specs.LaidOut.{LayoutOf, keyed}
+use Rattle.sp_layout.specs.LaidOut.{LayoutOf, break_places, keyed}
 use Rattle.sp_relay.specs.declared.kept.PartPlaces.{PartPlaces}
 
 -- Where the elements of a text that an edit takes away stand, and how it moves those behind them.
@@ -19,8 +19,8 @@ places_of lines front gone less more = record {
   title_to = length (laid_of is_title_element lines front) + length (laid_of is_title_element lines gone);
   from = length (laid_of in_body lines front);
   to = length (laid_of in_body lines front) + length (laid_of in_body lines gone);
-  break_from = length (breaks_from lines 0 front);
-  break_to = length (breaks_from lines 0 front) + length (breaks_from lines (rows_in lines front) gone);
+  break_from = length (break_places 0 front);
+  break_to = length (break_places 0 front) + length (break_places (length (laid_of in_body lines front)) gone);
   less = less;
   more = more;
 }
@@ -33,7 +33,7 @@ pub record IsRelaid (before lines : List LineState) (speakers : SpeakersOf) (blo
   pub gone : List (Group Spoken)
   pub rest : List (Group Spoken)
   pub said : List (Group Spoken)
-  pub was : layout ≡ keyed before (layout_of speakers.on before)
+  pub was : layout ≡ keyed before (text_elements speakers.on before)
   pub old : text_elements speakers.on before ≡ front ++ (gone ++ rest)
   pub new : text_elements speakers.on lines ≡ front ++ (spoken_elements speakers.on lines speakers.last blocks ++ said)
   pub still : All (GroupStays 0 0 before lines) front
@@ -48,4 +48,4 @@ relaid_elements before lines speakers blocks places layout it =
 -- Where the layout is that of a text before an edit, it becomes that of these elements.
 abbrev pub IsLaidAnew : List LineState → SpeakersOf → List PlacedBlock → PartPlaces → LayoutOf → LayoutOf → Type 0
 IsLaidAnew lines speakers blocks places old new =
-    (before : List LineState) (it : IsRelaid before lines speakers blocks places old) → new ≡ keyed lines (layout_in lines (relaid_elements before lines speakers blocks places old it))
+    (before : List LineState) (it : IsRelaid before lines speakers blocks places old) → new ≡ keyed lines (relaid_elements before lines speakers blocks places old it)

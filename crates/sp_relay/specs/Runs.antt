@@ -25,7 +25,7 @@ pub record HasRoom (body : BodyOf) (from to : ℕ) (other : BodyOf) : Type 0 whe
   pub back_room : to - from ≤ other.room
   pub back_row_room : row_count (slice_range body.elements from to) ≤ other.row_room
 
--- Page breaks in place of those from one place to before another: they count from a row on, and the later ones are moved.
+-- Page breaks in place of those from one place to before another: they count from an element on, and the later ones are moved.
 abbrev pub with_breaks : List ℕ → ℕ → ℕ → List ℕ → ℕ → ℕ → ℕ → List ℕ
 with_breaks breaks from to others base less more = take from breaks ++ (map (shifted 0 base) others ++ map (shifted less more) (drop to breaks))
 

@@ -1,14 +1,16 @@
 //! Where the part of a layout that an edit changes begins and ends.
-ghost use Rattle.std.specs.Prelude.{◌≡◌, ◌<◌, ◌≤◌, ◌+◌, length, take, IfNone, IfSome};
+ghost use Rattle.std.specs.Prelude.{◌≡◌, ◌<◌, ◌≤◌, ◌+◌, length, take};
+ghost use Rattle.spec_script.specs.Elements.{is_speech_kind};
 ghost use Rattle.spec_reread.specs.Windows.{stanza_lines_in};
-ghost use Rattle.spec_relay.specs.RelaidStanzas.{OpensApart, first_apart};
-ghost use Rattle.sp_relay.specs.Edges.{BreaksAt, CanBegin, CanEnd, CanPart, IsEdge, IsNearestEnd, IsNearestStart, IsPartBegin, IsPartEnd, IsPartStart, opens_first, windows_open};
+ghost use Rattle.spec_relay.specs.RelaidStanzas.{OpensApart, first_apart, last_apart};
+ghost use Rattle.sp_relay.specs.Edges.{CanBegin, CanBeginWindow, CanEnd, CanPart, IsEdge, IsNearestBegin, IsNearestEnd, IsNearestStart, IsPartBegin, IsPartEnd, IsPartStart, opens_first, windows_open};
 ghost use Rattle.sp_relay.specs.Kept.{laid_of};
 
 use crate::KeptLayout;
 use sp_block_values::Stanza;
 use sp_elements::{count_below, elements_before};
 use sp_reread::{Stanzas, Swapped};
+use spec_script::Kind;
 
 /// Where a part of a layout begins or ends: before which stanza, before which element of the title page and which of the
 /// body, and before which page break.
@@ -30,26 +32,36 @@ fn opens_apart(stanza: &Stanza) -> bool
     }
 }
 
-/// The edge before a stanza that begins at a line of the layout's text, unless a page break stands right there.
-fn edge_at(kept: &KeptLayout, stanza: usize, line: usize) -> Option<PartEdge>
+fn is_speech(kind: Kind) -> bool
+    ensures { result ≡ is_speech_kind kind }
+{
+    matches!(kind, Kind::Speech)
+}
+
+/// Whether the last block of a stanza is no speech without a caret, so that it is joined with none behind it.
+fn closes_apart(stanza: &Stanza) -> bool
+    ensures { result ≡ last_apart stanza.now.blocks }
+{
+    match stanza.blocks.last() {
+        Some(block) => !is_speech(block.kind) || block.caret,
+        None => false,
+    }
+}
+
+/// The edge before a stanza that begins at a line of the layout's text.
+fn edge_at(kept: &KeptLayout, stanza: usize, line: usize) -> PartEdge
     requires { CanPart (laid_of kept.now) line }
-    ensures is { IfSome result (IsEdge (laid_of kept.now) line) }
-    ensures stanza { IfSome result (λ edge. edge.stanza ≡ stanza) }
-    ensures none { IfNone result (BreaksAt (laid_of kept.now) line) }
+    ensures is { IsEdge (laid_of kept.now) line result }
+    ensures stanza { result.stanza ≡ stanza }
 {
     let titles = elements_before(kept.titles.elements(), line);
     let body = elements_before(kept.body.elements(), line);
-    let row = kept.body.rows_before(body);
-    let breaks = count_below(&kept.breaks, row);
-    if breaks < kept.breaks.len() && kept.breaks[breaks] == row {
-        return None;
-    }
-    Some(PartEdge {
+    PartEdge {
         stanza,
         titles,
         body,
-        breaks,
-    })
+        breaks: count_below(&kept.breaks, body),
+    }
 }
 
 /// The same of the first of these stanzas; not where there is none.
@@ -76,32 +88,33 @@ fn windows_open(stanzas: &Stanzas, swapped: &Swapped) -> bool
 pub fn part_begin(stanzas: &Stanzas, swapped: &Swapped, kept: &KeptLayout) -> PartEdge
     requires within { swapped.now.at + swapped.now.stands ≤ length stanzas.now.stanzas }
     requires can { CanBegin stanzas.now.stanzas swapped.now.at (laid_of kept.now) }
-    requires window { OpensApart swapped.now.stanzas → CanPart (laid_of kept.now) (stanza_lines_in (take swapped.now.at stanzas.now.stanzas)) }
-    ensures { IsPartBegin stanzas.now.stanzas swapped.now (laid_of kept.now) result }
+    requires window { CanBeginWindow stanzas.now.stanzas swapped.now (laid_of kept.now) }
+    ensures is { IsPartBegin stanzas.now.stanzas swapped.now (laid_of kept.now) result }
+    ensures nearest { IsNearestBegin stanzas.now.stanzas swapped.now result.stanza }
 {
     let at = swapped.at();
     if windows_open(stanzas, swapped) {
-        if let Some(edge) = edge_at(kept, at, stanzas.lines_before(at)) {
-            return edge;
-        }
+        return edge_at(kept, at, stanzas.lines_before(at));
     }
     part_start(stanzas, at, kept)
 }
 
-/// Where the part begins in front of the window that begins before the stanza `at`.
+/// Where the part begins in front of the window that begins before the stanza `at`: before the last stanza there that begins with a
+/// block without a caret or behind the last one that ends with a block that is joined with none behind it, or before all.
 fn part_start(stanzas: &Stanzas, at: usize, kept: &KeptLayout) -> PartEdge
     requires within { at ≤ length stanzas.now.stanzas }
     requires can { CanBegin stanzas.now.stanzas at (laid_of kept.now) }
     ensures is { IsPartStart stanzas.now.stanzas at (laid_of kept.now) result }
-    ensures nearest { IsNearestStart stanzas.now.stanzas at (laid_of kept.now) result.stanza }
+    ensures nearest { IsNearestStart stanzas.now.stanzas at result.stanza }
 {
     let mut place = at;
     while place > 0 {
+        if closes_apart(stanzas.stanza(place - 1)) {
+            return edge_at(kept, place, stanzas.lines_before(place));
+        }
         place -= 1;
         if opens_apart(stanzas.stanza(place)) {
-            if let Some(edge) = edge_at(kept, place, stanzas.lines_before(place)) {
-                return edge;
-            }
+            return edge_at(kept, place, stanzas.lines_before(place));
         }
     }
     PartEdge {
@@ -112,21 +125,25 @@ fn part_start(stanzas: &Stanzas, at: usize, kept: &KeptLayout) -> PartEdge
     }
 }
 
-/// Where the part ends, behind the window that ends before the stanza `to`: with the line `end`, which was the line `was`.
+/// Where the part ends, behind the window that ends before the stanza `to`, with the line `end`, which was the line `was`: before the
+/// first stanza there that begins with a block without a caret or behind the first one that ends with a block that is joined with none
+/// behind it, or behind all.
 pub fn part_end(stanzas: &Stanzas, to: usize, was: usize, end: usize, kept: &KeptLayout) -> PartEdge
     requires within { to ≤ length stanzas.now.stanzas }
     requires end { end ≡ stanza_lines_in (take to stanzas.now.stanzas) }
     requires low { was + stanza_lines_in stanzas.now.stanzas ≤ 9223372036854775807 }
     requires can { CanEnd stanzas.now.stanzas to was end (laid_of kept.now) }
     ensures is { IsPartEnd stanzas.now.stanzas to was end (laid_of kept.now) result }
-    ensures nearest { IsNearestEnd stanzas.now.stanzas to was end (laid_of kept.now) result.stanza }
+    ensures nearest { IsNearestEnd stanzas.now.stanzas to result.stanza }
 {
     for place in to..stanzas.len() {
         if opens_apart(stanzas.stanza(place)) {
             let line = stanzas.lines_before(place) - end + was;
-            if let Some(edge) = edge_at(kept, place, line) {
-                return edge;
-            }
+            return edge_at(kept, place, line);
+        }
+        if closes_apart(stanzas.stanza(place)) {
+            let line = stanzas.lines_before(place + 1) - end + was;
+            return edge_at(kept, place + 1, line);
         }
     }
     PartEdge {

@@ -1,20 +1,17 @@
 //! A layout kept through an edit.
-ghost use Rattle.std.specs.Prelude.{◌≡◌, ◌⊎◌, ◌≤◌, ◌+◌, ◌-◌, ◌↔◌, IsTrue, true, false, length, take, slice_range, IfOk, OnErr, OnOk};
+ghost use Rattle.std.specs.Prelude.{◌≡◌, ◌⊎◌, ◌≤◌, ◌+◌, ◌-◌, ◌↔◌, IsTrue, true, false, length, slice_range, IfOk, OnErr, OnOk};
 ghost use Rattle.std.specs.List.{list_any};
 ghost use Rattle.spec_text.specs.Lines.{line_texts};
-ghost use Rattle.spec_script.specs.Stanzas.{blocks_from, stanzas_of};
+ghost use Rattle.spec_script.specs.Stanzas.{stanzas_of};
 ghost use Rattle.spec_script.specs.Elements.{is_speech_block};
-ghost use Rattle.spec_layout.specs.Layout.{layout_of};
+ghost use Rattle.spec_layout.specs.Speakers.{text_elements};
 ghost use Rattle.spec_reread.specs.Settling.{stanza_settles};
 ghost use Rattle.spec_reread.specs.Windows.{stanza_lines_in};
 ghost use Rattle.sp_layout.specs.LaidOut.{keyed};
-ghost use Rattle.sp_layout.specs.Speaking.{speakers_after};
 ghost use Rattle.sp_relay.specs.Edges.{edge_places};
 ghost use Rattle.sp_relay.specs.Changes.{CanChange, HasChangeRoom, with_change};
-ghost use Rattle.sp_relay.specs.Edited.{AreAlike, AreLast, IsEditPart, IsEdited, WasLaid, last_behind, old_speakers, windows_settle};
+ghost use Rattle.sp_relay.specs.Edited.{AreAlikeAt, AreLastBehind, IsEditPart, IsEdited, IsSaidBehind, KeepsToWindow, LeavesOutside, WasLaid, old_speakers, speakers_to, windows_settle};
 ghost use Rattle.sp_relay.specs.Kept.{KeepsRoom, laid_of};
-ghost use Rattle.sp_relay.specs.Outside.{StaysOutside};
-ghost use Rattle.sp_relay.specs.Speeches.{IsSaidAnew};
 
 use crate::edges::{PartEdge, part_begin, part_end};
 use crate::kept::exchange_speech;
@@ -81,7 +78,7 @@ fn speakers_before(
 ) -> Result<Speakers, AllocError>
     requires list { stanzas.now.stanzas ≡ stanzas_of (line_texts lines.now.lines) }
     requires within { to ≤ length stanzas.now.stanzas }
-    ensures { IfOk result (λ it. it ≡ speakers_after (line_texts lines.now.lines) speakers (blocks_from 0 (take to stanzas.now.stanzas))) }
+    ensures { IfOk result (λ it. it ≡ speakers_to lines.now.lines stanzas.now.stanzas speakers to) }
 {
     let _count = lines.len();
     let past = stanzas.settled_before(to);
@@ -129,7 +126,7 @@ fn last_speakers(
     requires edit { IsEdited old.now lines.now.lines stanzas.now.stanzas swapped.now }
     requires low { swapped.now.at + swapped.now.stands ≤ from }
     requires within { from ≤ length stanzas.now.stanzas }
-    ensures { IfOk result (AreLast (last_behind old.now lines.now.lines stanzas.now.stanzas swapped.now speakers from)) }
+    ensures { IfOk result (AreLastBehind old.now lines.now.lines stanzas.now.stanzas swapped.now speakers from) }
 {
     let _len = stanzas.len();
     let to = swapped.at() + swapped.stands();
@@ -159,7 +156,7 @@ fn speech_behind(
     requires edit { IsEdited old.now lines.now.lines stanzas.now.stanzas swapped.now }
     requires low { swapped.now.at + swapped.now.stands ≤ from }
     requires within { from ≤ length stanzas.now.stanzas }
-    ensures { IfOk result (IsSaidAnew lines.now.lines stanzas.now.stanzas from (last_behind old.now lines.now.lines stanzas.now.stanzas swapped.now speakers from)) }
+    ensures { IfOk result (IsSaidBehind old.now lines.now.lines stanzas.now.stanzas swapped.now speakers from) }
 {
     match last_speakers(alloc, lines, old, stanzas, swapped, speakers, from)? {
         Some(last) => said_anew(alloc, lines, stanzas, from, last),
@@ -185,7 +182,7 @@ fn speakers_for(
 ) -> Result<Speakers, AllocError>
     requires list { stanzas.now.stanzas ≡ stanzas_of (line_texts lines.now.lines) }
     requires within { to ≤ length stanzas.now.stanzas }
-    ensures { IfOk result (λ it. AreAlike lines.now.lines blocks.now it (speakers_after (line_texts lines.now.lines) speakers (blocks_from 0 (take to stanzas.now.stanzas)))) }
+    ensures { IfOk result (AreAlikeAt lines.now.lines stanzas.now.stanzas speakers to blocks.now) }
 {
     if speakers && has_speech(blocks) {
         speakers_before(alloc, lines, stanzas, to, speakers)
@@ -213,9 +210,10 @@ fn places_between(start: PartEdge, stop: PartEdge, was: usize, end: usize) -> Pa
 /// Makes a kept layout that of the text after an edit (docs/RULES.md, "Windows"), by the text's stanzas, what their update
 /// displaced, and the lines of the text before. It lays out the stanzas of the edit's window and those round it that may be joined
 /// with them, and moves what stands behind; and where another one spoke last behind this part than before, the speech that comes
-/// first behind it, if no heading stands between, gets the rows with or without `(CONT'D)`. Each row outside the part stands on the
-/// lines, with their ids and marks, that it stood on before the edit. What it answers leads back when it is made in its turn. The
-/// error is want of memory alone; the layout is then as it was.
+/// first behind it, if no heading stands between, gets the rows with or without `(CONT'D)`. The part has at most one element more in
+/// front of the window and one behind it. Each row outside the part stands on the lines, with their ids and marks, that it stood on
+/// before the edit. What it answers leads back when it is made in its turn. The error is want of memory alone; the layout is then as
+/// it was.
 pub fn relay_edit(
     alloc: Global,
     lines: &Lines,
@@ -227,9 +225,10 @@ pub fn relay_edit(
 ) -> Result<LayoutChange, AllocError>
     requires list { stanzas.now.stanzas ≡ stanzas_of (line_texts lines.now.lines) }
     requires was { WasLaid old.now lines.now.lines stanzas.now.stanzas swapped.now speakers (laid_of kept.old) }
-    ensures layout { OnOk result (laid_of kept.new ≡ keyed lines.now.lines (layout_of speakers lines.now.lines)) }
+    ensures layout { OnOk result (laid_of kept.new ≡ keyed lines.now.lines (text_elements speakers lines.now.lines)) }
     ensures part { IfOk result (λ it. IsEditPart stanzas.now.stanzas swapped.now (laid_of kept.old) it.part.places) }
-    ensures outside { IfOk result (λ it. StaysOutside old.now lines.now.lines (laid_of kept.new).body.elements it.part.places) }
+    ensures few { IfOk result (KeepsToWindow stanzas.now.stanzas swapped.now) }
+    ensures outside { IfOk result (LeavesOutside old.now lines.now.lines kept.new) }
     ensures back { IfOk result (λ it. with_change (laid_of kept.new) it ≡ laid_of kept.old) }
     ensures again { IfOk result (CanChange (laid_of kept.new)) }
     ensures returns { IfOk result (HasChangeRoom kept.new) }

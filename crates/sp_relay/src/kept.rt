@@ -1,7 +1,7 @@
 //! A text laid out that is kept, and parts of it that are exchanged.
 ghost use Rattle.std.specs.Prelude.{◌≡◌, IfErr, IfOk, IsOk, OnErr, OnOk};
 ghost use Rattle.sp_relay.specs.Changes.{CanChange, CanMoveSpeech, CanSpeak, HasChangeRoom, IsSameChange, KeepsAllRoom, SpeaksBehind, moved_speech, speech_back, with_change, with_speech};
-ghost use Rattle.sp_relay.specs.Kept.{CanSwap, HasPartRoom, KeepsRoom, laid_of, places_back, with_part};
+ghost use Rattle.sp_relay.specs.Kept.{CanSwap, HasPartRoom, IsSamePart, KeepsRoom, laid_of, places_back, with_kept, with_part};
 
 use crate::runs::{exchange_breaks, exchange_run, make_break_room, make_run_room};
 use sp_elements::{Body, Row};
@@ -138,10 +138,6 @@ fn exchange_part(kept: &mut KeptLayout, at: &PartPlaces, part: &mut KeptLayout) 
     ensures kept_room { KeepsRoom kept.old kept.new }
     ensures part_room { KeepsRoom part.old part.new }
 {
-    let _len = kept.body.len();
-    let row = kept.body.rows_before(at.from);
-    let row_end = kept.body.rows_before(at.to);
-    let end = row + part.body.rows();
     let title_to = exchange_run(
         &mut kept.titles,
         at.title_from,
@@ -163,9 +159,9 @@ fn exchange_part(kept: &mut KeptLayout, at: &PartPlaces, part: &mut KeptLayout) 
         at.break_from,
         at.break_to,
         &mut part.breaks,
-        row,
-        row_end,
-        end,
+        at.from,
+        at.to,
+        to,
     );
     PartPlaces {
         title_from: at.title_from,
@@ -232,16 +228,16 @@ impl KeptLayout {
     /// there is room; then the layout is as it was, and the part is handed back.
     pub fn swap(&mut self, back: LayoutPart) -> Result<LayoutPart, UnswappedLayout>
         requires { CanSwap (laid_of self.old) back.places (laid_of back.kept) }
-        ensures layout { OnOk result (laid_of self.new ≡ with_part (laid_of self.old) back.places (laid_of back.kept)) }
+        ensures layout { OnOk result (laid_of self.new ≡ with_kept self.old back) }
         ensures places { IfOk result (λ it. it.places ≡ places_back back.places (laid_of back.kept)) }
-        ensures back { IfOk result (λ it. with_part (laid_of self.new) it.places (laid_of it.kept) ≡ laid_of self.old) }
+        ensures back { IfOk result (λ it. with_kept self.new it ≡ laid_of self.old) }
         ensures can { IfOk result (λ it. CanSwap (laid_of self.new) it.places (laid_of it.kept)) }
         ensures returns { IfOk result (λ it. HasPartRoom self.new it.places it.kept) }
         ensures room { KeepsRoom self.old self.new }
         ensures part_room { IfOk result (λ it. KeepsRoom back.kept it.kept) }
         ensures never { HasPartRoom self.old back.places back.kept → IsOk result }
         ensures same { OnErr result (laid_of self.new ≡ laid_of self.old) }
-        ensures handed_back { IfErr result (λ e. (e.back.places ≡ back.places) × (laid_of e.back.kept ≡ laid_of back.kept)) }
+        ensures handed_back { IfErr result (λ e. IsSamePart e.back back) }
     {
         let LayoutPart { places, mut kept } = back;
         match make_part_room(self, &places, &mut kept) {

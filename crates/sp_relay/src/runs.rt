@@ -1,6 +1,6 @@
 //! Elements and page breaks exchanged, with room made first.
-ghost use Rattle.std.specs.Prelude.{◌≡◌, ◌+◌, ◌-◌, ◌≤◌, length, take, vec_len, vec_capacity, IsOk, OnOk};
-ghost use Rattle.sp_elements.specs.Bodies.{keyed_elements, row_count};
+ghost use Rattle.std.specs.Prelude.{◌≡◌, ◌+◌, ◌-◌, ◌≤◌, length, vec_len, vec_capacity, IsOk, OnOk};
+ghost use Rattle.sp_elements.specs.Bodies.{keyed_elements};
 ghost use Rattle.sp_elements.specs.Exchanges.{run_of, with_run};
 ghost use Rattle.sp_relay.specs.Runs.{CanExchange, CanExchangeBreaks, HasRoom, breaks_in, with_breaks};
 
@@ -58,9 +58,7 @@ pub fn exchange_run(
     ensures to { result ≡ from + length other.old.elements }
     ensures back { with_run (keyed_elements body.new) from result (keyed_elements other.new) more less ≡ keyed_elements body.old }
     ensures can { CanExchange (keyed_elements body.new) from result more less }
-    ensures from_rows { row_count (take from body.new.elements) ≡ row_count (take from body.old.elements) }
-    ensures to_rows { row_count (take result body.new.elements) ≡ row_count (take from body.old.elements) + row_count other.old.elements }
-    ensures taken_rows { row_count (take from body.old.elements) + row_count other.new.elements ≡ row_count (take to body.old.elements) }
+    ensures taken { from + length other.new.elements ≡ to }
     ensures room { HasRoom body.new from result other.new }
     ensures body_room { (body.new.room ≡ body.old.room) × (body.new.row_room ≡ body.old.row_room) }
     ensures other_room { (other.new.room ≡ other.old.room) × (other.new.row_room ≡ other.old.row_room) }

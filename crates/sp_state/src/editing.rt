@@ -16,7 +16,7 @@ ghost use Rattle.sp_relay.specs.Kept.{laid_of};
 ghost use Rattle.sp_made_parts.specs.Firsts.{IsLaidOf, first_rows};
 ghost use Rattle.sp_made_parts.specs.Made.{IsMadeOf, IsNumberedOf};
 ghost use Rattle.sp_text_entry.specs.TextEntries.{CanRedoText, CanUndoText, HasTextRoom, IsTextRedone, IsTextUndone, redone_text, undone_text};
-ghost use Rattle.sp_state.specs.Entries.{CanRedo, CanUndo, IsSameEntry, LeadsBack, LeadsForth, done_range, redone_state, undone_range, undone_state};
+ghost use Rattle.sp_state.specs.Entries.{CanRedo, CanUndo, HoldsFew, IsSameEntry, LeadsBack, LeadsForth, done_range, redone_state, undone_range, undone_state};
 ghost use Rattle.sp_reflow.specs.Starts.{many_more};
 ghost use Rattle.sp_text_entry.specs.Reads.{EditReads, EditReadsAtMost};
 ghost use Rattle.sp_state.specs.Fills.{EditFills, EditFillsAtMost};
@@ -262,6 +262,7 @@ pub(crate) fn edit_made<S: Steps>(
     ensures whole { OnOk result (IsWhole (state_of (text_of lines.new) records.new)) }
     ensures back { IfOk result (LeadsBack (state_of (text_of lines.old) records.old) (state_of (text_of lines.new) records.new)) }
     ensures range { IfOk result (λ it. done_range it ≡ range_of (replacement_of lines.old.lines (edit_of edit))) }
+    ensures few { IfOk result (HoldsFew (state_of (text_of lines.new) records.new)) }
     ensures laid { IsLaidOf (state_of (text_of lines.new) records.new) (laid_of layout.new) }
     ensures numbered { IsNumberedOf (state_of (text_of lines.new) records.new) numbered.new }
     ensures firsts { IfSome firsts.new (λ those. those.items ≡ first_rows (state_of (text_of lines.new) records.new)) }

@@ -22,7 +22,7 @@ ghost use Rattle.sp_made_parts.specs.Made.{IsMadeOf};
 ghost use Rattle.sp_locking.specs.Openings.{IsOpening};
 ghost use Rattle.sp_text_entry.specs.Reads.{EditReads, EditReadsAtMost};
 ghost use Rattle.sp_state.specs.Fills.{EditFills, EditFillsAtMost};
-ghost use Rattle.sp_state.specs.Entries.{CanRedo, CanUndo, IsSameEntry, LeadsBack, LeadsForth, done_range, redone_state, undone_range, undone_state};
+ghost use Rattle.sp_state.specs.Entries.{CanRedo, CanUndo, HoldsFew, IsSameEntry, LeadsBack, LeadsForth, done_range, redone_state, undone_range, undone_state};
 
 use crate::editing::{edit_made, made_on, made_with_speakers, put_made, redo_made, undo_made};
 use crate::entry::{Entry, Unturned};
@@ -220,6 +220,7 @@ impl Script {
         ensures state { OnOk result (self.new ≡ edited_state self.old (replacement_of self.old.lines (edit_of edit))) }
         ensures back { IfOk result (LeadsBack self.old self.new) }
         ensures range { IfOk result (λ it. done_range it ≡ range_of (replacement_of self.old.lines (edit_of edit))) }
+        ensures few { IfOk result (HoldsFew self.new) }
         ensures same { OnErr result (self.new ≡ self.old) }
         ensures reads { OnOk result (EditReads self.old (replacement_of self.old.lines (edit_of edit)) (S.reads steps.old) (S.reads steps.new)) }
         ensures at_most { EditReadsAtMost self.old (replacement_of self.old.lines (edit_of edit)) (S.reads steps.old) (S.reads steps.new) }

@@ -7,6 +7,7 @@ use Rattle.spec_text.proofs.EditLaws.{length-lines_put}
 use Rattle.spec_text.proofs.TakenEdits.{taken-inside}
 use Rattle.spec_script.specs.BlockValues.{StanzaOf}
 use Rattle.spec_layout.specs.Layout.{layout_of}
+use Rattle.spec_layout.specs.Speakers.{text_elements}
 use Rattle.spec_records.specs.Kept.{RecordsOf}
 use Rattle.spec_reread.specs.Windows.{IsWindow, stanzas_between}
 use Rattle.spec_relayout.proofs.WindowExists.{window-exists}
@@ -24,7 +25,7 @@ use Rattle.sp_text_entry.specs.Raised.{state_before}
 
 -- The layout of the text before an edit, by what the edit displaced of the stanzas.
 pub was-laid : (old new : TextState) (it : Replacement) (round : ℕ) (swapped : SwappedState) (on : Bool) (layout : LayoutOf) → IsText old → new ≡ changed old it round → it.first + it.old ≤ length old.lines
-    → AreDisplaced (line_texts old.lines) (line_texts new.lines) (range_of it) swapped → GivesBack swapped (text_stanzas new) (text_stanzas old) → layout ≡ keyed old.lines (layout_of on old.lines)
+    → AreDisplaced (line_texts old.lines) (line_texts new.lines) (range_of it) swapped → GivesBack swapped (text_stanzas new) (text_stanzas old) → layout ≡ keyed old.lines (text_elements on old.lines)
     → WasLaidOf old new.lines (text_stanzas new) swapped on layout
 was-laid old new it round swapped on layout keeps is inside displaced back was =
     let put = put_by old it round in

@@ -5,7 +5,7 @@ ghost use Rattle.spec_state.specs.Keeping.{IsWhole, state_of};
 ghost use Rattle.sp_text.specs.DisplacedLines.{displaced_of};
 ghost use Rattle.sp_text.specs.Gap.{text_of};
 ghost use Rattle.sp_exchange.specs.Restoring.{text_stanzas};
-ghost use Rattle.sp_relay.specs.Edited.{WasLaidOf};
+ghost use Rattle.sp_relay.specs.Edited.{KeepsToWindow, WasLaidOf};
 ghost use Rattle.sp_relay.specs.Changes.{CanChange, HasChangeRoom, with_change};
 ghost use Rattle.sp_relay.specs.Kept.{laid_of};
 ghost use Rattle.sp_refill.specs.Edits.{IsOfEdit};
@@ -70,6 +70,7 @@ pub(crate) fn relay_and_raise(
     ensures layout_back { IfOk result (λ it. with_change (laid_of layout.new) it.change ≡ laid_of layout.old) }
     ensures can_change { IfOk result (λ it. CanChange (laid_of layout.new) it.change) }
     ensures room { IfOk result (λ it. HasChangeRoom layout.new it.change) }
+    ensures few { IfOk result (λ it. KeepsToWindow stanzas.now.stanzas swapped.now it.change) }
     ensures rows { (edit : Replacement) → IsOfEdit (state_before (text_of lines.now) (displaced_of displaced.now) records.old) edit lines.now.lines stanzas.now.stanzas swapped.now → IfOk result (λ it. IsExchangeOf (state_before (text_of lines.now) (displaced_of displaced.now) records.old) edit it.rows) }
     ensures records { OnOk result (records.new ≡ records_raised (text_of lines.now) (displaced_of displaced.now) records.old) }
     ensures raised { IfOk result (λ it. FitPages records.new it.raised.items) }

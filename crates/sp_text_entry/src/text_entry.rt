@@ -10,6 +10,7 @@ ghost use Rattle.sp_exchange.specs.Reads.{IsRefused};
 ghost use Rattle.sp_exchange.specs.Restoring.{CanRestoreText, HasRoomFor, text_before, text_stanzas};
 ghost use Rattle.sp_text_entry.specs.TextEntries.{CanUndoText, CanRedoText, HasTextRoom, IsTextRedone, IsSameTextEntry, IsTextUndone, LeadsTextBack, LeadsTextForth, undone_text, redone_text, undone_lines, done_lines};
 ghost use Rattle.sp_relay.specs.Changes.{CanChange, HasChangeRoom, with_change};
+ghost use Rattle.sp_relay.specs.Edited.{KeepsToWindow};
 ghost use Rattle.sp_relay.specs.Kept.{laid_of};
 ghost use Rattle.sp_made_parts.specs.Firsts.{IsLaidOf, first_rows};
 ghost use Rattle.sp_text_entry.specs.Relaid.{IsExchangeOf};
@@ -104,6 +105,7 @@ pub fn edit_entry<S: Steps>(
     ensures layout_back { IfOk result (λ it. with_change (laid_of layout.new) it.layout ≡ laid_of layout.old) }
     ensures can_change { IfOk result (λ it. CanChange (laid_of layout.new) it.layout) }
     ensures layout_room { IfOk result (λ it. HasChangeRoom layout.new it.layout) }
+    ensures few { IfOk result (λ it. KeepsToWindow (text_stanzas (text_of lines.new)) it.text.stanzas it.layout) }
     ensures rows { IfOk result (λ it. IsExchangeOf (state_of (text_of lines.old) records.old) (replacement_of lines.old.lines (edit_of edit)) it.rows) }
     ensures firsts { IfOk result (λ it. it.firsts.items ≡ first_rows (state_of (text_of lines.new) records.new)) }
     ensures same { OnErr result (state_of (text_of lines.new) records.new ≡ state_of (text_of lines.old) records.old) }

@@ -1,5 +1,5 @@
 -- The elements of blocks begin where the first of their blocks do.
-use Rattle.std.proofs.Common.{◌≡◌, ℕ, ◌+◌, ◌≤◌, Bool, List, [], ◌∷◌, get_or, map, filter, Option, refl, sym, ap, subst, ◌∙◌, arith}
+use Rattle.std.proofs.Common.{◌≡◌, ℕ, Bool, List, [], ◌∷◌, get_or, map, filter, Option, refl, sym, subst}
 use Rattle.std.specs.Prelude.{All}
 use Rattle.std.proofs.lemmas.List.Elements.{All-nil, All-cons, All-head, All-tail, All-filter, All-map}
 use Rattle.spec_text.specs.Lines.{LineState}
@@ -8,12 +8,10 @@ use Rattle.spec_script.specs.Stanzas.{PlacedBlock}
 use Rattle.spec_script.proofs.RunSteps.{map_group}
 use Rattle.spec_pages.specs.Rows.{ElementOf}
 use Rattle.spec_layout.specs.Speakers.{Spoken, spoken_elements}
-use Rattle.spec_layout.specs.Layout.{laid_beside, laid_out, breaks_from}
+use Rattle.spec_layout.specs.Layout.{laid_beside, laid_out}
 use Rattle.spec_layout.proofs.SpokenLaws.{placed_of, spoken_elements-placed}
-use Rattle.spec_layout.proofs.BreakLaws.{layout_in-within}
 use Rattle.spec_relayout.proofs.FairElements.{AllIn, elements-all}
-use Rattle.spec_relay.specs.Moved.{moved_place}
-use Rattle.spec_relay.proofs.LayoutParts.{laid_of, rows_in, breaks-shifted}
+use Rattle.spec_relay.proofs.LayoutParts.{laid_of}
 
 -- Where an element begins: at the first line of its first block's stanza.
 abbrev pub element_first : Group Spoken → ℕ
@@ -46,18 +44,3 @@ laid-firsts Q among lines groups all =
     let P : Group Spoken → Type 0 = λ (g : Group Spoken). Q (element_first g) in
     let some = All-filter among P groups all in
     All-map (λ (e : ElementOf). Q e.first) (laid_out lines) (filter among groups) (λ k d h. subst Q (sym (laid-first lines (get_or (filter among groups) k d))) (some k d h))
-
--- The page breaks of elements, before which so many rows stand, stand from there on and up to behind the last row.
-pub breaks-low : (lines : List LineState) (count : ℕ) (groups : List (Group Spoken)) → All (λ (stop : ℕ). count ≤ stop) (breaks_from lines count groups)
-breaks-low lines count groups =
-    let from : moved_place 0 count 0 ≡ count = omega arith in
-    let is = breaks-shifted lines 0 count 0 groups (omega arith) ∙ ap (λ n. breaks_from lines n groups) from in
-    subst (All (λ (stop : ℕ). count ≤ stop)) is (All-map (λ (stop : ℕ). count ≤ stop) (moved_place 0 count) (breaks_from lines 0 groups) (λ k d h. omega arith))
-
-pub breaks-high : (lines : List LineState) (count : ℕ) (groups : List (Group Spoken)) → All (λ (stop : ℕ). stop ≤ count + rows_in lines groups) (breaks_from lines count groups)
-breaks-high lines count groups =
-    let from : moved_place 0 count 0 ≡ count = omega arith in
-    let is = breaks-shifted lines 0 count 0 groups (omega arith) ∙ ap (λ n. breaks_from lines n groups) from in
-    let own = layout_in-within lines groups in
-    subst (All (λ (stop : ℕ). stop ≤ count + rows_in lines groups)) is
-    (All-map (λ (stop : ℕ). stop ≤ count + rows_in lines groups) (moved_place 0 count) (breaks_from lines 0 groups) (λ k d h. let low = own k d h in omega (arith, low)))

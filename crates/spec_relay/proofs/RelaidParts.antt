@@ -1,13 +1,13 @@
 -- The elements of a text before and after an edit, of which those at both ends stay.
-use Rattle.std.proofs.Common.{◌≡◌, ℕ, Bool, List, [], ◌∷◌, ◌++◌, map, Option, None, inl, inr, refl, sym, ap, subst, ◌∙◌}
+use Rattle.std.proofs.Common.{◌≡◌, ℕ, Bool, List, [], ◌∷◌, ◌++◌, map, Option, None, inl, inr, refl, sym, ap, ◌∙◌}
 use Rattle.std.specs.Prelude.{All}
 use Rattle.spec_text.specs.Lines.{LineState, line_texts}
 use Rattle.spec_script.specs.LongestRuns.{Group}
 use Rattle.spec_script.specs.Stanzas.{PlacedBlock}
 use Rattle.spec_layout.specs.Speakers.{Spoken, spoken_elements, text_elements}
-use Rattle.spec_relay.specs.Moved.{moved_block, speaker_behind, BeginsApart}
+use Rattle.spec_relay.specs.Moved.{moved_block, speaker_behind, AreApart, BeginsApart}
 use Rattle.spec_relay.specs.RelaidBlocks.{AreRelaid}
-use Rattle.spec_relay.proofs.Parts.{spoken-append, behind-append}
+use Rattle.spec_relay.proofs.Parts.{spoken-apart, behind-append}
 use Rattle.spec_relay.proofs.MovedElements.{GroupStays, SpokenStays, spoken-stays}
 use Rattle.spec_relay.proofs.LayoutParts.{still-blocks, still-groups}
 
@@ -27,14 +27,7 @@ pub record ElementsRelaid (on : Bool) (before lines : List LineState) (less more
   pub moved : All (GroupStays less more before lines) elements_rest
   pub stay : (last : Option (List ℕ)) → SpokenStays less more before lines on last rest
 
--- Elements behind those in front, where there are none.
-none-split : (on : Bool) (lines : List LineState) (front others : List PlacedBlock) → front ≡ []
-    → spoken_elements on lines None (front ++ others) ≡ spoken_elements on lines None front ++ spoken_elements on lines (speaker_behind (line_texts lines) None front) others
-none-split on lines front others none =
-    let P : List PlacedBlock → Type 0 = λ those. spoken_elements on lines None (those ++ others) ≡ spoken_elements on lines None those ++ spoken_elements on lines (speaker_behind (line_texts lines) None those) others in
-    subst P (sym none) refl
-
-three-parts : (on : Bool) (lines : List LineState) (front mid rest : List PlacedBlock) → BeginsApart rest
+three-parts : (on : Bool) (lines : List LineState) (front mid rest : List PlacedBlock) → AreApart mid rest
     → spoken_elements on lines None (front ++ (mid ++ rest)) ≡ spoken_elements on lines None front ++ spoken_elements on lines (speaker_behind (line_texts lines) None front) (mid ++ rest)
     → spoken_elements on lines None (front ++ (mid ++ rest))
     ≡ spoken_elements on lines None front ++ (spoken_elements on lines (speaker_behind (line_texts lines) None front) mid ++ spoken_elements on lines (speaker_behind (line_texts lines) None (front ++ mid)) rest)
@@ -42,7 +35,7 @@ three-parts on lines front mid rest apart split =
     let texts = line_texts lines in
     let last = speaker_behind texts None front in
     split ∙ ap (λ (those : List (Group Spoken)). spoken_elements on lines None front ++ those)
-    (spoken-append on lines last mid rest apart ∙ ap (λ it. spoken_elements on lines last mid ++ spoken_elements on lines it rest) (sym (behind-append texts None front mid)))
+    (spoken-apart on lines last mid rest apart ∙ ap (λ it. spoken_elements on lines last mid ++ spoken_elements on lines it rest) (sym (behind-append texts None front mid)))
 
 moved-apart : (less more : ℕ) (rest : List PlacedBlock) → BeginsApart rest → BeginsApart (map (moved_block less more) rest)
 moved-apart less more [] apart = tt
@@ -60,14 +53,16 @@ elements-relaid on before lines less more front gone come rest it =
     let still = spoken-stays 0 0 before lines on None 0 front it.still it.front_rise in
     let stays : (who : Option (List ℕ)) → SpokenStays less more before lines on who rest = λ who. spoken-stays less more before lines on who it.place rest it.moved it.rest_rise in
     let old_split : spoken_elements on before None (front ++ (gone ++ rest)) ≡ own ++ spoken_elements on before (speaker_behind texts None front) (gone ++ rest) =
-    elim it.front_apart [
-      | inl none ↦ none-split on before front (gone ++ rest) none
-      | inr both ↦ spoken-append on before None front (gone ++ rest) both.0
-    ] in
+    spoken-apart on before None front (gone ++ rest) it.front_apart.0 in
     let new_split : spoken_elements on lines None (front ++ (come ++ moved)) ≡ spoken_elements on lines None front ++ spoken_elements on lines (speaker_behind later None front) (come ++ moved) =
-    elim it.front_apart [
-      | inl none ↦ none-split on lines front (come ++ moved) none
-      | inr both ↦ spoken-append on lines None front (come ++ moved) both.1
+    spoken-apart on lines None front (come ++ moved) it.front_apart.1 in
+    let old_apart : AreApart gone rest = elim it.rest_apart [
+      | inl both ↦ inr (inl both.0)
+      | inr begins ↦ inr (inr begins)
+    ] in
+    let new_apart : AreApart come moved = elim it.rest_apart [
+      | inl both ↦ inr (inl both.1)
+      | inr begins ↦ inr (inr (moved-apart less more rest begins))
     ] in
     let same_front : spoken_elements on lines None front ≡ own = ap (spoken_elements on lines None) (sym (still-blocks front)) ∙ still.same ∙ still-groups own in
     record {
@@ -77,8 +72,8 @@ elements-relaid on before lines less more front gone come rest it =
       front_is = refl;
       gone_is = refl;
       rest_is = refl;
-      old = ap (spoken_elements on before None) it.old ∙ three-parts on before front gone rest it.rest_apart old_split;
-      new = ap (spoken_elements on lines None) it.new ∙ three-parts on lines front come moved (moved-apart less more rest it.rest_apart) new_split
+      old = ap (spoken_elements on before None) it.old ∙ three-parts on before front gone rest old_apart old_split;
+      new = ap (spoken_elements on lines None) it.new ∙ three-parts on lines front come moved new_apart new_split
           ∙ ap (λ (xs : List (Group Spoken)). xs ++ (spoken_elements on lines (speaker_behind later None front) come ++ spoken_elements on lines (speaker_behind later None (front ++ come)) moved)) same_front;
       still = still.each;
       moved = (stays behind).each;

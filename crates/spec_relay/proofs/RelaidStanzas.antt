@@ -11,7 +11,6 @@ use Rattle.spec_script.specs.BlockValues.{StanzaOf}
 use Rattle.spec_script.specs.Stanzas.{PlacedBlock, blocks_from, blocks_of, stanzas_of}
 use Rattle.spec_pages.specs.Rows.{line_state}
 use Rattle.spec_layout.proofs.ElementPlaces.{LinesRise, placed_from, placed_to, blocks_of-stand}
-use Rattle.spec_reread.specs.Settling.{stanza_settles}
 use Rattle.spec_reread.specs.Windows.{HasFrom, stanza_lines_in}
 use Rattle.spec_reread.proofs.Places.{at_place, front-between, has-all}
 use Rattle.spec_relayout.proofs.WindowSides.{EndsBy, StandsIn, between-in, front-ends}
@@ -20,7 +19,7 @@ use Rattle.spec_relay.specs.RelaidBlocks.{AreRelaid}
 use Rattle.spec_relay.specs.RelaidStanzas.{OpensApart, StanzasRelaid}
 use Rattle.spec_relay.proofs.Parts.{behind-append}
 use Rattle.spec_relay.proofs.MovedElements.{behind-stays}
-use Rattle.spec_relay.proofs.StanzaBlocks.{lines-append, blocks-three, blocks-moved, blocks-past, places-rise, opens-begin, opens-apart, opens-more}
+use Rattle.spec_relay.proofs.StanzaBlocks.{lines-append, blocks-three, blocks-moved, blocks-past, places-rise, closes-ends, closes-more, opens-begin, opens-apart, opens-more}
 
 -- A block has a line, and its lines stand in it.
 pub record IsWhole (placed : PlacedBlock) : Type 0 where
@@ -172,15 +171,24 @@ module _ (before lines : List LineState) (front ahead gone come behind rest : Li
       old = old-blocks;
       new = new-blocks;
       front_apart = elim it.front_apart [
-        | inl none ↦ inl (ap (blocks_from 0) none)
-        | inr opens ↦ inr (
-          opens-begin f (ahead ++ (gone ++ behind)) (blocks_from place rest) (subst OpensApart (append_assoc ahead gone behind) (opens-more (ahead ++ gone) behind opens.0)),
-          opens-begin f (ahead ++ (come ++ behind)) (map moved (blocks_from place rest)) (subst OpensApart (append_assoc ahead come behind) (opens-more (ahead ++ come) behind opens.1)),
-        )
+        | inl none ↦ let is = ap (blocks_from 0) none in (inl is, inl is)
+        | inr either ↦ elim either [
+          | inl closes ↦ let ends = closes-ends 0 front closes in (inr (inl ends), inr (inl ends))
+          | inr opens ↦ (
+            inr (inr (opens-begin f (ahead ++ (gone ++ behind)) (blocks_from place rest) (subst OpensApart (append_assoc ahead gone behind) (opens-more (ahead ++ gone) behind opens.0)))),
+            inr (inr (opens-begin f (ahead ++ (come ++ behind)) (map moved (blocks_from place rest)) (subst OpensApart (append_assoc ahead come behind) (opens-more (ahead ++ come) behind opens.1)))),
+          )
+        ]
       ];
       rest_apart = elim it.rest_apart [
-        | inl none ↦ subst (λ ss. BeginsApart (blocks_from place ss)) (sym none) tt
-        | inr opens ↦ opens-apart place rest opens
+        | inl none ↦ inr (subst (λ ss. BeginsApart (blocks_from place ss)) (sym none) tt)
+        | inr either ↦ elim either [
+          | inl closes ↦ inl (
+            closes-ends f (ahead ++ (gone ++ behind)) (closes-more ahead (gone ++ behind) (closes-more gone behind closes)),
+            closes-ends f (ahead ++ (come ++ behind)) (closes-more ahead (come ++ behind) (closes-more come behind closes)),
+          )
+          | inr opens ↦ inr (opens-apart place rest opens)
+        ]
       ];
       still = front-stay;
       moved = rest-stay;

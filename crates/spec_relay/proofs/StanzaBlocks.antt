@@ -13,8 +13,8 @@ use Rattle.spec_script.proofs.BlockPlaces.{stanza-rises}
 use Rattle.spec_reread.specs.Settling.{block_settles, stanza_settles}
 use Rattle.spec_reread.specs.Windows.{stanza_lines_in}
 use Rattle.spec_reread.proofs.WindowBlocks.{blocks-append}
-use Rattle.spec_relay.specs.Moved.{moved_place, moved_block, BeginsApart, settles}
-use Rattle.spec_relay.specs.RelaidStanzas.{first_apart, OpensApart}
+use Rattle.spec_relay.specs.Moved.{moved_place, moved_block, BeginsApart, EndsApart, is_left, settles}
+use Rattle.spec_relay.specs.RelaidStanzas.{first_apart, last_apart, ClosesApart, OpensApart}
 
 pub lines-append : (xs ys : List StanzaOf) → stanza_lines_in (xs ++ ys) ≡ stanza_lines_in xs + stanza_lines_in ys
 lines-append xs ys = sum_by-append (λ (s : StanzaOf). s.lines) xs ys
@@ -77,6 +77,33 @@ opens-begin p (s ∷ ss) more is = first-begins p s.blocks (blocks_from (p + s.l
 
 pub opens-apart : (p : ℕ) (stanzas : List StanzaOf) → OpensApart stanzas → BeginsApart (blocks_from p stanzas)
 opens-apart p stanzas is = subst BeginsApart (append-nil (blocks_from p stanzas)) (opens-begin p stanzas [] is)
+
+-- Where the last of them ends with a block that is joined with none behind it.
+left-false : (b : Bool) → not b ≡ true → b ≡ false
+left-false false is = refl
+left-false true is = sym is
+
+pub ends-more : (xs ys : List PlacedBlock) → EndsApart ys → EndsApart (xs ++ ys)
+ends-more [] ys is = is
+ends-more (x ∷ []) [] is = absurd is
+ends-more (x ∷ []) (y ∷ ys) is = is
+ends-more (x ∷ z ∷ xs) ys is = ends-more (z ∷ xs) ys is
+
+last-ends : (p : ℕ) (blocks : List BlockOf) → last_apart blocks ≡ true → EndsApart (map (placed_at p) blocks)
+last-ends p [] is = let bad : ⊥ = cc (is) in absurd bad
+last-ends p (b ∷ []) is = left-false (is_left b) is
+last-ends p (b ∷ c ∷ bs) is = last-ends p (c ∷ bs) is
+
+pub closes-ends : (p : ℕ) (stanzas : List StanzaOf) → ClosesApart stanzas → EndsApart (blocks_from p stanzas)
+closes-ends p [] is = absurd is
+closes-ends p (s ∷ []) is = subst EndsApart (sym (append-nil (map (placed_at p) s.blocks))) (last-ends p s.blocks is)
+closes-ends p (s ∷ t ∷ ss) is = ends-more (map (placed_at p) s.blocks) (blocks_from (p + s.lines) (t ∷ ss)) (closes-ends (p + s.lines) (t ∷ ss) is)
+
+pub closes-more : (xs ys : List StanzaOf) → ClosesApart ys → ClosesApart (xs ++ ys)
+closes-more [] ys is = is
+closes-more (x ∷ []) [] is = absurd is
+closes-more (x ∷ []) (y ∷ ys) is = is
+closes-more (x ∷ z ∷ xs) ys is = closes-more (z ∷ xs) ys is
 
 pub opens-more : (xs ys : List StanzaOf) → OpensApart xs → OpensApart (xs ++ ys)
 opens-more [] ys is = absurd is

@@ -1,9 +1,10 @@
 -- Blocks and elements of a text that stand elsewhere in another text (docs/RULES.md, "Windows").
-use Rattle.std.specs.Prelude.{◌≡◌, ℕ, ◌+◌, ◌-◌, ◌<◌, ◌≤◌, Bool, false, List, [], ◌∷◌, map, fold, Option}
+use Rattle.std.specs.Prelude.{◌≡◌, ◌⊎◌, ℕ, ◌+◌, ◌-◌, ◌<◌, ◌≤◌, Bool, false, not, ◌&&◌, List, [], ◌∷◌, map, fold, Option}
 use Rattle.spec_text.specs.Lines.{LineState}
 use Rattle.spec_script.specs.LongestRuns.{Group}
+use Rattle.spec_script.specs.BlockValues.{BlockOf}
 use Rattle.spec_script.specs.Stanzas.{PlacedBlock}
-use Rattle.spec_script.specs.Elements.{placed_at}
+use Rattle.spec_script.specs.Elements.{placed_at, is_speech_kind}
 use Rattle.spec_pages.specs.Rows.{ElementOf, line_state}
 use Rattle.spec_reread.specs.Settling.{settles_kind}
 use Rattle.spec_layout.specs.Speakers.{Spoken, speaker_after}
@@ -40,6 +41,20 @@ speaker_behind texts last blocks = fold (speaker_after texts) last blocks
 abbrev pub BeginsApart : List PlacedBlock → Type 0
 BeginsApart [] = Unit {0}
 BeginsApart (placed ∷ blocks) = placed.block.caret ≡ false
+
+-- A block with which one behind it may be joined.
+abbrev pub is_left : BlockOf → Bool
+is_left block = is_speech_kind block.kind && not block.caret
+
+-- No block is joined with one behind these, of which there are some.
+abbrev pub EndsApart : List PlacedBlock → Type 0
+EndsApart [] = ⊥
+EndsApart (placed ∷ []) = is_left placed.block ≡ false
+EndsApart (placed ∷ next ∷ blocks) = EndsApart (next ∷ blocks)
+
+-- No block of these is joined with one of those behind them.
+abbrev pub AreApart : List PlacedBlock → List PlacedBlock → Type 0
+AreApart blocks behind = (blocks ≡ []) ⊎ (EndsApart blocks ⊎ BeginsApart behind)
 
 -- Behind such a block it doesn't matter who spoke before it.
 abbrev pub settles : PlacedBlock → Bool

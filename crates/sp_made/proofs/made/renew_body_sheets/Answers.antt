@@ -1,4 +1,4 @@
-use Rattle.std.proofs.Common.{◌≡◌, ap, sym, ◌∙◌}
+use Rattle.std.proofs.Common.{◌≡◌, refl, ap, sym, ◌∙◌}
 use Rattle.std.specs.Prelude.{option_map}
 use Rattle.spec_records.specs.Kept.{RecordsOf}
 use Rattle.spec_state.specs.State.{State}
@@ -20,12 +20,12 @@ renew_sheets_of_pages-requires-clause-asked c =
     let body = c.layout.inside.body.elements in
     let laid = ap laid_of c.layout.view_is ∙ c.requires.laid in
     let elements : body ≡ (layout_in state).body = ap (λ (l : LayoutOf). l.body.elements) laid in
-    let breaks = ap (λ (l : LayoutOf). l.breaks) laid in
+    let breaks = (layout_in state).breaks in
     let records = option_map (λ those. those.items) c.records.inside.pages in
     let kept = sym (ap (λ (r : RecordsOf). r.pages) c.records.view_is) in
     let firsts : c.args.firsts.now ≡ key_starts state.lines (keys_in state) records = c.requires.firsts ∙ ap (key_starts state.lines (keys_in state)) kept in
-    asked-of (λ those. those.items) state c.records.inside.pages body c.layout.inside.breaks.items c.args.firsts.now c.args.pages.now c.requires.whole kept elements breaks firsts
-    (c.requires.pages ∙ pages-are state body records c.layout.inside.breaks.items c.args.firsts.now elements kept breaks firsts)
+    asked-of (λ those. those.items) state c.records.inside.pages body breaks c.args.firsts.now c.args.pages.now c.requires.whole kept elements refl firsts
+    (c.requires.pages ∙ pages-are state body records breaks c.args.firsts.now elements kept refl firsts)
 
 pub renew_sheets_of_pages-requires-clause-unmarked : goal.renew_sheets_of_pages-requires-clause-unmarked
 renew_sheets_of_pages-requires-clause-unmarked c none =
@@ -39,11 +39,11 @@ returns-clause-made c =
     let body = c.layout.inside.body.elements in
     let laid = ap laid_of c.layout.view_is ∙ c.requires.laid in
     let elements : body ≡ (layout_in state).body = ap (λ (l : LayoutOf). l.body.elements) laid in
-    let breaks = ap (λ (l : LayoutOf). l.breaks) laid in
+    let breaks = (layout_in state).breaks in
     let records = option_map (λ those. those.items) c.records.inside.pages in
     let kept = sym (ap (λ (r : RecordsOf). r.pages) c.records.view_is) in
     let firsts : c.args.firsts.now ≡ key_starts state.lines (keys_in state) records = c.requires.firsts ∙ ap (key_starts state.lines (keys_in state)) kept in
     let same : marked_or_locked body records c.args.firsts.now c.args.pages.now ≡ body_sheets state =
-    sheets-made state body records c.layout.inside.breaks.items c.args.firsts.now c.args.pages.now elements kept breaks firsts
-    (c.requires.pages ∙ pages-are state body records c.layout.inside.breaks.items c.args.firsts.now elements kept breaks firsts) in
+    sheets-made state body records breaks c.args.firsts.now c.args.pages.now elements kept refl firsts
+    (c.requires.pages ∙ pages-are state body records breaks c.args.firsts.now elements kept refl firsts) in
     done-same c.renew_sheets_of_pages.result c.renew_sheets_of_pages.new.sheets.items (marked_or_locked body records c.args.firsts.now c.args.pages.now) (body_sheets state) same c.renew_sheets_of_pages.ensures.made

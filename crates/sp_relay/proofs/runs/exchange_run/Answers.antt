@@ -1,4 +1,4 @@
-use Rattle.std.proofs.Common.{◌+◌, length, take, slice_range, sym, ap, ap₂, subst, ◌∙◌, arith}
+use Rattle.std.proofs.Common.{◌+◌, length, slice_range, sym, ap, ap₂, subst, ◌∙◌, arith}
 use Rattle.sp_elements.specs.Bodies.{KeyedElements, keyed_elements, row_count}
 use Rattle.sp_elements.specs.Exchanges.{with_run}
 use Rattle.sp_relay.specs.Runs.{CanExchange}
@@ -32,23 +32,9 @@ returns-clause-room c =
       back_row_room = omega (arith, ap (λ (k : KeyedElements). row_count (slice_range k.elements a.from end)) c.exchange.ensures.elements, back.run_rows, c.exchange.ensures.back_room.1, c.len-count.ensures.row_enough);
     }
 
-pub returns-clause-from_rows : goal.returns-clause-from_rows
-returns-clause-from_rows c =
+pub returns-clause-taken : goal.returns-clause-taken
+returns-clause-taken c =
     let a = c.args in
     let end = a.from + c.len-count.result in
     let back = run-back (keyed_elements a.body.now) (keyed_elements a.other.now) a.from a.to end a.less a.more c.requires.can c.len-len.ensures.keys c.len-count.ensures.keys (omega (arith, c.len-count.ensures.len)) in
-    ap (λ (k : KeyedElements). row_count (take a.from k.elements)) c.exchange.ensures.elements ∙ back.from_rows
-
-pub returns-clause-to_rows : goal.returns-clause-to_rows
-returns-clause-to_rows c =
-    let a = c.args in
-    let end = a.from + c.len-count.result in
-    let back = run-back (keyed_elements a.body.now) (keyed_elements a.other.now) a.from a.to end a.less a.more c.requires.can c.len-len.ensures.keys c.len-count.ensures.keys (omega (arith, c.len-count.ensures.len)) in
-    ap (λ (k : KeyedElements). row_count (take end k.elements)) c.exchange.ensures.elements ∙ back.to_rows
-
-pub returns-clause-taken_rows : goal.returns-clause-taken_rows
-returns-clause-taken_rows c =
-    let a = c.args in
-    let end = a.from + c.len-count.result in
-    let back = run-back (keyed_elements a.body.now) (keyed_elements a.other.now) a.from a.to end a.less a.more c.requires.can c.len-len.ensures.keys c.len-count.ensures.keys (omega (arith, c.len-count.ensures.len)) in
-    ap (λ (k : KeyedElements). row_count (take a.from a.body.now.elements) + row_count k.elements) c.exchange.ensures.taken ∙ back.taken_rows
+    omega (arith, ap (λ (k : KeyedElements). length k.elements) c.exchange.ensures.taken, back.taken_count, c.requires.can.order)

@@ -6,7 +6,7 @@ use Rattle.spec_pages.specs.Rows.{ElementOf}
 use Rattle.spec_records.specs.Kept.{RecordsOf}
 use Rattle.spec_state.specs.State.{State}
 use Rattle.spec_state.specs.Keeping.{state_of}
-use Rattle.spec_layout.specs.Layout.{layout_of}
+use Rattle.spec_layout.specs.Speakers.{text_elements}
 use Rattle.sp_text.specs.DisplacedLines.{displaced_of}
 use Rattle.sp_text.specs.Gap.{text_of}
 use Rattle.sp_layout.specs.LaidOut.{LayoutOf, keyed}
@@ -39,7 +39,7 @@ relay_edit-requires-clause-was c = record {
 
 pub carry_and_raise-requires-clause-laid : goal.carry_and_raise-requires-clause-laid
 carry_and_raise-requires-clause-laid c =
-    c.in_ok-change.ensures.layout ∙ ap (λ (r : RecordsOf). keyed c.args.lines.now.lines (layout_of r.speakers c.args.lines.now.lines)) c.records.view_is
+    c.in_ok-change.ensures.layout ∙ ap (λ (r : RecordsOf). keyed c.args.lines.now.lines (text_elements r.speakers c.args.lines.now.lines)) c.records.view_is
 
 pub carry_and_raise-requires-clause-was : goal.carry_and_raise-requires-clause-was
 carry_and_raise-requires-clause-was c = c.in_ok-change.ensures.back ∙ c.requires.was.was
@@ -55,7 +55,7 @@ exchanged_rows-rows-requires c =
     let before : State = state_before text back c.args.records.now in
     let edit = c.requires.edit in
     let was = ap (λ (l : LayoutOf). l.body.elements) (ap laid_of c.layout.view_is ∙ c.requires.was.was) in
-    let laid = ap laid_of c.layout-2.view_is ∙ c.in_ok-change.ensures.layout ∙ ap (λ (r : RecordsOf). keyed c.args.lines.now.lines (layout_of r.speakers c.args.lines.now.lines)) c.records.view_is in
+    let laid = ap laid_of c.layout-2.view_is ∙ c.in_ok-change.ensures.layout ∙ ap (λ (r : RecordsOf). keyed c.args.lines.now.lines (text_elements r.speakers c.args.lines.now.lines)) c.records.view_is in
     record {
       edit = record {
         state = before;
@@ -74,6 +74,7 @@ returns-in_err-change c =
       layout_back = tt;
       can_change = tt;
       room = tt;
+      few = tt;
       rows = λ it edit. tt;
       records = tt;
       raised = tt;
@@ -92,13 +93,14 @@ returns-in-Ok c =
     let relaid = c.in_ok-change.ensures in
     let carried = c.in-Ok.ensures in
     let was = ap (λ (l : LayoutOf). l.body.elements) (ap laid_of c.layout.view_is ∙ c.requires.was.was) in
-    let speakers = ap (λ (r : RecordsOf). keyed c.args.lines.now.lines (layout_of r.speakers c.args.lines.now.lines)) c.records.view_is in
+    let speakers = ap (λ (r : RecordsOf). keyed c.args.lines.now.lines (text_elements r.speakers c.args.lines.now.lines)) c.records.view_is in
     let laid = ap laid_of c.layout-2.view_is ∙ relaid.layout ∙ speakers in
     record {
       laid = subst (λ (r : RecordsOf). IsLaidOf (state_of text r) (laid_of c.relay_edit.new.kept)) (sym carried.records) (relaid.layout ∙ speakers);
       layout_back = relaid.back;
       can_change = relaid.again;
       room = relaid.returns;
+      few = relaid.few;
       rows = λ it edit. record {
         is = λ a b window. c.exchanged_rows-rows.ensures.found before it a b edit
             (subst (λ (es : List ElementOf). AreAhead c.args.stanzas.now.stanzas c.args.swapped.now es c.rows_ahead-ahead.result) was c.rows_ahead-ahead.ensures)
@@ -119,6 +121,7 @@ returns-in-Err c = record {
   layout_back = tt;
   can_change = tt;
   room = tt;
+  few = tt;
   rows = λ it edit. tt;
   records = tt;
   raised = tt;

@@ -12,7 +12,7 @@ use Rattle.sp_text.specs.Gap.{text_of}
 use Rattle.sp_reread.specs.Cache.{GivesBack}
 use Rattle.sp_exchange.specs.Reads.{ReadsAtMost, ReadsWindow}
 use Rattle.sp_exchange.specs.Restoring.{text_stanzas}
-use Rattle.sp_relay.specs.Edited.{WasLaidOf}
+use Rattle.sp_relay.specs.Edited.{KeepsToWindow, WasLaidOf}
 use Rattle.sp_relay.specs.Kept.{laid_of}
 use Rattle.sp_refill.specs.Edits.{IsOfEdit}
 use Rattle.sp_made_parts.specs.Firsts.{first_rows}
@@ -89,6 +89,7 @@ returns-in_err-displaced g c =
       layout_back = tt;
       can_change = tt;
       layout_room = tt;
+      few = tt;
       rows = tt;
       firsts = tt;
       same = ap (λ (t : TextState). state_of t records) left.same;
@@ -126,6 +127,7 @@ returns-in-Ok g c =
       layout_back = relaid.layout_back;
       can_change = relaid.can_change;
       layout_room = relaid.room;
+      few = subst (λ (ss : List StanzaOf). KeepsToWindow ss c.in_ok-displaced.swapped c.in-Ok.field-0.change) ensures.stanzas relaid.few;
       rows = subst (λ (t : TextState). IsExchangeOf (state_of t records) it c.in-Ok.field-0.rows) ensures.leads
           (relaid.rows it
           (subst (λ (t : TextState). IsOfEdit (state_of t records) it new.lines c.change_text.new.stanzas.stanzas c.in_ok-displaced.swapped) (sym ensures.leads)
@@ -159,6 +161,7 @@ returns-in-Err g c =
       layout_back = tt;
       can_change = tt;
       layout_room = tt;
+      few = tt;
       rows = tt;
       firsts = tt;
       same = ap₂ state_of (c.restore_in_room.ensures.text ∙ ensures.leads) c.in-Err.ensures.same;
