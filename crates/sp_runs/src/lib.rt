@@ -3,4 +3,4 @@
 
 mod runs;
 
-pub use runs::{exchange, make_room, pour, trade};
+pub use runs::{exchange, make_room, pour, reserve_more, trade};

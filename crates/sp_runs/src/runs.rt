@@ -24,6 +24,20 @@ pub fn make_room<T>(list: &mut Vec<T>, total: usize) -> Result<(), AllocError>
     list.reserve_exact(more.saturating_sub(list.len()))
 }
 
+/// Makes room for so many more items. A list that has no room gets it for just these, since most lists of what an edit keeps stay
+/// that short.
+pub fn reserve_more<T>(list: &mut Vec<T>, count: usize) -> Result<(), AllocError>
+    ensures items { list.new.items ≡ list.old.items }
+    ensures len { vec_len list.new ≡ vec_len list.old }
+    ensures ok { OnOk result (vec_len list.new + count ≤ vec_capacity list.new) }
+{
+    if list.capacity() == 0 {
+        list.reserve_exact(count)
+    } else {
+        list.reserve(count)
+    }
+}
+
 /// Takes so many items off the end of a list and puts them behind another, the last first. It takes no memory.
 pub fn pour<T>(from: &mut Vec<T>, to: &mut Vec<T>, count: usize)
     requires there { count ≤ vec_len from.old }

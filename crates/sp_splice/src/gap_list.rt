@@ -2,7 +2,7 @@
 ghost use Rattle.std.specs.Prelude.{◌≡◌, ◌+◌, ◌-◌, ◌<◌, ◌≤◌, ◌++◌, ◌∷◌, [], Some, length, reverse, slice_get, slice_range, vec_len, vec_capacity, IsOk, OnOk};
 ghost use Rattle.sp_runs.specs.Runs.{exchanged};
 
-use sp_runs::{exchange, make_room, pour, trade};
+use sp_runs::{exchange, make_room, pour, reserve_more, trade};
 use std::alloc::{AllocError, Global};
 use std::marker::Model;
 
@@ -158,7 +158,7 @@ impl<T> GapList<T> {
         ensures room { OnOk result (length self.new.items + count ≤ self.new.room) }
     {
         close(&mut self.front, &mut self.back);
-        self.front.reserve(count)
+        reserve_more(&mut self.front, count)
     }
 
     /// Makes room for so many items in all, and where there was none for some more. No room becomes less. The error is want of

@@ -7,7 +7,7 @@ ghost use Rattle.sp_splice.specs.Moves.{shifted};
 
 use crate::gap_list::{FEW, trade_turned};
 use crate::places::exchange_places;
-use sp_runs::make_room;
+use sp_runs::{make_room, reserve_more};
 use std::alloc::{AllocError, Global};
 use std::marker::Model;
 
@@ -240,7 +240,7 @@ impl GapPlaces {
         ensures room { OnOk result (length self.new.items + count ≤ self.new.room) }
     {
         close(&mut self.front, &mut self.back, self.end);
-        self.front.reserve(count)
+        reserve_more(&mut self.front, count)
     }
 
     /// Makes room for so many places in all, and where there was none for some more. No room becomes less. The error is want of

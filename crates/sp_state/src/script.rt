@@ -105,6 +105,16 @@ fn read_and_make<S: Steps>(
     Ok((stanzas, made, pages))
 }
 
+/// Makes the index of ids where pages are locked, since page records are carried by it.
+fn index_ids(lines: &mut Lines, records: &Records) -> Result<(), AllocError>
+    ensures { lines.new ≡ lines.old }
+{
+    match records.pages {
+        None => Ok(()),
+        Some(_) => lines.make_index(),
+    }
+}
+
 impl Script {
     /// The script of lines that were just read, without records. Each stanza is read once, and each page of the body
     /// filled once. `AllocError` comes for want of memory alone.
@@ -136,6 +146,8 @@ impl Script {
         ensures fills { OnOk result (S.fills steps.new ≡ many_more (S.fills steps.old) (length (pages_of (state_of (text_of lines) records)))) }
         ensures fills_at_most { FilledAtMost (S.fills steps.old) (S.fills steps.new) (length (pages_of (state_of (text_of lines) records))) }
     {
+        let mut lines = lines;
+        index_ids(&mut lines, &records)?;
         let (stanzas, made, pages) = read_and_make(alloc, &lines, &records, steps)?;
         Ok(Script {
             lines,
@@ -370,6 +382,7 @@ impl Script {
         ensures { IsOpening (pages_refusal self.old) (pages_locked self.old) self.old self.new result }
     {
         self.firsts = None;
+        self.lines.make_index()?;
         lock_pages_made(
             alloc,
             &self.lines,

@@ -1,28 +1,29 @@
-use Rattle.std.proofs.Common.{◌≡◌, ℕ, ◌≤◌, ◌++◌, List, length, reverse, refl, sym, ap, ap₂, ◌∙◌, subst, arith}
+use Rattle.std.proofs.Common.{◌≡◌, ◌≤◌, ◌++◌, Option, List, length, reverse, refl, sym, ap, ap₂, ◌∙◌, arith, vec_capacity}
+use Rattle.std.specs.declared.alloc.Global.{Global}
+use Rattle.std.specs.declared.vec.Vec.{Vec}
 use Rattle.spec_text.specs.Lines.{LineState}
 use Rattle.spec_text.specs.Edits.{line_ids}
 use Rattle.sp_text.specs.declared.index.Entry.{Entry}
 use Rattle.sp_text.specs.declared.index.Side.TheVariants.{Front}
-use Rattle.sp_text.specs.Gap.{GapState, IsGap}
-use Rattle.sp_text.specs.Index.{Indexes, index_room}
+use Rattle.sp_text.specs.Gap.{GapState, IndexesLines, IsGap, IsRoomier, room_made}
+use Rattle.sp_text.proofs.Rooms.{HasRoom-fewer, HasRoom-more, IndexesLines-same, IsRoomier-same, room-grows}
 use Rattle.sp_text.proofs.gap.Gap.make_room.Goals as goal
 
 -- The same lines with more room.
-roomier : (front back front_now back_now : List LineState) (index index_now : List Entry) (a b a_now b_now : ℕ) → front_now ≡ front → back_now ≡ back → Indexes Front (line_ids front_now) (line_ids back_now) index_now → a ≤ a_now → b ≤ b_now → index_room index ≤ index_room index_now → IsGap front back index a b (index_room index) → IsGap front_now back_now index_now a_now b_now (index_room index_now)
-roomier front back front_now back_now index index_now a b a_now b_now front_is back_is indexes more_a more_b more_c gap =
+roomier : (front back front_now back_now : Vec LineState Global) (index index_now : Option (List Entry)) → front_now.items ≡ front.items → back_now.items ≡ back.items → IndexesLines Front front_now.items back_now.items index_now → vec_capacity front ≤ vec_capacity front_now → vec_capacity back ≤ vec_capacity back_now → IsRoomier (room_made index) (room_made index_now) → IsGap front back index → IsGap front_now back_now index_now
+roomier front back front_now back_now index index_now front_is back_is indexes more_front more_back more gap =
     let front_len = ap (λ (xs : List LineState). length xs) front_is in
     let back_len = ap (λ (xs : List LineState). length xs) back_is in
     record {
       indexes = indexes;
-      in_front = omega (arith, front_len, back_len, gap.in_front, more_a);
-      in_back = omega (arith, front_len, back_len, gap.in_back, more_b);
-      in_index = omega (arith, front_len, back_len, gap.in_index, more_c);
+      in_front = omega (arith, front_len, back_len, gap.in_front, more_front);
+      in_back = omega (arith, front_len, back_len, gap.in_back, more_back);
+      in_index = HasRoom-more _ index index_now more (HasRoom-fewer _ _ index (omega (arith, front_len, back_len)) gap.in_index);
     }
 
 -- The index of the same lines.
-same-lines : (front back front_now back_now : List LineState) (index : List Entry) → front_now ≡ front → back_now ≡ back → Indexes Front (line_ids front) (line_ids back) index → Indexes Front (line_ids front_now) (line_ids back_now) index
-same-lines front back front_now back_now index front_is back_is indexes =
-    subst (λ (xs : List LineState). Indexes Front (line_ids front_now) (line_ids xs) index) (sym back_is) (subst (λ (xs : List LineState). Indexes Front (line_ids xs) (line_ids back) index) (sym front_is) indexes)
+same-lines : (front back front_now back_now : List LineState) (index : Option (List Entry)) → front_now ≡ front → back_now ≡ back → IndexesLines Front front back index → IndexesLines Front front_now back_now index
+same-lines front back front_now back_now index front_is back_is = IndexesLines-same front back front_now back_now index (ap line_ids front_is) (ap line_ids back_is)
 
 pub returns-clause-lines : goal.returns-clause-lines
 returns-clause-lines c =
@@ -30,14 +31,15 @@ returns-clause-lines c =
 
 pub returns-clause-grows : goal.returns-clause-grows
 returns-clause-grows c =
-    omega (arith, ap (λ (g : GapState). g.room) c.self.view_is, c.in_ok-make_room.ensures.room, c.in_ok-make_room-2.ensures.room, c.make_room-3.ensures.grows)
+    let old = c.self.inside in
+    omega (arith, ap (λ (g : GapState). g.room) c.self.view_is, room-grows (vec_capacity old.front) (vec_capacity old.back) _ _ (room_made old.index) (room_made c.make_index_room.new.index) c.in_ok-make_room.ensures.room c.in_ok-make_room-2.ensures.room c.make_index_room.ensures.grows)
 
 pub invariant_of-self : goal.invariant_of-self
 invariant_of-self c =
     let old = c.self.inside in
     let one = c.make_room.ensures in
     let indexes = same-lines old.front.items old.back.items c.make_room.new.list.items old.back.items old.index one.items refl c.self.invariant.indexes in
-    roomier old.front.items old.back.items _ _ old.index old.index _ _ _ _ one.items refl indexes one.room (omega arith) (omega arith) c.self.invariant
+    roomier old.front old.back _ _ old.index old.index one.items refl indexes one.room (omega arith) (IsRoomier-same _ _ refl) c.self.invariant
 
 pub invariant_of-self-in_err-make_room-2 : goal.invariant_of-self-in_err-make_room-2
 invariant_of-self-in_err-make_room-2 c =
@@ -45,16 +47,16 @@ invariant_of-self-in_err-make_room-2 c =
     let one = c.make_room.ensures in
     let two = c.make_room-2.ensures in
     let indexes = same-lines old.front.items old.back.items c.make_room.new.list.items c.make_room-2.new.list.items old.index one.items two.items c.self.invariant.indexes in
-    roomier old.front.items old.back.items _ _ old.index old.index _ _ _ _ one.items two.items indexes one.room two.room (omega arith) c.self.invariant
+    roomier old.front old.back _ _ old.index old.index one.items two.items indexes one.room two.room (IsRoomier-same _ _ refl) c.self.invariant
 
-pub make_room-requires-3-clause-few : goal.make_room-requires-3-clause-few
-make_room-requires-3-clause-few c =
+pub make_index_room-requires-clause-room : goal.make_index_room-requires-clause-room
+make_index_room-requires-clause-room c =
     let front = ap (λ (xs : List LineState). length xs) (c.as_slice.ensures.value ∙ c.in_ok-make_room.ensures.items) in
     let back = ap (λ (xs : List LineState). length xs) (c.as_slice-2.ensures.value ∙ c.in_ok-make_room-2.ensures.items) in
-    omega (arith, front, back, c.self.invariant.in_index)
+    HasRoom-fewer _ _ c.self.inside.index (omega (arith, front, back)) c.self.invariant.in_index
 
-pub make_room-requires-3-clause-indexes : goal.make_room-requires-3-clause-indexes
-make_room-requires-3-clause-indexes c =
+pub make_index_room-requires-clause-index : goal.make_index_room-requires-clause-index
+make_index_room-requires-clause-index c =
     let old = c.self.inside in
     same-lines old.front.items old.back.items c.as_slice.result.now c.as_slice-2.result.now old.index (c.as_slice.ensures.value ∙ c.in_ok-make_room.ensures.items) (c.as_slice-2.ensures.value ∙ c.in_ok-make_room-2.ensures.items) c.self.invariant.indexes
 
@@ -63,6 +65,6 @@ invariant_of-self-2 c =
     let old = c.self.inside in
     let one = c.make_room.ensures in
     let two = c.make_room-2.ensures in
-    let three = c.make_room-3.ensures in
-    let indexes = same-lines c.as_slice.result.now c.as_slice-2.result.now c.make_room.new.list.items c.make_room-2.new.list.items c.make_room-3.new.self (sym c.as_slice.ensures.value) (sym c.as_slice-2.ensures.value) three.indexes in
-    roomier old.front.items old.back.items _ _ old.index c.make_room-3.new.self _ _ _ _ one.items two.items indexes one.room two.room three.grows c.self.invariant
+    let three = c.make_index_room.ensures in
+    let indexes = same-lines c.as_slice.result.now c.as_slice-2.result.now c.make_room.new.list.items c.make_room-2.new.list.items c.make_index_room.new.index (sym c.as_slice.ensures.value) (sym c.as_slice-2.ensures.value) three.index in
+    roomier old.front old.back _ _ old.index c.make_index_room.new.index one.items two.items indexes one.room two.room three.grows c.self.invariant

@@ -2,7 +2,7 @@ use Rattle.std.proofs.Common.{◌≡◌, ◌-◌, length, take}
 use Rattle.spec_text.specs.Edits.{line_ids}
 use Rattle.sp_text.specs.declared.index.Side.TheVariants.{Front}
 use Rattle.sp_text.specs.Index.{Indexes}
-use Rattle.sp_text.proofs.gap.exchange_rest.Given as goal
+use Rattle.sp_text.proofs.gap.exchange_told.Given as goal
 
 abbrev pub invariant-loop-done : goal.invariant-loop-done
 invariant-loop-done l =
