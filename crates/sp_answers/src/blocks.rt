@@ -1,14 +1,14 @@
 //! The blocks of a text, as a reply tells them.
 ghost use Rattle.std.specs.Prelude.{◌≡◌, ◌≤◌, length, map, option_map, string_bytes, All, IfOk};
-ghost use Rattle.std.specs.List.{flat_map};
 ghost use Rattle.spec_text.specs.Limits.{line_count_limit};
-ghost use Rattle.spec_text.specs.Lines.{line_texts};
 ghost use Rattle.spec_script.specs.BlockParts.{LineLies};
-ghost use Rattle.spec_script.specs.Elements.{PlacedLies, elements_in, is_speech_kind};
+ghost use Rattle.spec_script.specs.Elements.{PlacedLies, is_speech_kind};
 ghost use Rattle.spec_script.specs.Stanzas.{stanzas_of};
-ghost use Rattle.spec_layout.specs.Speakers.{first_text, visible_text};
-ghost use Rattle.spec_machine.specs.Blocks.{block_reply, block_replies, element_replies, kind_name, written_number};
+ghost use Rattle.spec_layout.specs.Speakers.{visible_text};
+ghost use Rattle.spec_machine.specs.Blocks.{block_reply, block_replies, kind_name, written_number};
 ghost use Rattle.sp_answers.specs.Pairs.{is_second, opens_pair};
+ghost use Rattle.sp_reread.specs.Cache.{texts_in};
+ghost use Rattle.sp_answers.specs.Texts.{placed_text, visible_texts, replies_in};
 
 use sp_block_values::{BlockLine, Kind, PlacedBlock, parts_text, shown_text};
 use sp_commands::BlockReply;
@@ -63,8 +63,8 @@ pub fn written_number(
     lines: &Lines,
     placed: &PlacedBlock<'_>,
 ) -> Result<Option<String>, AllocError>
-    requires { PlacedLies (line_texts lines.now.lines) placed.now }
-    ensures { IfOk result (λ number. option_map string_bytes number ≡ written_number (line_texts lines.now.lines) placed.now) }
+    requires { PlacedLies (texts_in lines.now) placed.now }
+    ensures { IfOk result (λ number. option_map string_bytes number ≡ written_number (texts_in lines.now) placed.now) }
 {
     let block = placed.block;
     let parts = block.number.as_slice();
@@ -82,9 +82,9 @@ fn visible_text(
     first: usize,
     line: &BlockLine,
 ) -> Result<String, AllocError>
-    requires lies { LineLies (line_texts lines.now.lines) first line.now }
+    requires lies { LineLies (texts_in lines.now) first line.now }
     requires low { length lines.now.lines ≤ line_count_limit }
-    ensures { IfOk result (λ text. string_bytes text ≡ visible_text (line_texts lines.now.lines) first line.now) }
+    ensures { IfOk result (λ text. string_bytes text ≡ visible_text (texts_in lines.now) first line.now) }
 {
     let text = lines.line(first + line.offset as usize).text;
     shown_text(alloc, text, &line.runs)
@@ -97,8 +97,8 @@ pub fn first_text(
     lines: &Lines,
     placed: &PlacedBlock<'_>,
 ) -> Result<String, AllocError>
-    requires { PlacedLies (line_texts lines.now.lines) placed.now }
-    ensures { IfOk result (λ text. string_bytes text ≡ first_text (line_texts lines.now.lines) placed.now.first placed.now.block.lines) }
+    requires { PlacedLies (texts_in lines.now) placed.now }
+    ensures { IfOk result (λ text. string_bytes text ≡ placed_text (texts_in lines.now) placed.now) }
 {
     let block = placed.block;
     match block.lines.first() {
@@ -114,9 +114,9 @@ fn visible_texts(
     first: usize,
     own: &[BlockLine],
 ) -> Result<Vec<String>, AllocError>
-    requires lie { All (LineLies (line_texts lines.now.lines) first) own.now }
+    requires lie { All (LineLies (texts_in lines.now) first) own.now }
     requires low { length lines.now.lines ≤ line_count_limit }
-    ensures { IfOk result (λ texts. map string_bytes texts.items ≡ map (visible_text (line_texts lines.now.lines) first) own.now) }
+    ensures { IfOk result (λ texts. map string_bytes texts.items ≡ visible_texts (texts_in lines.now) first own.now) }
 {
     let mut texts = Vec::with_capacity(alloc, own.len())?;
     for line in own {
@@ -132,8 +132,8 @@ fn block_reply(
     dual: bool,
     placed: &PlacedBlock<'_>,
 ) -> Result<BlockReply, AllocError>
-    requires { PlacedLies (line_texts lines.now.lines) placed.now }
-    ensures { IfOk result (λ reply. reply ≡ block_reply (line_texts lines.now.lines) dual placed.now) }
+    requires { PlacedLies (texts_in lines.now) placed.now }
+    ensures { IfOk result (λ reply. reply ≡ block_reply (texts_in lines.now) dual placed.now) }
 {
     let block = placed.block;
     let first = placed.first as u64;
@@ -153,8 +153,8 @@ fn replies_of(
     lines: &Lines,
     blocks: &[PlacedBlock<'_>],
 ) -> Result<Vec<BlockReply>, AllocError>
-    requires { All (PlacedLies (line_texts lines.now.lines)) blocks.now }
-    ensures { IfOk result (λ replies. replies.items ≡ flat_map (element_replies (line_texts lines.now.lines)) (elements_in blocks.now)) }
+    requires { All (PlacedLies (texts_in lines.now)) blocks.now }
+    ensures { IfOk result (λ replies. replies.items ≡ replies_in (texts_in lines.now) blocks.now) }
 {
     let mut replies = Vec::with_capacity(alloc, blocks.len())?;
     let mut opened = false;
@@ -173,8 +173,8 @@ pub fn block_replies(
     lines: &Lines,
     stanzas: &Stanzas,
 ) -> Result<Vec<BlockReply>, AllocError>
-    requires { stanzas.now.stanzas ≡ stanzas_of (line_texts lines.now.lines) }
-    ensures { IfOk result (λ its. its.items ≡ block_replies (line_texts lines.now.lines)) }
+    requires { stanzas.now.stanzas ≡ stanzas_of (texts_in lines.now) }
+    ensures { IfOk result (λ its. its.items ≡ block_replies (texts_in lines.now)) }
 {
     let _count = lines.len();
     let blocks = placed_blocks(alloc, stanzas)?;

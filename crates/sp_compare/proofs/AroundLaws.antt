@@ -13,7 +13,7 @@ use Rattle.sp_elements.proofs.BodyLaws.{placed_in-append}
 use Rattle.sp_elements.proofs.RowSwaps.{drop-rows, length-alike, moved-rows, rows_at-drop, rows_at-moved, take-rows}
 use Rattle.sp_compare.specs.declared.old_rows.RunPlaces.{RunPlaces}
 use Rattle.sp_compare.specs.BareRows.{AreSameAround, AreSameRun, StayOutside, bare_row, bare_rows}
-use Rattle.sp_compare.specs.OldElements.{AreOtherRows, OtherRowsOf, elements_before, others_from, others_to, with_others}
+use Rattle.sp_compare.specs.OldElements.{AreOtherRows, OtherRowsOf, old_elements, others_from, others_to, with_others}
 use Rattle.sp_compare.proofs.OldRowLaws.{count-more, count-old, count-parts, count-rises, map-take}
 use Rattle.sp_compare.proofs.OtherRowLaws.{count-rows, drop-past, others-front}
 use Rattle.sp_compare.proofs.RowLists.{map-slice}
@@ -112,9 +112,9 @@ pub outside-around : (old new : List LineState) (body gone : KeyedElements) (oth
     → IfSome others (AreOtherRows body.elements at.to) → StayOutside old new body.elements at.from at.to at.less at.more
     → same_to ≡ row_count (take at.from body.elements) → old_from ≡ row_count (take at.from body.elements) + row_count gone.elements → new_from ≡ row_count (take at.to body.elements)
     → from ≡ others_from body.elements at.to others → to ≡ others_to body.elements at.to others
-    → AreSameAround old (elements_before body others at gone).elements new body.elements same_to old_from new_from from to
+    → AreSameAround old (old_elements body others at gone).elements new body.elements same_to old_from new_from from to
 outside-around old new body gone others at same_to old_from new_from from to order are outside same_is old_is new_is from_is to_is =
-    let olds = (elements_before body others at gone).elements in
+    let olds = (old_elements body others at gone).elements in
     let news = body.elements in
     let front = take at.from news in
     let till = take at.to news in

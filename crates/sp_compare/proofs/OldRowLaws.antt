@@ -13,7 +13,7 @@ use Rattle.sp_elements.specs.Exchanges.{CanMove, moved_element, rows_at, with_ru
 use Rattle.sp_elements.proofs.BodyExchanges.{count-append, count-moved}
 use Rattle.sp_elements.proofs.BodyLaws.{placed_in-append}
 use Rattle.sp_compare.specs.declared.old_rows.RunPlaces.{RunPlaces}
-use Rattle.sp_compare.specs.OldElements.{AreOtherRows, OtherRowsOf, elements_before, with_others}
+use Rattle.sp_compare.specs.OldElements.{AreOtherRows, OtherRowsOf, old_elements, with_others}
 use Rattle.sp_compare.proofs.OtherRowLaws.{others-all, others-at, others-count, others-front, others-size}
 use Rattle.sp_compare.proofs.RowPlaces.{row-inside, row-there}
 
@@ -51,7 +51,7 @@ count-run body gone from to less more =
     omega (arith, one, two, three)
 
 pub count-old : (body gone : KeyedElements) (others : Option OtherRowsOf) (at : RunPlaces) → IfSome others (AreOtherRows body.elements at.to)
-    → row_count (elements_before body others at gone).elements ≡ row_count (take at.from body.elements) + (row_count gone.elements + row_count (drop at.to body.elements))
+    → row_count (old_elements body others at gone).elements ≡ row_count (take at.from body.elements) + (row_count gone.elements + row_count (drop at.to body.elements))
 count-old body gone others at are =
     let was = with_others body others in
     let all = count-run was gone at.from at.to at.less at.more in
@@ -80,12 +80,12 @@ module _ (body gone : KeyedElements) (others : Option OtherRowsOf) (at : RunPlac
   later = map (moved_element at.less at.more) (drop at.to (with_others body others).elements)
 
   -- All rows: the elements in front of the run have those that they have after the change.
-  rows-old : placed_in (elements_before body others at gone).elements ≡ placed_in (take at.from body.elements) ++ (placed_in gone.elements ++ placed_in later)
+  rows-old : placed_in (old_elements body others at gone).elements ≡ placed_in (take at.from body.elements) ++ (placed_in gone.elements ++ placed_in later)
   rows-old =
       rows-run (with_others body others) gone at.from at.to at.less at.more
       ∙ ap (λ (those : List ElementOf). placed_in those ++ (placed_in gone.elements ++ placed_in later)) (others-front body at.to others are at.from order)
 
-  pub row-front : (row : ℕ) (d : Row) → row < row_count (take at.from body.elements) → get_or (placed_in (elements_before body others at gone).elements) row d ≡ get_or (placed_in body.elements) row d
+  pub row-front : (row : ℕ) (d : Row) → row < row_count (take at.from body.elements) → get_or (placed_in (old_elements body others at gone).elements) row d ≡ get_or (placed_in body.elements) row d
   row-front row d here =
       let front = placed_in (take at.from body.elements) in
       ap (λ (rows : List Row). get_or rows row d) rows-old
@@ -93,14 +93,14 @@ module _ (body gone : KeyedElements) (others : Option OtherRowsOf) (at : RunPlac
       ∙ sym (ap (λ (rows : List Row). get_or rows row d) (rows-parts body.elements at.from) ∙ get_or-append front (placed_in (drop at.from body.elements)) d row here)
 
   pub row-gone : (row inside : ℕ) (d : Row) → inside < row_count gone.elements → row ≡ row_count (take at.from body.elements) + inside
-      → get_or (placed_in (elements_before body others at gone).elements) row d ≡ get_or (placed_in gone.elements) inside d
+      → get_or (placed_in (old_elements body others at gone).elements) row d ≡ get_or (placed_in gone.elements) inside d
   row-gone row inside d here place =
       ap₂ (λ (rows : List Row) n. get_or rows n d) rows-old place
       ∙ get_or-append-add (placed_in (take at.from body.elements)) (placed_in gone.elements ++ placed_in later) inside d
       ∙ get_or-append (placed_in gone.elements) (placed_in later) d inside here
 
   pub row-moved : (row behind : ℕ) (d : Row) → row ≡ row_count (take at.from body.elements) + (row_count gone.elements + behind)
-      → get_or (placed_in (elements_before body others at gone).elements) row d ≡ get_or (placed_in later) behind d
+      → get_or (placed_in (old_elements body others at gone).elements) row d ≡ get_or (placed_in later) behind d
   row-moved row behind d place =
       ap₂ (λ (rows : List Row) n. get_or rows n d) rows-old place
       ∙ get_or-append-add (placed_in (take at.from body.elements)) (placed_in gone.elements ++ placed_in later) (row_count gone.elements + behind) d
@@ -212,7 +212,7 @@ moves-here elements to less more row place element stands is all =
 
 -- Other rows have the keys of those after the change, and so stand where these stand.
 pub keys-old : (body gone : KeyedElements) (others : Option OtherRowsOf) (at : RunPlaces) → IfSome others (AreOtherRows body.elements at.to)
-    → (elements_before body others at gone).keys ≡ exchanged body.keys (row_count (take at.from body.elements)) (row_count (take at.to body.elements)) gone.keys
+    → (old_elements body others at gone).keys ≡ exchanged body.keys (row_count (take at.from body.elements)) (row_count (take at.to body.elements)) gone.keys
 keys-old body gone others at are =
     let front = others-count body at.to others are at.from in
     let till = others-count body at.to others are at.to in

@@ -1,18 +1,26 @@
 -- Rows of elements as an edit sees them (docs/RULES.md, "Edits and records").
-use Rattle.std.specs.Prelude.{◌≡◌, ◌+◌, ◌-◌, ◌≤◌, ℕ, if◌then◌else◌, List, [], ◌∷◌, map, take, drop, slice_range, All}
+use Rattle.std.specs.Prelude.{◌≡◌, ◌+◌, ◌-◌, ◌≤◌, ℕ, Bool, if◌then◌else◌, Option, List, [], ◌∷◌, map, take, drop, slice_index_or, slice_range, All}
 use Rattle.spec_text.specs.Lines.{LineState, line_texts}
 use Rattle.spec_script.specs.declared.Run.{Run}
 use Rattle.spec_pages.specs.Rows.{Cell, Row, ElementOf, shifted_cell}
+use Rattle.spec_labels.specs.Labels.{LabelOf}
 use Rattle.spec_layout.specs.Cells.{RowShows, ShownCell, continued, shown_cell, text_at, without_numbers}
 use Rattle.spec_layout.specs.Layout.{placed_in}
-use Rattle.spec_layout.specs.Shown.{row_key}
-use Rattle.spec_state.specs.SameRows.{BareRow}
+use Rattle.spec_layout.specs.Shown.{no_row, row_key, shown_rows}
+use Rattle.spec_state.specs.SameRows.{BareRow, same_rows}
 use Rattle.sp_elements.specs.Bodies.{KeyedElements, row_count}
 use Rattle.sp_elements.specs.Exchanges.{moved_element}
 
 -- Cells of an element that begins at a line, without a written number.
 abbrev pub bare_cells : List (List ℕ) → ℕ → List Cell → List ShownCell
 bare_cells texts first cells = map (shown_cell texts) (without_numbers (map (shifted_cell first) cells))
+
+-- The same by lines; and one of these cells.
+abbrev pub cell_in : List LineState → ℕ → Cell → ShownCell
+cell_in lines first cell = shown_cell (line_texts lines) (shifted_cell first cell)
+
+abbrev pub cells_in : List LineState → ℕ → List Cell → List ShownCell
+cells_in lines first cells = bare_cells (line_texts lines) first cells
 
 -- A row with places in the text.
 abbrev pub bare_row : List LineState → Row → BareRow
@@ -33,7 +41,14 @@ pub record AreLaid (lines : List LineState) (body : KeyedElements) : Type 0 wher
   pub keys : body.keys ≡ map (row_key lines) (placed_in body.elements)
   pub show : All (RowShows (line_texts lines)) (placed_in body.elements)
 
--- The rows from one to before another.
+-- What stands at a place of a list, which has one.
+abbrev pub StandsAt : {X : Type 0} → List X → ℕ → X → Type 0
+StandsAt {X} xs place x = (d : X) → slice_index_or xs place d ≡ x
+
+-- The row with so many rows before it, and the rows from one to before another.
+abbrev pub bare_row_at : List LineState → List ElementOf → ℕ → BareRow
+bare_row_at lines elements row = bare_row lines (slice_index_or (placed_in elements) row no_row)
+
 abbrev pub bare_rows : List LineState → List ElementOf → ℕ → ℕ → List BareRow
 bare_rows lines elements from to = map (bare_row lines) (slice_range (placed_in elements) from to)
 
@@ -64,3 +79,29 @@ pub record Both : Type 0 where
   pub olds : List ElementOf
   pub new : List LineState
   pub news : List ElementOf
+
+abbrev pub both_of : List LineState → KeyedElements → List LineState → KeyedElements → Both
+both_of old olds new news = record { old = old; olds = olds.elements; new = new; news = news.elements }
+
+-- The rows from one to before another as they were, and as they are.
+abbrev pub old_rows : Both → ℕ → ℕ → List BareRow
+old_rows both from to = bare_rows both.old both.olds from to
+
+abbrev pub new_rows : Both → ℕ → ℕ → List BareRow
+new_rows both from to = bare_rows both.new both.news from to
+
+-- The same of one row.
+abbrev pub row_was : Both → ℕ → BareRow
+row_was both row = bare_row_at both.old both.olds row
+
+abbrev pub row_is : Both → ℕ → BareRow
+row_is both row = bare_row_at both.new both.news row
+
+-- The rows from one to before another, before the change, are the same as those after it.
+abbrev pub AreSameRows : Both → ℕ → ℕ → ℕ → ℕ → Type 0
+AreSameRows both from to start end = old_rows both from to ≡ new_rows both start end
+
+-- It tells whether the rows from one to before another, before the change, are the same as those after it, with any labels of headings.
+abbrev pub TellsSameRows : Both → ℕ → ℕ → ℕ → ℕ → Bool → Type 0
+TellsSameRows both from to start end told = (olds news : Option (List LabelOf))
+    → told ≡ same_rows (slice_range (shown_rows both.old olds both.olds) from to) (slice_range (shown_rows both.new news both.news) start end)

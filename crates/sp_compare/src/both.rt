@@ -1,13 +1,10 @@
 //! A text laid out before a change of its lines and after it.
-ghost use Rattle.std.specs.Prelude.{◌≡◌, ◌+◌, ◌<◌, ◌≤◌, All, IfSome, Option, List, drop, length, slice_index_or, slice_range};
-ghost use Rattle.spec_labels.specs.Labels.{LabelOf};
-ghost use Rattle.spec_layout.specs.Layout.{placed_in};
-ghost use Rattle.spec_layout.specs.Shown.{no_row, shown_rows};
-ghost use Rattle.spec_state.specs.SameRows.{same_list, same_row, same_rows};
+ghost use Rattle.std.specs.Prelude.{◌≡◌, ◌+◌, ◌<◌, ◌≤◌, All, IfSome, drop, length};
+ghost use Rattle.spec_state.specs.SameRows.{same_list, same_row};
 ghost use Rattle.sp_elements.specs.Bodies.{keyed_elements, row_count};
 ghost use Rattle.sp_elements.specs.Exchanges.{CanMove};
-ghost use Rattle.sp_compare.specs.BareRows.{AreLaid, StayOutside, bare_row, bare_rows};
-ghost use Rattle.sp_compare.specs.OldElements.{AreOtherRows, elements_before};
+ghost use Rattle.sp_compare.specs.BareRows.{AreLaid, AreSameRows, StayOutside, TellsSameRows, both_of, new_rows, old_rows, row_is, row_was};
+ghost use Rattle.sp_compare.specs.OldElements.{AreOtherRows, old_body, HasFewRows};
 
 use crate::cells::same_cells;
 use crate::old_rows::{OldRows, OtherRows, RunPlaces, row_at, rows_of_others};
@@ -40,7 +37,8 @@ impl<'a> Model for BothTexts<'a> {
     ghost view = { λ b. record { old = b.old; olds = b.olds.elements; new = b.new.now.lines; news = b.news.now.elements } };
 
     ghost invariant = { λ b. AreLaid b.old b.olds × AreLaid b.new.now.lines (keyed_elements b.news.now)
-        × AreSameAround b.old b.olds.elements b.new.now.lines b.news.now.elements b.same_to b.old_from b.new_from b.others_from b.others_to };
+        × AreSameAround b.old b.olds.elements b.new.now.lines b.news.now.elements
+        b.same_to b.old_from b.new_from b.others_from b.others_to };
 }
 
 impl<'a> BothTexts<'a> {
@@ -58,11 +56,12 @@ impl<'a> BothTexts<'a> {
         requires within { at.to ≤ length news.now.elements }
         requires later { All (CanMove at.less at.more) (drop at.to news.now.elements) }
         requires others { IfSome others (AreOtherRows news.now.elements at.to) }
-        requires few { row_count (elements_before (keyed_elements news.now) others at (keyed_elements gone.now)).elements ≤ 9223372036854775807 }
-        requires olds { AreLaid old (elements_before (keyed_elements news.now) others at (keyed_elements gone.now)) }
+        requires few { HasFewRows (old_body news.now others at gone.now) }
+        requires olds { AreLaid old (old_body news.now others at gone.now) }
         requires news { AreLaid new.now.lines (keyed_elements news.now) }
         requires outside { StayOutside old new.now.lines news.now.elements at.from at.to at.less at.more }
-        ensures { result ≡ record { old = old.entry; olds = (elements_before (keyed_elements news.now) others.entry at (keyed_elements gone.now)).elements; new = new.now.lines; news = news.now.elements } }
+        ensures { result ≡ both_of old.entry (old_body news.now others.entry at gone.now)
+            new.now.lines (keyed_elements news.now) }
     {
         let same_to = news.rows_before(at.from);
         let new_from = news.rows_before(at.to);
@@ -101,7 +100,7 @@ impl<'a> BothTexts<'a> {
     fn same_row(&self, row: usize, other: usize) -> bool
         requires row { row < row_count self.now.olds }
         requires other { other < row_count self.now.news }
-        ensures { result ≡ same_row (bare_row self.now.old (slice_index_or (placed_in self.now.olds) row no_row)) (bare_row self.now.new (slice_index_or (placed_in self.now.news) other no_row)) }
+        ensures { result ≡ same_row (row_was self.now row) (row_is self.now other) }
     {
         let one = self.olds.row(row);
         let it = row_at(self.news, other);
@@ -125,7 +124,7 @@ impl<'a> BothTexts<'a> {
     fn same_run(&self, from: usize, start: usize, count: usize) -> bool
         requires old { from + count ≤ row_count self.now.olds }
         requires new { start + count ≤ row_count self.now.news }
-        ensures { result ≡ same_list (bare_rows self.now.old self.now.olds from (from + count)) (bare_rows self.now.new self.now.news start (start + count)) }
+        ensures { result ≡ same_list (old_rows self.now from (from + count)) (new_rows self.now start (start + count)) }
     {
         let _olds = self.olds.rows();
         let _news = self.news.rows();
@@ -143,8 +142,8 @@ impl<'a> BothTexts<'a> {
         requires new { start + count ≤ row_count self.now.news }
         ensures order { result.0 ≤ result.1 }
         ensures within { result.1 ≤ count }
-        ensures front { bare_rows self.now.old self.now.olds from (from + result.0) ≡ bare_rows self.now.new self.now.news start (start + result.0) }
-        ensures behind { bare_rows self.now.old self.now.olds (from + result.1) (from + count) ≡ bare_rows self.now.new self.now.news (start + result.1) (start + count) }
+        ensures front { AreSameRows self.now from (from + result.0) start (start + result.0) }
+        ensures behind { AreSameRows self.now (from + result.1) (from + count) (start + result.1) (start + count) }
     {
         let _olds = self.olds.rows();
         if from == start && from + count <= self.same_to {
@@ -169,7 +168,7 @@ impl<'a> BothTexts<'a> {
         requires old_within { to ≤ row_count self.now.olds }
         requires new { start ≤ end }
         requires new_within { end ≤ row_count self.now.news }
-        ensures { (olds news : Option (List LabelOf)) → result ≡ same_rows (slice_range (shown_rows self.now.old olds self.now.olds) from to) (slice_range (shown_rows self.now.new news self.now.news) start end) }
+        ensures { TellsSameRows self.now from to start end result }
     {
         if to - from != end - start {
             return false;

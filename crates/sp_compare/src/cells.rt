@@ -4,9 +4,9 @@ ghost use Rattle.spec_text.specs.Lines.{line_texts};
 ghost use Rattle.spec_text.specs.Parts.{Lies};
 ghost use Rattle.spec_script.specs.Runs.{RunParts, span_of};
 ghost use Rattle.spec_pages.specs.Rows.{shifted_cell};
-ghost use Rattle.spec_layout.specs.Cells.{ShowsParts, shown_cell, shown_part, slice_of, without_numbers};
+ghost use Rattle.spec_layout.specs.Cells.{ShowsParts, shown_part, slice_of, without_numbers};
 ghost use Rattle.spec_state.specs.SameRows.{same_cell, same_cells, same_part, same_parts};
-ghost use Rattle.sp_compare.specs.BareRows.{bare_cells, own_runs, own_text};
+ghost use Rattle.sp_compare.specs.BareRows.{own_runs, own_text, cell_in, cells_in};
 
 use sp_elements::Cell;
 use sp_text::{Lines, OldLines};
@@ -98,7 +98,7 @@ fn same_cell(
 ) -> bool
     requires one { ShowsParts (line_texts old.now) (shifted_cell old_first one.now) }
     requires other { ShowsParts (line_texts new.now.lines) (shifted_cell new_first other.now) }
-    ensures { result ≡ same_cell (shown_cell (line_texts old.now) (shifted_cell old_first one.now)) (shown_cell (line_texts new.now.lines) (shifted_cell new_first other.now)) }
+    ensures { result ≡ same_cell (cell_in old.now old_first one.now) (cell_in new.now.lines new_first other.now) }
 {
     let was = old_text(old, old_first, one);
     let is = new_text(new, new_first, other);
@@ -130,7 +130,7 @@ pub(crate) fn same_cells(
 ) -> bool
     requires olds { All (ShowsParts (line_texts old.now)) (map (shifted_cell old_first) olds.now) }
     requires news { All (ShowsParts (line_texts new.now.lines)) (map (shifted_cell new_first) news.now) }
-    ensures { result ≡ same_cells (bare_cells (line_texts old.now) old_first olds.now) (bare_cells (line_texts new.now.lines) new_first news.now) }
+    ensures { result ≡ same_cells (cells_in old.now old_first olds.now) (cells_in new.now.lines new_first news.now) }
 {
     let mut place = 0;
     for one in olds {

@@ -1,11 +1,11 @@
 //! The rows of a text before a change.
-ghost use Rattle.std.specs.Prelude.{◌≡◌, ◌+◌, ◌<◌, ◌≤◌, All, IfSome, drop, length, map, slice_index_or, take};
-ghost use Rattle.spec_labels.specs.declared.RowKey.{RowKey as RowKeyValue};
+ghost use Rattle.std.specs.Prelude.{◌≡◌, ◌+◌, ◌<◌, ◌≤◌, All, IfSome, drop, length, take};
 ghost use Rattle.spec_layout.specs.Layout.{placed_in};
-ghost use Rattle.spec_pages.specs.Rows.{Row as RowValue, shifted_row};
+ghost use Rattle.spec_pages.specs.Rows.{shifted_row};
 ghost use Rattle.sp_elements.specs.Bodies.{keyed_elements, row_count};
-ghost use Rattle.sp_elements.specs.Exchanges.{CanMove, moved_element, rows_at};
-ghost use Rattle.sp_compare.specs.OldElements.{AreOtherRows, elements_before, others_from, others_to, with_others};
+ghost use Rattle.sp_elements.specs.Exchanges.{CanMove, rows_at};
+ghost use Rattle.sp_compare.specs.OldElements.{AreOtherRows, others_from, others_to, with_others, old_body, HasFewRows, rows_behind};
+ghost use Rattle.sp_compare.specs.BareRows.{StandsAt};
 
 use sp_elements::{Body, Row};
 use spec_labels::RowKey;
@@ -47,8 +47,8 @@ pub(crate) struct KeyedRow<'a> {
 /// The row with so many rows before it.
 pub(crate) fn row_at(body: &Body, row: usize) -> KeyedRow<'_>
     requires { row < row_count body.now.elements }
-    ensures row { (d : RowValue) → slice_index_or (placed_in body.now.elements) row d ≡ shifted_row result.first result.row.now }
-    ensures key { (d : RowKeyValue) → slice_index_or body.now.keys row d ≡ result.key }
+    ensures row { StandsAt (placed_in body.now.elements) row (shifted_row result.first result.row.now) }
+    ensures key { StandsAt body.now.keys row result.key }
 {
     let place = body.element_of_row(row);
     let start = body.row_start(place);
@@ -85,8 +85,8 @@ fn row_behind<'a>(
     requires later { All (CanMove at.less at.more) (drop at.to body.now.elements) }
     requires others { IfSome others.now (AreOtherRows body.now.elements at.to) }
     requires row { row_count (take at.to body.now.elements) + row < row_count body.now.elements }
-    ensures row { (d : RowValue) → slice_index_or (placed_in (map (moved_element at.less at.more) (drop at.to (with_others (keyed_elements body.now) others.now).elements))) row d ≡ shifted_row result.first result.row.now }
-    ensures key { (d : RowKeyValue) → slice_index_or body.now.keys (row_count (take at.to body.now.elements) + row) d ≡ result.key }
+    ensures row { StandsAt (rows_behind body.now others.now at) row (shifted_row result.first result.row.now) }
+    ensures key { StandsAt body.now.keys (row_count (take at.to body.now.elements) + row) result.key }
 {
     let _len = body.len();
     let place = body.rows_before(at.to) + row;
@@ -138,17 +138,17 @@ pub struct OldRows<'a> {
 
 impl<'a> Model for OldRows<'a> {
     ghost use Rattle.std.specs.Prelude.{◌≤◌, All, IfSome, drop, length};
-    ghost use Rattle.sp_elements.specs.Bodies.{KeyedElements, keyed_elements, row_count};
+    ghost use Rattle.sp_elements.specs.Bodies.{KeyedElements};
     ghost use Rattle.sp_elements.specs.Exchanges.{CanMove};
-    ghost use Rattle.sp_compare.specs.OldElements.{AreOtherRows, elements_before};
+    ghost use Rattle.sp_compare.specs.OldElements.{AreOtherRows, HasFewRows, old_body};
 
     ghost Value = { KeyedElements };
 
-    ghost view = { λ o. elements_before (keyed_elements o.news.now) o.others o.at (keyed_elements o.gone.now) };
+    ghost view = { λ o. old_body o.news.now o.others o.at o.gone.now };
 
     ghost invariant = { λ o. (o.at.from ≤ o.at.to) × (o.at.to ≤ length o.news.now.elements) × All (CanMove o.at.less o.at.more) (drop o.at.to o.news.now.elements)
         × IfSome o.others (AreOtherRows o.news.now.elements o.at.to)
-        × (row_count (elements_before (keyed_elements o.news.now) o.others o.at (keyed_elements o.gone.now)).elements ≤ 9223372036854775807) };
+        × HasFewRows (old_body o.news.now o.others o.at o.gone.now) };
 }
 
 impl<'a> OldRows<'a> {
@@ -164,8 +164,8 @@ impl<'a> OldRows<'a> {
         requires within { at.to ≤ length news.now.elements }
         requires later { All (CanMove at.less at.more) (drop at.to news.now.elements) }
         requires others { IfSome others (AreOtherRows news.now.elements at.to) }
-        requires few { row_count (elements_before (keyed_elements news.now) others at (keyed_elements gone.now)).elements ≤ 9223372036854775807 }
-        ensures { result ≡ elements_before (keyed_elements news.now) others.entry at (keyed_elements gone.now) }
+        requires few { HasFewRows (old_body news.now others at gone.now) }
+        ensures { result ≡ old_body news.now others.entry at gone.now }
     {
         OldRows {
             news,
@@ -187,8 +187,8 @@ impl<'a> OldRows<'a> {
     /// The row that had so many rows before it.
     pub(crate) fn row(&self, row: usize) -> KeyedRow<'a>
         requires { row < row_count self.now.elements }
-        ensures row { (d : RowValue) → slice_index_or (placed_in self.now.elements) row d ≡ shifted_row result.first result.row.now }
-        ensures key { (d : RowKeyValue) → slice_index_or self.now.keys row d ≡ result.key }
+        ensures row { StandsAt (placed_in self.now.elements) row (shifted_row result.first result.row.now) }
+        ensures key { StandsAt self.now.keys row result.key }
     {
         let _news = self.news.len();
         let _gone = self.gone.len();

@@ -1,11 +1,7 @@
 //! The page records whose rows an edit changed.
-ghost use Rattle.std.specs.Prelude.{◌≡◌, ◌+◌, ◌<◌, Option, List, IfOk, length, slice_index, slice_index_or, slice_range};
-ghost use Rattle.spec_labels.specs.Labels.{LabelOf};
-ghost use Rattle.spec_layout.specs.Shown.{shown_rows};
-ghost use Rattle.spec_state.specs.Changes.{segment_rows};
-ghost use Rattle.spec_state.specs.SameRows.{same_rows};
+ghost use Rattle.std.specs.Prelude.{◌≡◌, ◌+◌, ◌<◌, IfOk, length, slice_index_or};
 ghost use Rattle.sp_elements.specs.Bodies.{row_count};
-ghost use Rattle.sp_compare.specs.Raised.{AreSegments, raises};
+ghost use Rattle.sp_compare.specs.Raised.{AreSegments, TellsSameSegment, AreRaises};
 
 use crate::both::BothTexts;
 use sp_locks::PageRecord;
@@ -44,7 +40,7 @@ fn same_segment(
     requires before { AreSegments (row_count texts.now.olds) (length before.now) before.now }
     requires after { AreSegments (row_count texts.now.news) (length before.now) after.now }
     requires inside { place < length before.now }
-    ensures { (olds news : Option (List LabelOf)) → result ≡ same_rows (slice_range (shown_rows texts.now.old olds texts.now.olds) (slice_index before.now place) (slice_index_or before.now (place + 1) (row_count texts.now.olds))) (slice_range (shown_rows texts.now.new news texts.now.news) (slice_index after.now place) (slice_index_or after.now (place + 1) (row_count texts.now.news))) }
+    ensures { TellsSameSegment texts.now before.now after.now place result }
 {
     let to = segment_end(before, place, rows.before);
     let end = segment_end(after, place, rows.after);
@@ -64,7 +60,7 @@ pub fn raises(
 ) -> Result<Vec<Moved>, AllocError>
     requires before { AreSegments (row_count texts.now.olds) (length records.now) before.now }
     requires after { AreSegments (row_count texts.now.news) (length records.now) after.now }
-    ensures { IfOk result (λ moved. (olds news : Option (List LabelOf)) → moved.items ≡ raises round 0 (segment_rows (shown_rows texts.now.old olds texts.now.olds) before.now) (segment_rows (shown_rows texts.now.new news texts.now.news) after.now) records.now) }
+    ensures { IfOk result (λ moved. AreRaises texts.now round before.now after.now records.now moved.items) }
 {
     let rows = RowCounts {
         before: texts.rows_before(),

@@ -5,6 +5,7 @@ use Rattle.spec_text.specs.Edits.{EditOf, refusal_of, replacement_of}
 use Rattle.spec_pages.specs.declared.Paper.{Paper}
 use Rattle.spec_state.specs.State.{State, text_of}
 use Rattle.spec_wire.specs.Commands.{CommandOf, edit, paper}
+use Rattle.spec_machine.specs.Machine.{Memory}
 use Rattle.spec_locked_pages.specs.Segments.{pages_of}
 use Rattle.sp_exchange.specs.Reads.{IsRefused}
 use Rattle.sp_reflow.specs.Filling.{FilledAtMost}
@@ -30,3 +31,7 @@ abbrev pub CommandFills : {T E : Type 0} → State → CommandOf → Result T E 
 CommandFills state (edit it) result fills fills' = FillsOfEdit state it result fills fills'
 CommandFills state (paper size) result fills fills' = FillsOfPaper state size result fills fills'
 CommandFills state _ result fills fills' = fills' ≡ fills
+
+-- The same of a command to a desk.
+abbrev pub DeskFills : {T E : Type 0} → Memory → CommandOf → Result T E → ℕ → ℕ → Type 0
+DeskFills memory command result fills fills' = CommandFills memory.state command result fills fills'

@@ -1,9 +1,8 @@
 //! A script with the journal of its edits.
 ghost use Rattle.std.specs.Prelude.{◌≡◌, ℕ, ◌≤◌, drop, false, Some, length, slice_get, IfOk, IfNone, IfSome, OnOk};
 ghost use Rattle.spec_text.specs.Lines.{line_texts, read_lines};
-ghost use Rattle.spec_script.specs.Stanzas.{stanzas_of};
 ghost use Rattle.spec_state.specs.State.{opened_state, text_of};
-ghost use Rattle.spec_state.specs.Keeping.{IsWhole, records_of, state_of};
+ghost use Rattle.spec_state.specs.Keeping.{IsWhole, records_of};
 ghost use Rattle.spec_state.specs.StateSheets.{sheets_of_state};
 ghost use Rattle.spec_wire.specs.Commands as commands;
 ghost use Rattle.spec_wire.specs.Replies.{is_refused};
@@ -16,13 +15,12 @@ ghost use Rattle.spec_machine.specs.Machine.{opened_memory};
 ghost use Rattle.sp_text.specs.Gap.{text_of as lines_text};
 ghost use Rattle.sp_text.specs.Changing.{edit_of};
 ghost use Rattle.sp_commands.specs.Values.{command_of, reply_of};
-ghost use Rattle.sp_reread.specs.Cache.{RisesWithin, counted_on};
+ghost use Rattle.sp_reread.specs.Cache.{texts_in, ReadsAtMostAll, ReadsAll};
 ghost use Rattle.sp_desk.specs.Answers.{IsAnswer};
-ghost use Rattle.sp_desk.specs.Reads.{CommandReads};
-ghost use Rattle.sp_desk.specs.Fills.{CommandFills};
-ghost use Rattle.spec_locked_pages.specs.Segments.{pages_of};
-ghost use Rattle.sp_reflow.specs.Filling.{FilledAtMost};
-ghost use Rattle.sp_reflow.specs.Starts.{many_more};
+ghost use Rattle.sp_desk.specs.Reads.{DeskReads};
+ghost use Rattle.sp_desk.specs.Fills.{DeskFills};
+ghost use Rattle.sp_made_parts.specs.States.{state_in};
+ghost use Rattle.sp_made.specs.Pages.{FillsAll, FillsAtMostAll};
 
 use crate::DeskFault;
 use crate::replies::{edited_reply, page_count, scene_count, sheet_labels};
@@ -72,11 +70,11 @@ impl Desk {
     pub fn new<S: Steps>(alloc: Global, lines: Lines, steps: &mut S) -> Result<Desk, AllocError>
         requires read { lines.lines ≡ read_lines (line_texts lines.lines) }
         requires next { lines.next ≡ length lines.lines }
-        ensures memory { IfOk result (λ desk. desk ≡ opened_memory (opened_state (line_texts lines.lines))) }
-        ensures reads { OnOk result (S.reads steps.new ≡ counted_on (length (stanzas_of (line_texts lines.lines))) (S.reads steps.old)) }
-        ensures at_most { RisesWithin (length (stanzas_of (line_texts lines.lines))) (S.reads steps.old) (S.reads steps.new) }
-        ensures fills { OnOk result (S.fills steps.new ≡ many_more (S.fills steps.old) (length (pages_of (opened_state (line_texts lines.lines))))) }
-        ensures fills_at_most { FilledAtMost (S.fills steps.old) (S.fills steps.new) (length (pages_of (opened_state (line_texts lines.lines)))) }
+        ensures memory { IfOk result (λ desk. desk ≡ opened_memory (opened_state (texts_in lines))) }
+        ensures reads { OnOk result (ReadsAll (texts_in lines) (S.reads steps.old) (S.reads steps.new)) }
+        ensures at_most { ReadsAtMostAll (texts_in lines) (S.reads steps.old) (S.reads steps.new) }
+        ensures fills { OnOk result (FillsAll (opened_state (texts_in lines)) (S.fills steps.old) (S.fills steps.new)) }
+        ensures fills_at_most { FillsAtMostAll (opened_state (texts_in lines)) (S.fills steps.old) (S.fills steps.new) }
     {
         let _count = lines.len();
         let script = Script::new(alloc, lines, steps)?;
@@ -94,12 +92,12 @@ impl Desk {
         records: Records,
         steps: &mut S,
     ) -> Result<Desk, AllocError>
-        requires { IsWhole (state_of (lines_text lines) records) }
-        ensures memory { IfOk result (λ desk. desk ≡ opened_memory (state_of (lines_text lines) records)) }
-        ensures reads { OnOk result (S.reads steps.new ≡ counted_on (length (stanzas_of (line_texts lines.lines))) (S.reads steps.old)) }
-        ensures at_most { RisesWithin (length (stanzas_of (line_texts lines.lines))) (S.reads steps.old) (S.reads steps.new) }
-        ensures fills { OnOk result (S.fills steps.new ≡ many_more (S.fills steps.old) (length (pages_of (state_of (lines_text lines) records)))) }
-        ensures fills_at_most { FilledAtMost (S.fills steps.old) (S.fills steps.new) (length (pages_of (state_of (lines_text lines) records))) }
+        requires { IsWhole (state_in lines records) }
+        ensures memory { IfOk result (λ desk. desk ≡ opened_memory (state_in lines records)) }
+        ensures reads { OnOk result (ReadsAll (texts_in lines) (S.reads steps.old) (S.reads steps.new)) }
+        ensures at_most { ReadsAtMostAll (texts_in lines) (S.reads steps.old) (S.reads steps.new) }
+        ensures fills { OnOk result (FillsAll (state_in lines records) (S.fills steps.old) (S.fills steps.new)) }
+        ensures fills_at_most { FillsAtMostAll (state_in lines records) (S.fills steps.old) (S.fills steps.new) }
     {
         let script = Script::open(alloc, lines, records, steps)?;
         Ok(Desk {
@@ -129,8 +127,8 @@ impl Desk {
         ensures opening { OnOk result (KeepsSheets (command_of command) self.old self.new) }
         ensures locked { KeepsPages self.old (command_of command) (self.new).state }
         ensures chain { (i k : ℕ) → KeepsAlong i (drop k (self.new).done) (self.new).state }
-        ensures reads { CommandReads (self.old).state (command_of command) result (S.reads steps.old) (S.reads steps.new) }
-        ensures fills { CommandFills (self.old).state (command_of command) result (S.fills steps.old) (S.fills steps.new) }
+        ensures reads { DeskReads self.old (command_of command) result (S.reads steps.old) (S.reads steps.new) }
+        ensures fills { DeskFills self.old (command_of command) result (S.fills steps.old) (S.fills steps.new) }
     {
         let _before = self.sheets();
         let answer = self.answer(alloc, command, steps);
@@ -146,8 +144,8 @@ impl Desk {
     ) -> Result<Reply, DeskFault>
         ensures step { IsAnswer self.old (command_of command) self.new result }
         ensures unrefused { IfOk result (λ reply. is_refused (reply_of reply) ≡ false) }
-        ensures reads { CommandReads (self.old).state (command_of command) result (S.reads steps.old) (S.reads steps.new) }
-        ensures fills { CommandFills (self.old).state (command_of command) result (S.fills steps.old) (S.fills steps.new) }
+        ensures reads { DeskReads self.old (command_of command) result (S.reads steps.old) (S.reads steps.new) }
+        ensures fills { DeskFills self.old (command_of command) result (S.fills steps.old) (S.fills steps.new) }
     {
         match command {
             Command::Edit(edit) => self.edit(alloc, edit, steps),
@@ -174,8 +172,10 @@ impl Desk {
     ) -> Result<Reply, DeskFault>
         ensures step { IsAnswer self.old (commands.edit (edit_of edit)) self.new result }
         ensures unrefused { IfOk result (λ reply. is_refused (reply_of reply) ≡ false) }
-        ensures reads { CommandReads (self.old).state (commands.edit (edit_of edit)) result (S.reads steps.old) (S.reads steps.new) }
-        ensures fills { CommandFills (self.old).state (commands.edit (edit_of edit)) result (S.fills steps.old) (S.fills steps.new) }
+        ensures reads { DeskReads self.old (commands.edit (edit_of edit)) result
+            (S.reads steps.old) (S.reads steps.new) }
+        ensures fills { DeskFills self.old (commands.edit (edit_of edit)) result
+            (S.fills steps.old) (S.fills steps.new) }
     {
         self.journal.reserve_one()?;
         let entry = self.script.edit(alloc, edit, steps)?;
@@ -275,7 +275,7 @@ impl Desk {
         ensures step { IsAnswer self.old (commands.paper paper) self.new result }
         ensures unrefused { IfOk result (λ reply. is_refused (reply_of reply) ≡ false) }
         ensures reads { S.reads steps.new ≡ S.reads steps.old }
-        ensures fills { CommandFills (self.old).state (commands.paper paper) result (S.fills steps.old) (S.fills steps.new) }
+        ensures fills { DeskFills self.old (commands.paper paper) result (S.fills steps.old) (S.fills steps.new) }
     {
         if self.script.records().pages.is_some() {
             return Err(DeskFault::Refused(Refusal::PagesLocked));

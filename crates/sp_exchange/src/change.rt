@@ -1,16 +1,14 @@
 //! A text and its stanzas, changed and restored.
 ghost use Rattle.std.specs.Prelude.{◌≡◌, ◌+◌, ◌-◌, ◌≤◌, length, IfErr, IfOk, IsOk, OnErr, OnOk};
-ghost use Rattle.spec_text.specs.Edits.{changed, displaced_by, refusal_of, replacement_of, restored};
-ghost use Rattle.spec_text.specs.Lines.{IsText, line_texts};
-ghost use Rattle.spec_text.specs.Ranges.{range_of};
+ghost use Rattle.spec_text.specs.Edits.{restored};
+ghost use Rattle.spec_text.specs.Lines.{IsText};
 ghost use Rattle.spec_script.specs.Stanzas.{stanzas_of};
-ghost use Rattle.spec_reread.specs.Windows.{CountsWindow, WasList, stanza_lines_in};
-ghost use Rattle.sp_text.specs.Changing.{Refuses, edit_of};
+ghost use Rattle.sp_text.specs.Changing.{Refuses};
 ghost use Rattle.sp_text.specs.DisplacedLines.{displaced_of};
 ghost use Rattle.sp_text.specs.Gap.{text_of};
-ghost use Rattle.sp_reread.specs.Cache.{GivesBack, ReadsWithin, counted_on, exchanged};
-ghost use Rattle.sp_exchange.specs.Reads.{IsRefused, ReadsAtMost, ReadsWindow};
-ghost use Rattle.sp_exchange.specs.Restoring.{AreDisplaced, CanRestoreText, HasRoomFor, IsSameText, IsTurned, text_before, text_stanzas};
+ghost use Rattle.sp_reread.specs.Cache.{GivesBack, counted_on, texts_in, AreCountable, stanzas_before, HasSwapRoom};
+ghost use Rattle.sp_exchange.specs.Reads.{IsRefused, ChangeReads, ChangeReadsAtMost, RereadsAtMost};
+ghost use Rattle.sp_exchange.specs.Restoring.{CanRestoreText, HasRoomFor, IsSameText, IsTurned, text_before, text_stanzas, refusal_in, text_edited, StoodBefore, StandInWindowOf, Displaces, DisplacesStanzas};
 
 use sp_kit::Steps;
 use sp_reread::{Stanzas, Swapped, Unswapped};
@@ -41,10 +39,9 @@ fn restore_in_room(lines: &mut Lines, back: Displaced)
 /// Puts displaced stanzas back where there is room.
 fn put_back_in_room(stanzas: &mut Stanzas, back: Swapped) -> Swapped
     requires place { back.at + back.stands ≤ length stanzas.old.stanzas }
-    requires low { stanza_lines_in (exchanged stanzas.old.stanzas back.at back.stands back.stanzas) ≤ 18446744073709551615 }
-    requires room { length stanzas.old.stanzas - back.stands + length back.stanzas ≤ stanzas.old.room }
-    requires back_room { back.stands ≤ back.room }
-    ensures list { stanzas.new.stanzas ≡ exchanged stanzas.old.stanzas back.at back.stands back.stanzas }
+    requires low { AreCountable (stanzas_before stanzas.old.stanzas back) }
+    requires room { HasSwapRoom stanzas.old back }
+    ensures list { stanzas.new.stanzas ≡ stanzas_before stanzas.old.stanzas back }
     ensures out { GivesBack result stanzas.new.stanzas stanzas.old.stanzas }
     ensures at { result.at ≡ back.at }
     ensures stands { result.stands ≡ length back.stanzas }
@@ -62,12 +59,13 @@ fn reread<S: Steps>(
     displaced: &Displaced,
     steps: &mut S,
 ) -> Result<Swapped, AllocError>
-    requires { WasList stanzas.old.stanzas (line_texts lines.now.lines) displaced.now.first (length displaced.now.lines) displaced.now.stands }
-    ensures list { OnOk result (stanzas.new.stanzas ≡ stanzas_of (line_texts lines.now.lines)) }
+    requires { StoodBefore lines.now displaced.now stanzas.old.stanzas }
+    ensures list { OnOk result (stanzas.new.stanzas ≡ stanzas_of (texts_in lines.now)) }
     ensures back { IfOk result (λ it. GivesBack it stanzas.new.stanzas stanzas.old.stanzas) }
-    ensures window { IfOk result (λ it. CountsWindow stanzas.old.stanzas (line_texts lines.now.lines) displaced.now.first (length displaced.now.lines) displaced.now.stands it.at it.stands) }
+    ensures window { IfOk result (StandInWindowOf lines.now displaced.now stanzas.old.stanzas) }
     ensures reads { IfOk result (λ it. S.reads steps.new ≡ counted_on it.stands (S.reads steps.old)) }
-    ensures at_most { OnErr result (ReadsWithin (line_texts lines.now.lines) displaced.now.first (length displaced.now.lines) displaced.now.stands stanzas.old.stanzas (S.reads steps.old) (S.reads steps.new)) }
+    ensures at_most { OnErr result (RereadsAtMost lines.now displaced.now stanzas.old.stanzas
+        (S.reads steps.old) (S.reads steps.new)) }
     ensures fills { S.fills steps.new ≡ S.fills steps.old }
     ensures same { OnErr result (stanzas.new.stanzas ≡ stanzas.old.stanzas) }
     ensures room { stanzas.old.room ≤ stanzas.new.room }
@@ -93,17 +91,17 @@ pub fn change_text<S: Steps>(
     steps: &mut S,
 ) -> Result<(Displaced, Swapped), EditFault>
     requires { stanzas.old.stanzas ≡ text_stanzas (text_of lines.old) }
-    ensures refuses { Refuses (refusal_of (text_of lines.old) (edit_of edit)) result }
-    ensures text { OnOk result (text_of lines.new ≡ changed (text_of lines.old) (replacement_of lines.old.lines (edit_of edit)) round) }
-    ensures displaced { IfOk result (λ it. displaced_of it.0 ≡ displaced_by (text_of lines.old) (replacement_of lines.old.lines (edit_of edit))) }
+    ensures refuses { Refuses (refusal_in lines.old edit) result }
+    ensures text { OnOk result (text_of lines.new ≡ text_edited lines.old edit round) }
+    ensures displaced { IfOk result (λ it. Displaces lines.old edit it.0) }
     ensures leads { IfOk result (λ it. text_before (text_of lines.new) it.0 ≡ text_of lines.old) }
     ensures can { IfOk result (λ it. CanRestoreText (text_of lines.new) it.0 it.1) }
     ensures stanzas { stanzas.new.stanzas ≡ text_stanzas (text_of lines.new) }
     ensures room { IfOk result (λ it. HasRoomFor lines.new stanzas.new it.0 it.1) }
-    ensures window { IfOk result (λ it. AreDisplaced (line_texts lines.old.lines) (line_texts lines.new.lines) (range_of (replacement_of lines.old.lines (edit_of edit))) it.1) }
-    ensures reads { OnOk result (ReadsWindow (line_texts lines.old.lines) (line_texts (changed (text_of lines.old) (replacement_of lines.old.lines (edit_of edit)) round).lines) (range_of (replacement_of lines.old.lines (edit_of edit))) (S.reads steps.old) (S.reads steps.new)) }
-    ensures at_most { ReadsAtMost (line_texts lines.old.lines) (line_texts (changed (text_of lines.old) (replacement_of lines.old.lines (edit_of edit)) round).lines) (range_of (replacement_of lines.old.lines (edit_of edit))) (S.reads steps.old) (S.reads steps.new) }
-    ensures unread { IsRefused (refusal_of (text_of lines.old) (edit_of edit)) → S.reads steps.new ≡ S.reads steps.old }
+    ensures window { IfOk result (λ it. DisplacesStanzas lines.old lines.new edit it.1) }
+    ensures reads { OnOk result (ChangeReads lines.old edit round (S.reads steps.old) (S.reads steps.new)) }
+    ensures at_most { ChangeReadsAtMost lines.old edit round (S.reads steps.old) (S.reads steps.new) }
+    ensures unread { IsRefused (refusal_in lines.old edit) → S.reads steps.new ≡ S.reads steps.old }
     ensures fills { S.fills steps.new ≡ S.fills steps.old }
     ensures same { OnErr result (text_of lines.new ≡ text_of lines.old) }
 {

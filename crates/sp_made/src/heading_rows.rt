@@ -1,10 +1,9 @@
 //! The headings among rows that are laid out.
 ghost use Rattle.std.specs.Prelude.{◌≡◌, ℕ, ◌≤◌, ◌↔◌, IsTrue, length, take};
-ghost use Rattle.sp_elements.specs.Bodies.{keyed_elements, row_count};
-ghost use Rattle.sp_elements.specs.Exchanges.{with_run};
-ghost use Rattle.sp_relay.specs.Changes.{CanChange, with_change};
+ghost use Rattle.sp_elements.specs.Bodies.{row_count};
+ghost use Rattle.sp_relay.specs.Changes.{CanChange};
 ghost use Rattle.sp_relay.specs.Kept.{laid_of};
-ghost use Rattle.sp_numbers.specs.HeadingIds.{body_headings, laid_headings};
+ghost use Rattle.sp_made.specs.Headings.{KeepsBodyHeadings, KeepsHeadings};
 
 use sp_elements::Body;
 use sp_numbers::same_headings;
@@ -27,7 +26,7 @@ fn rows_of_run(body: &Body, from: usize, to: usize) -> (usize, usize)
 fn keeps_body_headings(body: &Body, from: usize, to: usize, others: &Body) -> bool
     requires order { from ≤ to }
     requires within { to ≤ length body.now.elements }
-    ensures { (less more : ℕ) → IsTrue result ↔ body_headings (with_run (keyed_elements body.now) from to (keyed_elements others.now) less more) ≡ body_headings (keyed_elements body.now) }
+    ensures { (less more : ℕ) → IsTrue result ↔ KeepsBodyHeadings body.now from to others.now less more }
 {
     let (start, end) = rows_of_run(body, from, to);
     same_headings(
@@ -44,7 +43,7 @@ fn keeps_body_headings(body: &Body, from: usize, to: usize, others: &Body) -> bo
 /// rows of a speech are no headings.
 pub fn keeps_headings(layout: &KeptLayout, change: &LayoutChange) -> bool
     requires { CanChange (laid_of layout.now) change.now }
-    ensures { IsTrue result ↔ laid_headings (with_change (laid_of layout.now) change.now) ≡ laid_headings (laid_of layout.now) }
+    ensures { IsTrue result ↔ KeepsHeadings layout.now change.now }
 {
     let part = &change.part;
     let places = part.places;

@@ -1,26 +1,24 @@
 //! What is made of a state and its stanzas: its elements in rows, the labels of its headings, and its sheets.
-ghost use Rattle.std.specs.Prelude.{◌≡◌, length, option_map, All, None, Some, IfNone, IfOk, IfSome, IsTrue, OnErr, OnOk};
+ghost use Rattle.std.specs.Prelude.{◌≡◌, option_map, vec_items, All, None, IfNone, IfOk, IfSome, IsTrue, OnErr, OnOk};
 ghost use Rattle.std.specs.Bool.{OnFalse};
 ghost use Rattle.spec_text.specs.Lines.{line_texts};
 ghost use Rattle.spec_script.specs.Stanzas.{stanzas_of};
 ghost use Rattle.spec_pages.specs.Pages.{rows_on};
-ghost use Rattle.spec_state.specs.Headings.{heading_labels};
-ghost use Rattle.spec_state.specs.StateSheets.{body_sheets, locked_starts, rows_in, title_starts};
+ghost use Rattle.spec_state.specs.StateSheets.{body_sheets, title_starts};
 ghost use Rattle.spec_state.specs.Keeping.{IsWhole, state_of};
 ghost use Rattle.spec_state.specs.State.{State};
 ghost use Rattle.sp_text.specs.Gap.{text_of};
 ghost use Rattle.sp_exchange.specs.Restoring.{text_stanzas};
 ghost use Rattle.sp_elements.specs.Bodies.{marks_in};
 ghost use Rattle.spec_locked_pages.specs.Segments.{pages_of};
-ghost use Rattle.sp_reflow.specs.Starts.{many_more};
-ghost use Rattle.sp_reflow.specs.Filling.{FilledAtMost};
 ghost use Rattle.sp_reflow.specs.Updates.{with_taken, CanPutBack};
 ghost use Rattle.sp_relay.specs.Kept.{laid_of};
 ghost use Rattle.sp_made_parts.specs.Firsts.{IsLaidOf, first_rows};
 ghost use Rattle.sp_made_parts.specs.Made.{IsMadeOf, IsNumberedOf, marked_or_locked};
-ghost use Rattle.sp_made.specs.Pages.{AreStopsOf, AskedOfPages};
+ghost use Rattle.sp_made.specs.Pages.{AreStopsOf, AskedOfPages, FillsAll, FillsAtMostAll, labels_in, locked_starts_in, numbered_on, WerePageSheets, WereUnmarkedSheets};
 ghost use Rattle.sp_numbers.specs.Locked.{AreSheetsBefore};
-ghost use Rattle.sp_numbers.specs.Numbered.{marked_sheets, AreMovedOutside, AreUnmarked};
+ghost use Rattle.sp_numbers.specs.Numbered.{AreMovedOutside};
+ghost use Rattle.sp_made_parts.specs.States.{state_in};
 
 use crate::title_rows::{changed_titles, made_titles};
 use sp_elements::Body;
@@ -56,9 +54,9 @@ fn made_labels(
     stanzas: &Stanzas,
     records: &Records,
 ) -> Result<Option<Vec<Label>>, AllocError>
-    requires whole { IsWhole (state_of (text_of lines.now) records.now) }
+    requires whole { IsWhole (state_in lines.now records.now) }
     requires stanzas { stanzas.now.stanzas ≡ stanzas_of (line_texts lines.now.lines) }
-    ensures { IfOk result (λ labels. option_map (λ those. those.items) labels ≡ heading_labels lines.now.lines records.now.scenes) }
+    ensures { IfOk result (λ labels. option_map vec_items labels ≡ labels_in lines.now records.now) }
 {
     match &records.scenes {
         None => Ok(None),
@@ -78,9 +76,10 @@ fn changed_labels(
     records: &Records,
     keeps: bool,
 ) -> Result<Option<Option<Vec<Label>>>, AllocError>
-    requires whole { IsWhole (state_of (text_of lines.now) records.now) }
+    requires whole { IsWhole (state_in lines.now records.now) }
     requires stanzas { stanzas.now.stanzas ≡ stanzas_of (line_texts lines.now.lines) }
-    ensures made { IfOk result (λ changed. IfSome changed (λ labels. option_map (λ those. those.items) labels ≡ heading_labels lines.now.lines records.now.scenes)) }
+    ensures made { IfOk result (λ changed. IfSome changed (λ labels.
+        option_map vec_items labels ≡ labels_in lines.now records.now)) }
     ensures kept { IfOk result (λ changed. IfNone changed (IsTrue keeps)) }
 {
     if keeps {
@@ -97,9 +96,9 @@ pub fn made_starts(
     records: &Records,
     made: &Made,
 ) -> Result<Vec<usize>, AllocError>
-    requires whole { IsWhole (state_of (text_of lines.now) records.now) }
-    requires made { IsMadeOf (state_of (text_of lines.now) records.now) made.now }
-    ensures { IfOk result (λ starts. starts.items ≡ locked_starts lines.now.lines (rows_in (state_of (text_of lines.now) records.now)) (records.now).pages) }
+    requires whole { IsWhole (state_in lines.now records.now) }
+    requires made { IsMadeOf (state_in lines.now records.now) made.now }
+    ensures { IfOk result (λ starts. starts.items ≡ locked_starts_in (state_in lines.now records.now)) }
 {
     let none: &[usize] = &[];
     laid_firsts(alloc, lines, records, &made.layout, none)
@@ -119,11 +118,13 @@ fn renew_sheets_of_pages(
     keeps_pages: bool,
     sheets: &mut Vec<Sheet>,
 ) -> Result<(), AllocError>
-    requires kept { IsTrue keeps_pages → IfSome records.now (λ those. AreSheetsBefore those.items starts.now pages.now sheets.old.items) }
-    requires stale { AreMovedOutside sheets.old.items (marked_sheets (marks_in body.now.elements) 1 pages.now) stale }
+    requires kept { IsTrue keeps_pages → IfSome records.now (λ those.
+        AreSheetsBefore those.items starts.now pages.now sheets.old.items) }
+    requires stale { AreMovedOutside sheets.old.items (numbered_on body.now.elements pages.now) stale }
     requires asked { AskedOfPages (λ those. those.items) body.now.elements records.now starts.now pages.now }
     requires unmarked { round ≡ 0 → All (λ mark. mark ≡ 0) (marks_in body.now.elements) }
-    ensures made { OnOk result (sheets.new.items ≡ marked_or_locked body.now.elements (option_map (λ those. those.items) records.now) starts.now pages.now) }
+    ensures made { OnOk result (sheets.new.items
+        ≡ marked_or_locked body.now.elements (option_map vec_items records.now) starts.now pages.now) }
     ensures same { OnErr result (sheets.new.items ≡ sheets.old.items) }
 {
     match records {
@@ -149,13 +150,13 @@ fn renew_body_sheets(
     keeps_pages: bool,
     sheets: &mut Vec<Sheet>,
 ) -> Result<(), AllocError>
-    requires kept { IsTrue keeps_pages → IfSome (records.now).pages (λ those. AreSheetsBefore those firsts.now pages.now sheets.old.items) }
-    requires stale { AreMovedOutside sheets.old.items (marked_sheets (marks_in (laid_of layout.now).body.elements) 1 pages.now) stale }
-    requires whole { IsWhole (state_of (text_of lines.now) records.now) }
-    requires laid { IsLaidOf (state_of (text_of lines.now) records.now) (laid_of layout.now) }
-    requires firsts { firsts.now ≡ first_rows (state_of (text_of lines.now) records.now) }
-    requires pages { pages.now ≡ pages_of (state_of (text_of lines.now) records.now) }
-    ensures made { OnOk result (sheets.new.items ≡ body_sheets (state_of (text_of lines.now) records.now)) }
+    requires kept { IsTrue keeps_pages → WerePageSheets records.now firsts.now pages.now sheets.old.items }
+    requires stale { AreMovedOutside sheets.old.items (numbered_on (laid_of layout.now).body.elements pages.now) stale }
+    requires whole { IsWhole (state_in lines.now records.now) }
+    requires laid { IsLaidOf (state_in lines.now records.now) (laid_of layout.now) }
+    requires firsts { firsts.now ≡ first_rows (state_in lines.now records.now) }
+    requires pages { pages.now ≡ pages_of (state_in lines.now records.now) }
+    ensures made { OnOk result (sheets.new.items ≡ body_sheets (state_in lines.now records.now)) }
     ensures same { OnErr result (sheets.new.items ≡ sheets.old.items) }
 {
     renew_sheets_of_pages(
@@ -209,12 +210,12 @@ pub fn make_pages<S: Steps>(
     firsts: &[usize],
     steps: &mut S,
 ) -> Result<Pages, AllocError>
-    requires whole { IsWhole (state_of (text_of lines.now) records.now) }
-    requires laid { IsLaidOf (state_of (text_of lines.now) records.now) (laid_of layout.now) }
-    requires firsts { firsts.now ≡ first_rows (state_of (text_of lines.now) records.now) }
-    ensures pages { IfOk result (λ pages. pages.starts ≡ pages_of (state_of (text_of lines.now) records.now)) }
-    ensures fills { OnOk result (S.fills steps.new ≡ many_more (S.fills steps.old) (length (pages_of (state_of (text_of lines.now) records.now)))) }
-    ensures at_most { FilledAtMost (S.fills steps.old) (S.fills steps.new) (length (pages_of (state_of (text_of lines.now) records.now))) }
+    requires whole { IsWhole (state_in lines.now records.now) }
+    requires laid { IsLaidOf (state_in lines.now records.now) (laid_of layout.now) }
+    requires firsts { firsts.now ≡ first_rows (state_in lines.now records.now) }
+    ensures pages { IfOk result (λ pages. pages.starts ≡ pages_of (state_in lines.now records.now)) }
+    ensures fills { OnOk result (FillsAll (state_in lines.now records.now) (S.fills steps.old) (S.fills steps.new)) }
+    ensures at_most { FillsAtMostAll (state_in lines.now records.now) (S.fills steps.old) (S.fills steps.new) }
     ensures reads { S.reads steps.new ≡ S.reads steps.old }
 {
     let stops = laid_stops(alloc, layout, firsts)?;
@@ -239,13 +240,13 @@ pub fn number(
     pages: &Pages,
     titles: Vec<usize>,
 ) -> Result<Numbered, AllocError>
-    requires whole { IsWhole (state_of (text_of lines.now) records.now) }
+    requires whole { IsWhole (state_in lines.now records.now) }
     requires stanzas { stanzas.now.stanzas ≡ text_stanzas (text_of lines.now) }
-    requires laid { IsLaidOf (state_of (text_of lines.now) records.now) (laid_of layout.now) }
-    requires firsts { firsts.now ≡ first_rows (state_of (text_of lines.now) records.now) }
-    requires pages { pages.now.starts ≡ pages_of (state_of (text_of lines.now) records.now) }
-    requires titles { titles.items ≡ title_starts (state_of (text_of lines.now) records.now) }
-    ensures { IfOk result (IsNumberedOf (state_of (text_of lines.now) records.now)) }
+    requires laid { IsLaidOf (state_in lines.now records.now) (laid_of layout.now) }
+    requires firsts { firsts.now ≡ first_rows (state_in lines.now records.now) }
+    requires pages { pages.now.starts ≡ pages_of (state_in lines.now records.now) }
+    requires titles { titles.items ≡ title_starts (state_in lines.now records.now) }
+    ensures { IfOk result (IsNumberedOf (state_in lines.now records.now)) }
 {
     let labels = made_labels(alloc, lines, stanzas, records)?;
     let mut sheets = Vec::new(alloc);
@@ -301,17 +302,17 @@ pub fn renumber(
     keeps_pages: bool,
     numbered: &mut Numbered,
 ) -> Result<(), AllocError>
-    requires whole { IsWhole (state_of (text_of lines.now) records.now) }
+    requires whole { IsWhole (state_in lines.now records.now) }
     requires stanzas { stanzas.now.stanzas ≡ text_stanzas (text_of lines.now) }
-    requires laid { IsLaidOf (state_of (text_of lines.now) records.now) (laid_of layout.now) }
-    requires firsts { firsts.now ≡ first_rows (state_of (text_of lines.now) records.now) }
-    requires pages { pages.now.starts ≡ pages_of (state_of (text_of lines.now) records.now) }
+    requires laid { IsLaidOf (state_in lines.now records.now) (laid_of layout.now) }
+    requires firsts { firsts.now ≡ first_rows (state_in lines.now records.now) }
+    requires pages { pages.now.starts ≡ pages_of (state_in lines.now records.now) }
     requires can { CanPutBack pages.now.starts swapped.now }
-    requires sheets { (records.now).pages ≡ None → (records.now).round ≡ 0 → AreUnmarked numbered.old.sheets (with_taken pages.now.starts swapped.now) }
-    requires labels { IsTrue keeps_labels → numbered.old.labels ≡ heading_labels lines.now.lines records.now.scenes }
-    requires titles { IsTrue keeps_titles → numbered.old.title_starts ≡ title_starts (state_of (text_of lines.now) records.now) }
-    requires kept { IsTrue keeps_pages → IfSome (records.now).pages (λ those. AreSheetsBefore those firsts.now pages.now.starts numbered.old.sheets) }
-    ensures numbered { OnOk result (IsNumberedOf (state_of (text_of lines.now) records.now) numbered.new) }
+    requires sheets { WereUnmarkedSheets records.now (with_taken pages.now.starts swapped.now) numbered.old.sheets }
+    requires labels { IsTrue keeps_labels → numbered.old.labels ≡ labels_in lines.now records.now }
+    requires titles { IsTrue keeps_titles → numbered.old.title_starts ≡ title_starts (state_in lines.now records.now) }
+    requires kept { IsTrue keeps_pages → WerePageSheets records.now firsts.now pages.now.starts numbered.old.sheets }
+    ensures numbered { OnOk result (IsNumberedOf (state_in lines.now records.now) numbered.new) }
     ensures same { OnErr result (numbered.new ≡ numbered.old) }
 {
     let titles = changed_titles(alloc, lines, records, layout, keeps_titles)?;
@@ -348,13 +349,13 @@ fn numbered_pages<S: Steps>(
     layout: &KeptLayout,
     steps: &mut S,
 ) -> Result<(Numbered, Pages), AllocError>
-    requires whole { IsWhole (state_of (text_of lines.now) records.now) }
+    requires whole { IsWhole (state_in lines.now records.now) }
     requires stanzas { stanzas.now.stanzas ≡ text_stanzas (text_of lines.now) }
-    requires laid { IsLaidOf (state_of (text_of lines.now) records.now) (laid_of layout.now) }
-    ensures numbered { IfOk result (λ it. IsNumberedOf (state_of (text_of lines.now) records.now) it.0) }
-    ensures pages { IfOk result (λ it. it.1.starts ≡ pages_of (state_of (text_of lines.now) records.now)) }
-    ensures fills { OnOk result (S.fills steps.new ≡ many_more (S.fills steps.old) (length (pages_of (state_of (text_of lines.now) records.now)))) }
-    ensures at_most { FilledAtMost (S.fills steps.old) (S.fills steps.new) (length (pages_of (state_of (text_of lines.now) records.now))) }
+    requires laid { IsLaidOf (state_in lines.now records.now) (laid_of layout.now) }
+    ensures numbered { IfOk result (λ it. IsNumberedOf (state_in lines.now records.now) it.0) }
+    ensures pages { IfOk result (λ it. it.1.starts ≡ pages_of (state_in lines.now records.now)) }
+    ensures fills { OnOk result (FillsAll (state_in lines.now records.now) (S.fills steps.old) (S.fills steps.new)) }
+    ensures at_most { FillsAtMostAll (state_in lines.now records.now) (S.fills steps.old) (S.fills steps.new) }
     ensures reads { S.reads steps.new ≡ S.reads steps.old }
 {
     let none: &[usize] = &[];
@@ -377,11 +378,11 @@ pub fn make<S: Steps>(
     steps: &mut S,
 ) -> Result<(Made, Pages), AllocError>
     requires stanzas { stanzas.now.stanzas ≡ text_stanzas (text_of lines.now) }
-    requires whole { IsWhole (state_of (text_of lines.now) records.now) }
-    ensures made { IfOk result (λ it. IsMadeOf (state_of (text_of lines.now) records.now) it.0) }
-    ensures pages { IfOk result (λ it. it.1.starts ≡ pages_of (state_of (text_of lines.now) records.now)) }
-    ensures fills { OnOk result (S.fills steps.new ≡ many_more (S.fills steps.old) (length (pages_of (state_of (text_of lines.now) records.now)))) }
-    ensures at_most { FilledAtMost (S.fills steps.old) (S.fills steps.new) (length (pages_of (state_of (text_of lines.now) records.now))) }
+    requires whole { IsWhole (state_in lines.now records.now) }
+    ensures made { IfOk result (λ it. IsMadeOf (state_in lines.now records.now) it.0) }
+    ensures pages { IfOk result (λ it. it.1.starts ≡ pages_of (state_in lines.now records.now)) }
+    ensures fills { OnOk result (FillsAll (state_in lines.now records.now) (S.fills steps.old) (S.fills steps.new)) }
+    ensures at_most { FillsAtMostAll (state_in lines.now records.now) (S.fills steps.old) (S.fills steps.new) }
     ensures reads { S.reads steps.new ≡ S.reads steps.old }
 {
     let layout = lay(alloc, lines, stanzas, records)?;

@@ -2,13 +2,13 @@
 ghost use Rattle.std.specs.Prelude.{◌≡◌, ◌↔◌, [], All, IfNone, IfOk, IfSome, IsTrue};
 ghost use Rattle.spec_pages.specs.Pages.{page_starts, rows_on};
 ghost use Rattle.spec_pages.specs.Rows.{title_shape};
-ghost use Rattle.spec_state.specs.Keeping.{IsWhole, state_of};
+ghost use Rattle.spec_state.specs.Keeping.{IsWhole};
 ghost use Rattle.spec_state.specs.StateSheets.{title_starts};
-ghost use Rattle.sp_text.specs.Gap.{text_of};
 ghost use Rattle.sp_elements.specs.Bodies.{shapes_in};
 ghost use Rattle.sp_relay.specs.Kept.{laid_of};
 ghost use Rattle.sp_made_parts.specs.Firsts.{IsLaidOf};
 ghost use Rattle.sp_made.specs.Titles.{LeavesTitles};
+ghost use Rattle.sp_made_parts.specs.States.{state_in};
 
 use crate::made::rows_on;
 use sp_elements::Body;
@@ -51,9 +51,9 @@ pub(crate) fn made_titles(
     records: &Records,
     layout: &KeptLayout,
 ) -> Result<Vec<usize>, AllocError>
-    requires whole { IsWhole (state_of (text_of lines.now) records.now) }
-    requires laid { IsLaidOf (state_of (text_of lines.now) records.now) (laid_of layout.now) }
-    ensures { IfOk result (λ starts. starts.items ≡ title_starts (state_of (text_of lines.now) records.now)) }
+    requires whole { IsWhole (state_in lines.now records.now) }
+    requires laid { IsLaidOf (state_in lines.now records.now) (laid_of layout.now) }
+    ensures { IfOk result (λ starts. starts.items ≡ title_starts (state_in lines.now records.now)) }
 {
     starts_on(alloc, &layout.titles, records.paper)
 }
@@ -66,9 +66,10 @@ pub(crate) fn changed_titles(
     layout: &KeptLayout,
     keeps: bool,
 ) -> Result<Option<Vec<usize>>, AllocError>
-    requires whole { IsWhole (state_of (text_of lines.now) records.now) }
-    requires laid { IsLaidOf (state_of (text_of lines.now) records.now) (laid_of layout.now) }
-    ensures made { IfOk result (λ changed. IfSome changed (λ starts. starts.items ≡ title_starts (state_of (text_of lines.now) records.now))) }
+    requires whole { IsWhole (state_in lines.now records.now) }
+    requires laid { IsLaidOf (state_in lines.now records.now) (laid_of layout.now) }
+    ensures made { IfOk result (λ changed. IfSome changed (λ starts.
+        starts.items ≡ title_starts (state_in lines.now records.now))) }
     ensures kept { IfOk result (λ changed. IfNone changed (IsTrue keeps)) }
 {
     if keeps {

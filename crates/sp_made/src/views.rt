@@ -1,16 +1,14 @@
 //! Sheets of elements laid out, lent.
-ghost use Rattle.std.specs.Prelude.{◌≡◌, ◌+◌, ◌<◌, ◌≤◌, None, Some, All, AllPairs, IfNone, IfSome, length, option_map, slice_get, slice_index, slice_index_or, slice_range};
+ghost use Rattle.std.specs.Prelude.{◌≡◌, ◌+◌, ◌<◌, ◌≤◌, All, AllPairs, IfNone, IfSome, length, option_map, vec_items, slice_range};
 ghost use Rattle.std.specs.Option.{option_copied};
 ghost use Rattle.spec_text.specs.Lines.{line_texts};
 ghost use Rattle.spec_labels.specs.PageRecords.{LiesWithin};
 ghost use Rattle.spec_layout.specs.Cells.{RowShows};
 ghost use Rattle.spec_layout.specs.Layout.{placed_in};
-ghost use Rattle.spec_layout.specs.Shown.{shown_rows};
-ghost use Rattle.spec_print.specs.PageRows.{page_body};
-ghost use Rattle.spec_state.specs.StateSheets.{shown_sheet, title_sheet};
+ghost use Rattle.spec_state.specs.StateSheets.{shown_sheet};
 ghost use Rattle.sp_elements.specs.Bodies.{row_count};
 ghost use Rattle.sp_views.specs.Views.{label_of};
-ghost use Rattle.sp_made.specs.Places.{HasPlaces, sheet_shown, title_at};
+ghost use Rattle.sp_made.specs.Places.{HasPlaces, title_at, sheet_of, rows_shown, title_from, IsSheetAt};
 
 use sp_elements::Body;
 use sp_labels::Label;
@@ -23,7 +21,7 @@ use sp_views::SheetLabel;
 
 /// The labels, where there are some.
 fn lent_labels(labels: &Option<Vec<Label>>) -> Option<&[Label]>
-    ensures { option_copied result ≡ option_map (λ those. those.items) labels.now }
+    ensures { option_copied result ≡ option_map vec_items labels.now }
 {
     match labels {
         None => None,
@@ -45,7 +43,8 @@ fn rows_view<'a>(
     requires within { to ≤ row_count body.now.elements }
     requires few { row_count body.now.elements ≤ 16777216 }
     requires show { All (RowShows (line_texts lines.now.lines)) (placed_in body.now.elements) }
-    ensures { result ≡ record { label = option_map label_of label.entry; round = round; rows = page_body round (slice_range (shown_rows lines.now.lines (option_copied labels.entry) body.now.elements) from to) } }
+    ensures { result ≡ sheet_of (option_map label_of label.entry) round
+        (slice_range (rows_shown lines.now (option_copied labels.entry) body.now) from to) }
 {
     let page = body.page(from, to);
     let numbers = labels_past(labels, page.headings);
@@ -72,7 +71,7 @@ fn title_view<'a>(
     requires within { All (λ page. page < row_count titles.now.elements) starts.now }
     requires few { row_count titles.now.elements ≤ 16777216 }
     requires show { All (RowShows (line_texts lines.now.lines)) (placed_in titles.now.elements) }
-    ensures { result ≡ title_sheet (slice_range (shown_rows lines.now.lines None titles.now.elements) (slice_index starts.now place) (slice_index_or starts.now (place + 1) (row_count titles.now.elements))) }
+    ensures { result ≡ title_from lines.now.lines titles.now.elements starts.now place }
 {
     let from = starts[place];
     let to = page_behind(starts, place, titles.rows());
@@ -90,7 +89,7 @@ fn body_view<'a>(
     requires lies { LiesWithin (row_count body.now.elements) sheet.now }
     requires few { row_count body.now.elements ≤ 16777216 }
     requires show { All (RowShows (line_texts lines.now.lines)) (placed_in body.now.elements) }
-    ensures { result ≡ shown_sheet (shown_rows lines.now.lines (option_copied labels.entry) body.now.elements) sheet.now }
+    ensures { result ≡ shown_sheet (rows_shown lines.now (option_copied labels.entry) body.now) sheet.now }
 {
     let label = SheetLabel {
         first: &sheet.first,
@@ -140,7 +139,7 @@ pub fn made_title<'a>(lines: &'a Lines, made: &'a Made, place: usize) -> PageVie
 /// The sheet at a place behind the title sheets.
 pub fn made_sheet<'a>(lines: &'a Lines, made: &'a Made, place: usize) -> Option<PageView<'a>>
     requires { HasPlaces lines.now.lines made.now }
-    ensures some { IfSome result (λ page. option_map (sheet_shown lines.now.lines made.now) (slice_get made.now.numbered.sheets place) ≡ Some page) }
+    ensures some { IfSome result (IsSheetAt lines.now.lines made.now place) }
     ensures none { IfNone result (length made.now.numbered.sheets ≤ place) }
 {
     let layout = &made.layout;

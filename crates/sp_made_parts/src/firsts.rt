@@ -1,10 +1,10 @@
 //! The first rows of page records, by the keys of all rows.
-ghost use Rattle.std.specs.Prelude.{◌≡◌, option_map, IfOk, IfSome};
+ghost use Rattle.std.specs.Prelude.{◌≡◌, option_map, vec_items, IfOk, IfSome};
 ghost use Rattle.spec_labels.specs.PageRecords.{AreAnchored};
-ghost use Rattle.spec_state.specs.Keeping.{IsWhole, state_of};
-ghost use Rattle.sp_text.specs.Gap.{text_of};
+ghost use Rattle.spec_state.specs.Keeping.{IsWhole};
 ghost use Rattle.sp_relay.specs.Kept.{laid_of};
 ghost use Rattle.sp_made_parts.specs.Firsts.{IsLaidOf, first_rows, key_starts};
+ghost use Rattle.sp_made_parts.specs.States.{state_in};
 
 use sp_locks::{PageRecord, RowKey, starts};
 use sp_records::Records;
@@ -23,7 +23,8 @@ fn record_starts(
     near: &[usize],
 ) -> Result<Vec<usize>, AllocError>
     requires { IfSome records.now (λ those. AreAnchored lines.now.lines keys.now.items those.items) }
-    ensures { IfOk result (λ firsts. firsts.items ≡ key_starts lines.now.lines keys.now.items (option_map (λ those. those.items) records.now)) }
+    ensures { IfOk result (λ firsts.
+        firsts.items ≡ key_starts lines.now.lines keys.now.items (option_map vec_items records.now)) }
 {
     match records {
         None => Ok(Vec::new(alloc)),
@@ -41,9 +42,9 @@ pub fn laid_firsts(
     layout: &KeptLayout,
     near: &[usize],
 ) -> Result<Vec<usize>, AllocError>
-    requires whole { IsWhole (state_of (text_of lines.now) records.now) }
-    requires laid { IsLaidOf (state_of (text_of lines.now) records.now) (laid_of layout.now) }
-    ensures { IfOk result (λ firsts. firsts.items ≡ first_rows (state_of (text_of lines.now) records.now)) }
+    requires whole { IsWhole (state_in lines.now records.now) }
+    requires laid { IsLaidOf (state_in lines.now records.now) (laid_of layout.now) }
+    ensures { IfOk result (λ firsts. firsts.items ≡ first_rows (state_in lines.now records.now)) }
 {
     record_starts(alloc, lines, layout.body.keys(), &records.pages, near)
 }

@@ -9,6 +9,7 @@ ghost use Rattle.spec_state.specs.StateSheets.{body_sheets, rows_in};
 ghost use Rattle.sp_text.specs.Gap.{text_of};
 ghost use Rattle.sp_elements.specs.Bodies.{shapes_in};
 ghost use Rattle.sp_made_parts.specs.Made.{IsMadeOf};
+ghost use Rattle.sp_made_parts.specs.States.{state_in};
 
 use crate::made::Made;
 use sp_locks::Sheet;
@@ -62,10 +63,10 @@ impl<'a> StateView<'a> {
         records: &'a Records,
         made: &'a Made,
     ) -> StateView<'a>
-        requires whole { IsWhole (state_of (text_of lines.now) records.now) }
+        requires whole { IsWhole (state_in lines.now records.now) }
         requires stanzas { stanzas.now.stanzas ≡ stanzas_of (line_texts lines.now.lines) }
-        requires made { IsMadeOf (state_of (text_of lines.now) records.now) made.now }
-        ensures { result ≡ state_of (text_of lines.now) records.now }
+        requires made { IsMadeOf (state_in lines.now records.now) made.now }
+        ensures { result ≡ state_in lines.now records.now }
     {
         StateView {
             lines,

@@ -1,12 +1,18 @@
 -- The gap between two piles of stanzas, the sides of a place, and which of the stanzas behind it stay after an edit.
-use Rattle.std.specs.Prelude.{◌≡◌, ℕ, ◌+◌, ◌-◌, ◌<◌, ◌≤◌, List, [], ◌∷◌, ◌++◌, length, take, reverse}
+use Rattle.std.specs.Prelude.{◌≡◌, ℕ, ◌+◌, ◌-◌, ◌<◌, ◌≤◌, false, List, [], ◌∷◌, ◌++◌, length, take, drop, reverse}
+use Rattle.std.specs.List.{list_any}
 use Rattle.spec_script.specs.BlockValues.{StanzaOf}
+use Rattle.spec_reread.specs.Settling.{stanza_settles}
 use Rattle.spec_reread.specs.Windows.{stanza_lines_in}
 use Rattle.sp_piles.specs.Piles.{PileState}
 
 -- The stanzas before the gap, and those behind it, which stand backwards.
 abbrev pub gap_list : List StanzaOf → List StanzaOf → List StanzaOf
 gap_list front back = front ++ reverse back
+
+-- No stanza from a place on settles who spoke.
+abbrev pub NoneSettles : List StanzaOf → ℕ → Type 0
+NoneSettles stanzas from = list_any stanza_settles (drop from stanzas) ≡ false
 
 -- The stanzas on both sides of a place, those behind it backwards.
 pub record SidesState : Type 0 where

@@ -1,9 +1,8 @@
 //! Stanzas in a pile.
-ghost use Rattle.std.specs.Prelude.{◌≡◌, ◌<◌, ◌≤◌, ◌+◌, ◌-◌, ◌++◌, ◌∷◌, [], Some, false, length, take, drop, slice_get, slice_set, IfNone, IfSome, OnOk, IsOk};
-ghost use Rattle.std.specs.List.{list_any};
+ghost use Rattle.std.specs.Prelude.{◌≡◌, ◌<◌, ◌≤◌, ◌+◌, ◌++◌, ◌∷◌, [], Some, length, take, slice_get, slice_set, IfNone, IfSome, OnOk, IsOk};
 ghost use Rattle.spec_reread.specs.Settling.{IsNextSettling, IsSettledBefore, stanza_settles};
 ghost use Rattle.spec_reread.specs.Windows.{stanza_lines_in};
-ghost use Rattle.sp_piles.specs.Gaps.{IsShifted};
+ghost use Rattle.sp_piles.specs.Gaps.{IsShifted, NoneSettles};
 ghost use Rattle.sp_piles.specs.Piles.{IsSettledWith, PileState, summaries, summary_of};
 
 use crate::stanza_settles;
@@ -100,7 +99,7 @@ impl Pile {
     pub fn next_settling(&self, from: usize) -> Option<usize>
         requires { from ≤ length self.now.stanzas }
         ensures some { IfSome result (IsNextSettling self.now.stanzas from) }
-        ensures none { IfNone result (list_any stanza_settles (drop from self.now.stanzas) ≡ false) }
+        ensures none { IfNone result (NoneSettles self.now.stanzas from) }
     {
         let count = self.len();
         if self.settled_in(count) <= from {

@@ -1,8 +1,7 @@
 //! Stanzas with a heading or a speech, which settle who spoke before those behind them.
-ghost use Rattle.std.specs.Prelude.{◌≡◌, ◌≤◌, ◌+◌, false, length, drop, IfNone, IfSome};
-ghost use Rattle.std.specs.List.{list_any};
+ghost use Rattle.std.specs.Prelude.{◌≡◌, ◌≤◌, ◌+◌, length, IfNone, IfSome};
 ghost use Rattle.spec_reread.specs.Settling.{IsNextSettling, IsSettledBefore, block_settles, stanza_settles};
-ghost use Rattle.sp_piles.specs.Gaps.{gap_list};
+ghost use Rattle.sp_piles.specs.Gaps.{NoneSettles, gap_list};
 
 use crate::Pile;
 use sp_block_values::{Block, Stanza};
@@ -47,7 +46,7 @@ pub fn settled_before(front: &Pile, back: &Pile, to: usize) -> usize
 pub fn next_settling(front: &Pile, back: &Pile, from: usize) -> Option<usize>
     requires { from ≤ length front.now.stanzas + length back.now.stanzas }
     ensures some { IfSome result (IsNextSettling (gap_list front.now.stanzas back.now.stanzas) from) }
-    ensures none { IfNone result (list_any stanza_settles (drop from (gap_list front.now.stanzas back.now.stanzas)) ≡ false) }
+    ensures none { IfNone result (NoneSettles (gap_list front.now.stanzas back.now.stanzas) from) }
 {
     let before = front.len();
     if from > before {
@@ -64,7 +63,7 @@ fn next_behind(front: &Pile, back: &Pile, from: usize) -> Option<usize>
     requires behind { length front.now.stanzas ≤ from }
     requires within { from ≤ length front.now.stanzas + length back.now.stanzas }
     ensures some { IfSome result (IsNextSettling (gap_list front.now.stanzas back.now.stanzas) from) }
-    ensures none { IfNone result (list_any stanza_settles (drop from (gap_list front.now.stanzas back.now.stanzas)) ≡ false) }
+    ensures none { IfNone result (NoneSettles (gap_list front.now.stanzas back.now.stanzas) from) }
 {
     let before = front.len();
     let count = back.len();

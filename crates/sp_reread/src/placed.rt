@@ -1,8 +1,9 @@
 //! The blocks of stanzas, lent.
-ghost use Rattle.std.specs.Prelude.{◌≡◌, ◌≤◌, ◌+◌, ◌++◌, length, map, take, slice_range, IfOk, OnOk};
+ghost use Rattle.std.specs.Prelude.{◌≡◌, ◌≤◌, ◌+◌, ◌++◌, length, map, IfOk, OnOk};
 ghost use Rattle.spec_script.specs.Elements.{placed_at};
 ghost use Rattle.spec_script.specs.Stanzas.{blocks_from};
 ghost use Rattle.spec_reread.specs.Windows.{stanza_lines_in};
+ghost use Rattle.sp_reread.specs.Cache.{blocks_between};
 
 use crate::Stanzas;
 use sp_block_values::{PlacedBlock, Stanza};
@@ -32,7 +33,7 @@ pub fn placed_blocks_between(
 ) -> Result<Vec<PlacedBlock<'_>>, AllocError>
     requires order { from ≤ to }
     requires within { to ≤ length stanzas.now.stanzas }
-    ensures { IfOk result (λ placed. placed.items ≡ blocks_from (stanza_lines_in (take from stanzas.now.stanzas)) (slice_range stanzas.now.stanzas from to)) }
+    ensures { IfOk result (λ placed. placed.items ≡ blocks_between stanzas.now.stanzas from to) }
 {
     let mut placed = Vec::new(alloc);
     for i in from..to {

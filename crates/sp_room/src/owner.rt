@@ -37,7 +37,8 @@ pub fn last_owner(owners: &[Owner]) -> Option<&Owner>
 pub fn make_room(changes: &mut VecDeque<Change>, owners: &mut Vec<Owner>) -> Result<(), AllocError>
     ensures changes { changes.new.items ≡ changes.old.items }
     ensures owners { owners.new.items ≡ owners.old.items }
-    ensures room { OnOk result ((deque_len changes.new < deque_capacity changes.new) × (vec_len owners.new < vec_capacity owners.new)) }
+    ensures changes_room { OnOk result (deque_len changes.new < deque_capacity changes.new) }
+    ensures owners_room { OnOk result (vec_len owners.new < vec_capacity owners.new) }
 {
     changes.reserve(1)?;
     owners.reserve(1)

@@ -1,14 +1,13 @@
-ghost use Rattle.std.specs.Prelude.{◌≡◌, ℕ, ◌+◌, ◌<◌, ◌^◌, false, List, [], ◌∷◌, length, IfOk, OnOk, OnErr};
+ghost use Rattle.std.specs.Prelude.{◌≡◌, ℕ, ◌+◌, ◌<◌, ◌^◌, false, List, [], ◌∷◌, length, IfOk, OnErr};
 ghost use Rattle.spec_wire.specs.Commands as commands;
 ghost use Rattle.spec_wire.specs.Replies.{is_refused};
-ghost use Rattle.spec_room.specs.Changes.{Text};
 ghost use Rattle.spec_room.specs.Kinds.{kind_of};
 ghost use Rattle.spec_room.specs.Rooms.{opened_room};
-ghost use Rattle.spec_room.specs.Standing.{StandsFor, KeepsSeen, texts_after};
+ghost use Rattle.spec_room.specs.Standing.{StandsFor};
 ghost use Rattle.sp_text.specs.Changing.{edit_of};
 ghost use Rattle.sp_commands.specs.Values.{command_of, reply_of};
 ghost use Rattle.sp_changes.specs.Asking.{MakesNoChange};
-ghost use Rattle.sp_room.specs.Answers.{line_of, IsRoomAnswer};
+ghost use Rattle.sp_room.specs.Answers.{line_of, IsRoomAnswer, KeepsSeenLines, KeepsTexts};
 ghost use Rattle.sp_room.specs.Counts.{RoomReads, RoomFills};
 
 use crate::ask::ask;
@@ -108,12 +107,14 @@ impl Room {
         ensures step { IsRoomAnswer self.old (line_of seat.now seen (command_of command)) self.new result }
         ensures unrefused { IfOk result (λ reply. is_refused (reply_of reply) ≡ false) }
         ensures same { OnErr result (self.new ≡ self.old) }
-        ensures reads { RoomReads self.old (line_of seat.now seen (command_of command)) result (S.reads steps.old) (S.reads steps.new) }
-        ensures fills { RoomFills self.old (line_of seat.now seen (command_of command)) result (S.fills steps.old) (S.fills steps.new) }
+        ensures reads { RoomReads self.old (line_of seat.now seen (command_of command)) result
+            (S.reads steps.old) (S.reads steps.new) }
+        ensures fills { RoomFills self.old (line_of seat.now seen (command_of command)) result
+            (S.fills steps.old) (S.fills steps.new) }
 
         // An edit takes away or changes just the lines that its seat saw.
-        ensures seen { (texts : List Text) → StandsFor self.old texts → OnOk result (KeepsSeen self.old texts seen (kind_of (command_of command)) self.new) }
-        ensures stands { (texts : List Text) → StandsFor self.old texts → OnOk result (StandsFor self.new (texts_after texts (kind_of (command_of command)) self.new.desk.state.lines)) }
+        ensures seen { KeepsSeenLines self.old seen (command_of command) self.new result }
+        ensures stands { KeepsTexts self.old (command_of command) self.new result }
     {
         let lines = self.desk.lines().len() as u64;
         match command {
@@ -137,8 +138,10 @@ impl Room {
         requires version { self.old.version + 1 < 2 ^ 64 }
         ensures step { IsRoomAnswer self.old (line_of seat.now seen (commands.edit (edit_of edit))) self.new result }
         ensures unrefused { IfOk result (λ reply. is_refused (reply_of reply) ≡ false) }
-        ensures reads { RoomReads self.old (line_of seat.now seen (commands.edit (edit_of edit))) result (S.reads steps.old) (S.reads steps.new) }
-        ensures fills { RoomFills self.old (line_of seat.now seen (commands.edit (edit_of edit))) result (S.fills steps.old) (S.fills steps.new) }
+        ensures reads { RoomReads self.old (line_of seat.now seen (commands.edit (edit_of edit))) result
+            (S.reads steps.old) (S.reads steps.new) }
+        ensures fills { RoomFills self.old (line_of seat.now seen (commands.edit (edit_of edit))) result
+            (S.fills steps.old) (S.fills steps.new) }
     {
         let range = edit_change(&edit);
         let place = match present_place(&self.changes, self.version, lines, seen, range) {
@@ -216,10 +219,13 @@ impl Room {
     fn look<S: Steps>(&mut self, command: Command, steps: &mut S) -> Result<Reply, DeskFault>
         requires lines { length self.old.desk.state.lines < 2 ^ 64 }
         requires kind { MakesNoChange (kind_of (command_of command)) }
-        ensures step { (seat : List ℕ) (seen : ℕ) → IsRoomAnswer self.old (line_of seat seen (command_of command)) self.new result }
+        ensures step { (seat : List ℕ) (seen : ℕ)
+            → IsRoomAnswer self.old (line_of seat seen (command_of command)) self.new result }
         ensures unrefused { IfOk result (λ reply. is_refused (reply_of reply) ≡ false) }
-        ensures reads { (seat : List ℕ) (seen : ℕ) → RoomReads self.old (line_of seat seen (command_of command)) result (S.reads steps.old) (S.reads steps.new) }
-        ensures fills { (seat : List ℕ) (seen : ℕ) → RoomFills self.old (line_of seat seen (command_of command)) result (S.fills steps.old) (S.fills steps.new) }
+        ensures reads { (seat : List ℕ) (seen : ℕ)
+            → RoomReads self.old (line_of seat seen (command_of command)) result (S.reads steps.old) (S.reads steps.new) }
+        ensures fills { (seat : List ℕ) (seen : ℕ)
+            → RoomFills self.old (line_of seat seen (command_of command)) result (S.fills steps.old) (S.fills steps.new) }
     {
         let forgets = is_forgetting(&command);
         let reply = ask(self.alloc, &mut self.desk, command, steps)?;

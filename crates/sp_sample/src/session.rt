@@ -1,15 +1,12 @@
 //! The session of a sample.
-ghost use Rattle.std.specs.Prelude.{◌≡◌, ◌≤◌, fold, length, map, IfOk, OnOk, OnErr};
-ghost use Rattle.spec_script.specs.Stanzas.{stanzas_of};
+ghost use Rattle.std.specs.Prelude.{◌≡◌, ◌≤◌, fold, map, IfOk, OnOk, OnErr};
 ghost use Rattle.spec_machine.specs.Machine.{opened_memory};
-ghost use Rattle.spec_locked_pages.specs.Segments.{pages_of};
-ghost use Rattle.spec_sample.specs.Sample.{sample_commands, sample_lines, sample_opened, sample_output, stepped};
+ghost use Rattle.spec_sample.specs.Sample.{sample_lines, sample_opened, sample_output, stepped};
 ghost use Rattle.sp_commands.specs.Values.{command_of};
-ghost use Rattle.sp_reread.specs.Cache.{RisesWithin, counted_on};
-ghost use Rattle.sp_reflow.specs.Filling.{FilledAtMost};
-ghost use Rattle.sp_reflow.specs.Starts.{many_more};
+ghost use Rattle.sp_reread.specs.Cache.{ReadsAtMostAll, ReadsAll};
 ghost use Rattle.sp_desk.specs.Outcomes.{FillsAtMost, FillsOf, ReadsAtMost, ReadsOf};
-ghost use Rattle.sp_sample.specs.SampleCounts.{CountsAlong, CountsUpTo, SampleFills, SampleFillsAtMost, SampleReads, SampleReadsAtMost};
+ghost use Rattle.sp_sample.specs.SampleCounts.{SampleFills, SampleFillsAtMost, SampleReads, SampleReadsAtMost, ReadsAlong, FillsAlong, ReadsUpTo, FillsUpTo, SessionReads, SessionFills, SessionReadsUpTo, SessionFillsUpTo};
+ghost use Rattle.sp_made.specs.Pages.{FillsAll, FillsAtMostAll};
 
 use crate::line::state_line;
 use sp_commands::Command;
@@ -37,10 +34,10 @@ pub fn run_sample<S: Steps>(alloc: Global, rooms: u32, steps: &mut S) -> Result<
 fn open_sample<S: Steps>(alloc: Global, rooms: u32, steps: &mut S) -> Result<Desk, AllocError>
     requires { rooms ≤ 2000 }
     ensures memory { IfOk result (λ desk. desk ≡ opened_memory (sample_opened rooms)) }
-    ensures reads { OnOk result (S.reads steps.new ≡ counted_on (length (stanzas_of (sample_lines rooms))) (S.reads steps.old)) }
-    ensures fills { OnOk result (S.fills steps.new ≡ many_more (S.fills steps.old) (length (pages_of (sample_opened rooms)))) }
-    ensures reads_at_most { RisesWithin (length (stanzas_of (sample_lines rooms))) (S.reads steps.old) (S.reads steps.new) }
-    ensures fills_at_most { FilledAtMost (S.fills steps.old) (S.fills steps.new) (length (pages_of (sample_opened rooms))) }
+    ensures reads { OnOk result (ReadsAll (sample_lines rooms) (S.reads steps.old) (S.reads steps.new)) }
+    ensures fills { OnOk result (FillsAll (sample_opened rooms) (S.fills steps.old) (S.fills steps.new)) }
+    ensures reads_at_most { ReadsAtMostAll (sample_lines rooms) (S.reads steps.old) (S.reads steps.new) }
+    ensures fills_at_most { FillsAtMostAll (sample_opened rooms) (S.fills steps.old) (S.fills steps.new) }
 {
     let script = sample_script(alloc, rooms)?;
     match Lines::read(alloc, script.as_slice()) {
@@ -59,10 +56,10 @@ fn hold_sample<S: Steps>(
 ) -> Result<Vec<u8>, AllocError>
     requires { desk.old ≡ opened_memory (sample_opened rooms) }
     ensures line { IfOk result (λ line. line.items ≡ sample_output rooms) }
-    ensures reads { OnOk result (CountsAlong ReadsOf (opened_memory (sample_opened rooms)) (sample_commands rooms) (S.reads steps.old) (S.reads steps.new)) }
-    ensures fills { OnOk result (CountsAlong FillsOf (opened_memory (sample_opened rooms)) (sample_commands rooms) (S.fills steps.old) (S.fills steps.new)) }
-    ensures reads_at_most { OnErr result (CountsUpTo ReadsOf ReadsAtMost (opened_memory (sample_opened rooms)) (sample_commands rooms) (S.reads steps.old) (S.reads steps.new)) }
-    ensures fills_at_most { OnErr result (CountsUpTo FillsOf FillsAtMost (opened_memory (sample_opened rooms)) (sample_commands rooms) (S.fills steps.old) (S.fills steps.new)) }
+    ensures reads { OnOk result (SessionReads rooms (S.reads steps.old) (S.reads steps.new)) }
+    ensures fills { OnOk result (SessionFills rooms (S.fills steps.old) (S.fills steps.new)) }
+    ensures reads_at_most { OnErr result (SessionReadsUpTo rooms (S.reads steps.old) (S.reads steps.new)) }
+    ensures fills_at_most { OnErr result (SessionFillsUpTo rooms (S.fills steps.old) (S.fills steps.new)) }
 {
     let commands = sample_commands(alloc, rooms)?;
     answer_all(alloc, desk, commands, steps)?;
@@ -77,10 +74,10 @@ fn answer_all<S: Steps>(
     steps: &mut S,
 ) -> Result<(), AllocError>
     ensures memory { OnOk result (desk.new ≡ fold stepped desk.old (map command_of commands.items)) }
-    ensures reads { OnOk result (CountsAlong ReadsOf desk.old (map command_of commands.items) (S.reads steps.old) (S.reads steps.new)) }
-    ensures fills { OnOk result (CountsAlong FillsOf desk.old (map command_of commands.items) (S.fills steps.old) (S.fills steps.new)) }
-    ensures reads_at_most { OnErr result (CountsUpTo ReadsOf ReadsAtMost desk.old (map command_of commands.items) (S.reads steps.old) (S.reads steps.new)) }
-    ensures fills_at_most { OnErr result (CountsUpTo FillsOf FillsAtMost desk.old (map command_of commands.items) (S.fills steps.old) (S.fills steps.new)) }
+    ensures reads { OnOk result (ReadsAlong desk.old commands.items (S.reads steps.old) (S.reads steps.new)) }
+    ensures fills { OnOk result (FillsAlong desk.old commands.items (S.fills steps.old) (S.fills steps.new)) }
+    ensures reads_at_most { OnErr result (ReadsUpTo desk.old commands.items (S.reads steps.old) (S.reads steps.new)) }
+    ensures fills_at_most { OnErr result (FillsUpTo desk.old commands.items (S.fills steps.old) (S.fills steps.new)) }
 {
     for command in commands {
         answer(alloc, desk, command, steps)?;
@@ -98,8 +95,10 @@ fn answer<S: Steps>(
     ensures memory { OnOk result (desk.new ≡ stepped desk.old (command_of command)) }
     ensures reads { OnOk result (ReadsOf desk.old (command_of command) (S.reads steps.old) (S.reads steps.new)) }
     ensures fills { OnOk result (FillsOf desk.old (command_of command) (S.fills steps.old) (S.fills steps.new)) }
-    ensures reads_at_most { OnErr result (ReadsAtMost desk.old (command_of command) (S.reads steps.old) (S.reads steps.new)) }
-    ensures fills_at_most { OnErr result (FillsAtMost desk.old (command_of command) (S.fills steps.old) (S.fills steps.new)) }
+    ensures reads_at_most { OnErr result (ReadsAtMost desk.old (command_of command)
+        (S.reads steps.old) (S.reads steps.new)) }
+    ensures fills_at_most { OnErr result (FillsAtMost desk.old (command_of command)
+        (S.fills steps.old) (S.fills steps.new)) }
 {
     match desk.apply(alloc, command, steps) {
         Ok(_) => Ok(()),

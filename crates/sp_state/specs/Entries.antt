@@ -8,6 +8,7 @@ use Rattle.sp_reflow.specs.Updates.{CanPutBack, with_taken}
 use Rattle.sp_exchange.specs.Restoring.{text_stanzas}
 use Rattle.sp_relay.specs.Changes.{CanChange, ChangeOf, with_change}
 use Rattle.sp_relay.specs.Edited.{KeepsToWindow}
+use Rattle.sp_relay.specs.Kept.{KeptOf, laid_of}
 use Rattle.sp_made_parts.specs.Firsts.{laid_in}
 use Rattle.sp_text_entry.specs.TextEntries.{TextEntryState, CanRedoText, CanUndoText, IsSameTextEntry, done_lines, redone_text, undone_lines, undone_text}
 
@@ -69,3 +70,7 @@ pub record LeadsForth (before after : State) (entry : EntryState) : Type 0 where
 -- leads to the same state.
 abbrev pub IsSameEntry : EntryState → EntryState → Type 0
 IsSameEntry one other = IsSameTextEntry one.text other.text
+
+-- Two changes of a layout lead to the same one.
+abbrev pub LeadToSame : KeptOf → ChangeOf → ChangeOf → Type 0
+LeadToSame layout one other = with_change (laid_of layout) one ≡ with_change (laid_of layout) other

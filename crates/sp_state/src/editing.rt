@@ -1,25 +1,22 @@
 //! What is made of a state after a change of its parts; where there is no memory for it the change is taken back.
-ghost use Rattle.std.specs.Prelude.{◌≡◌, None, length, IfErr, IfOk, IfSome, OnOk, OnErr};
-ghost use Rattle.spec_text.specs.Edits.{refusal_of, replacement_of};
-ghost use Rattle.spec_text.specs.Ranges.{range_of};
-ghost use Rattle.spec_state.specs.Changes.{edited_state};
-ghost use Rattle.spec_state.specs.Keeping.{IsWhole, state_of};
+ghost use Rattle.std.specs.Prelude.{◌≡◌, None, IfErr, IfOk, IfSome, OnOk, OnErr};
+ghost use Rattle.spec_state.specs.Keeping.{IsWhole};
 ghost use Rattle.spec_state.specs.StateSheets.{title_starts};
 ghost use Rattle.spec_locked_pages.specs.Segments.{pages_of};
-ghost use Rattle.sp_text.specs.Changing.{Refuses, edit_of};
+ghost use Rattle.sp_text.specs.Changing.{Refuses};
 ghost use Rattle.sp_text.specs.Gap.{text_of};
 ghost use Rattle.sp_exchange.specs.Reads.{IsRefused};
-ghost use Rattle.sp_exchange.specs.Restoring.{text_stanzas};
-ghost use Rattle.sp_reflow.specs.Filling.{FilledAtMost};
+ghost use Rattle.sp_exchange.specs.Restoring.{text_stanzas, range_in, refusal_in};
 ghost use Rattle.sp_relay.specs.Changes.{CanChange, HasChangeRoom, with_change};
 ghost use Rattle.sp_relay.specs.Kept.{laid_of};
 ghost use Rattle.sp_made_parts.specs.Firsts.{IsLaidOf, first_rows};
 ghost use Rattle.sp_made_parts.specs.Made.{IsMadeOf, IsNumberedOf};
-ghost use Rattle.sp_text_entry.specs.TextEntries.{CanRedoText, CanUndoText, HasTextRoom, IsTextRedone, IsTextUndone, redone_text, undone_text};
+ghost use Rattle.sp_text_entry.specs.TextEntries.{CanRedoText, CanUndoText, HasTextRoom, IsTextRedone, IsTextUndone, redone_text, undone_text, edited_by};
 ghost use Rattle.sp_state.specs.Entries.{CanRedo, CanUndo, HoldsFew, IsSameEntry, LeadsBack, LeadsForth, done_range, redone_state, undone_range, undone_state};
-ghost use Rattle.sp_reflow.specs.Starts.{many_more};
-ghost use Rattle.sp_text_entry.specs.Reads.{EditReads, EditReadsAtMost};
-ghost use Rattle.sp_state.specs.Fills.{EditFills, EditFillsAtMost};
+ghost use Rattle.sp_text_entry.specs.Reads.{ReadsEdit, ReadsEditAtMost};
+ghost use Rattle.sp_state.specs.Fills.{FillsEdit, FillsEditAtMost};
+ghost use Rattle.sp_made_parts.specs.States.{state_in};
+ghost use Rattle.sp_made.specs.Pages.{FillsAll, FillsAtMostAll};
 
 use crate::entry::{Entry, Unturned};
 use crate::turning::{Turned, UnturnedPages, refilled, turn_made};
@@ -48,12 +45,12 @@ fn numbered_by(
     pages: &Pages,
     titles: &[usize],
 ) -> Result<Numbered, AllocError>
-    requires whole { IsWhole (state_of (text_of lines.now) records.now) }
+    requires whole { IsWhole (state_in lines.now records.now) }
     requires stanzas { stanzas.now.stanzas ≡ text_stanzas (text_of lines.now) }
-    requires laid { IsLaidOf (state_of (text_of lines.now) records.now) (laid_of layout.now) }
-    requires pages { pages.now.starts ≡ pages_of (state_of (text_of lines.now) records.now) }
-    requires titles { titles.now ≡ title_starts (state_of (text_of lines.now) records.now) }
-    ensures { IfOk result (IsNumberedOf (state_of (text_of lines.now) records.now)) }
+    requires laid { IsLaidOf (state_in lines.now records.now) (laid_of layout.now) }
+    requires pages { pages.now.starts ≡ pages_of (state_in lines.now records.now) }
+    requires titles { titles.now ≡ title_starts (state_in lines.now records.now) }
+    ensures { IfOk result (IsNumberedOf (state_in lines.now records.now)) }
 {
     let none: &[usize] = &[];
     let firsts = laid_firsts(alloc, lines, records, layout, none)?;
@@ -72,11 +69,11 @@ fn remade(
     pages: &Pages,
     titles: &[usize],
 ) -> Result<Made, AllocError>
-    requires whole { IsWhole (state_of (text_of lines.now) records.now) }
+    requires whole { IsWhole (state_in lines.now records.now) }
     requires stanzas { stanzas.now.stanzas ≡ text_stanzas (text_of lines.now) }
-    requires pages { pages.now.starts ≡ pages_of (state_of (text_of lines.now) records.now) }
-    requires titles { titles.now ≡ title_starts (state_of (text_of lines.now) records.now) }
-    ensures { IfOk result (IsMadeOf (state_of (text_of lines.now) records.now)) }
+    requires pages { pages.now.starts ≡ pages_of (state_in lines.now records.now) }
+    requires titles { titles.now ≡ title_starts (state_in lines.now records.now) }
+    ensures { IfOk result (IsMadeOf (state_in lines.now records.now)) }
 {
     let layout = lay(alloc, lines, stanzas, records)?;
     let numbered = numbered_by(alloc, lines, stanzas, records, &layout, pages, titles)?;
@@ -102,14 +99,14 @@ pub(crate) fn made_with_speakers(
     titles: &[usize],
     on: bool,
 ) -> Result<Made, AllocError>
-    requires whole { IsWhole (state_of (text_of lines.now) records.old) }
+    requires whole { IsWhole (state_in lines.now records.old) }
     requires stanzas { stanzas.now.stanzas ≡ text_stanzas (text_of lines.now) }
-    requires pages { pages.now.starts ≡ pages_of (state_of (text_of lines.now) records.old) }
-    requires titles { titles.now ≡ title_starts (state_of (text_of lines.now) records.old) }
+    requires pages { pages.now.starts ≡ pages_of (state_in lines.now records.old) }
+    requires titles { titles.now ≡ title_starts (state_in lines.now records.old) }
     ensures records { OnOk result (records.new ≡ record records.old { speakers = on }) }
-    ensures whole { OnOk result (IsWhole (state_of (text_of lines.now) records.new)) }
-    ensures made { IfOk result (IsMadeOf (state_of (text_of lines.now) records.new)) }
-    ensures pages { OnOk result (pages.now.starts ≡ pages_of (state_of (text_of lines.now) records.new)) }
+    ensures whole { OnOk result (IsWhole (state_in lines.now records.new)) }
+    ensures made { IfOk result (IsMadeOf (state_in lines.now records.new)) }
+    ensures pages { OnOk result (pages.now.starts ≡ pages_of (state_in lines.now records.new)) }
     ensures same { OnErr result (records.new ≡ records.old) }
 {
     let before = records.set_speakers(on);
@@ -131,14 +128,16 @@ pub(crate) fn made_on<S: Steps>(
     paper: Paper,
     steps: &mut S,
 ) -> Result<(Made, Pages), AllocError>
-    requires whole { IsWhole (state_of (text_of lines.now) records.old) }
+    requires whole { IsWhole (state_in lines.now records.old) }
     requires stanzas { stanzas.now.stanzas ≡ text_stanzas (text_of lines.now) }
     ensures records { OnOk result (records.new ≡ record records.old { paper = paper }) }
-    ensures whole { OnOk result (IsWhole (state_of (text_of lines.now) records.new)) }
-    ensures made { IfOk result (λ it. IsMadeOf (state_of (text_of lines.now) records.new) it.0) }
-    ensures pages { IfOk result (λ it. it.1.starts ≡ pages_of (state_of (text_of lines.now) records.new)) }
-    ensures fills { OnOk result (S.fills steps.new ≡ many_more (S.fills steps.old) (length (pages_of (state_of (text_of lines.now) (record records.old { paper = paper }))))) }
-    ensures at_most { FilledAtMost (S.fills steps.old) (S.fills steps.new) (length (pages_of (state_of (text_of lines.now) (record records.old { paper = paper })))) }
+    ensures whole { OnOk result (IsWhole (state_in lines.now records.new)) }
+    ensures made { IfOk result (λ it. IsMadeOf (state_in lines.now records.new) it.0) }
+    ensures pages { IfOk result (λ it. it.1.starts ≡ pages_of (state_in lines.now records.new)) }
+    ensures fills { OnOk result (FillsAll (state_in lines.now (record records.old { paper = paper }))
+        (S.fills steps.old) (S.fills steps.new)) }
+    ensures at_most { FillsAtMostAll (state_in lines.now (record records.old { paper = paper }))
+        (S.fills steps.old) (S.fills steps.new) }
     ensures same { OnErr result (records.new ≡ records.old) }
     ensures reads { S.reads steps.new ≡ S.reads steps.old }
 {
@@ -159,11 +158,11 @@ fn undo_in_room(
     records: &mut Records,
     entry: TextEntry,
 ) -> TextEntry
-    requires can { CanUndoText (state_of (text_of lines.old) records.old) entry }
+    requires can { CanUndoText (state_in lines.old records.old) entry }
     requires stanzas { stanzas.old.stanzas ≡ text_stanzas (text_of lines.old) }
     requires room { HasTextRoom lines.old stanzas.old entry }
-    ensures state { state_of (text_of lines.new) records.new ≡ undone_text (state_of (text_of lines.old) records.old) entry }
-    ensures entry { IsTextUndone (state_of (text_of lines.old) records.old) entry result }
+    ensures state { state_in lines.new records.new ≡ undone_text (state_in lines.old records.old) entry }
+    ensures entry { IsTextUndone (state_in lines.old records.old) entry result }
     ensures stanzas { stanzas.new.stanzas ≡ text_stanzas (text_of lines.new) }
 {
     match undo_entry(lines, stanzas, records, entry) {
@@ -179,11 +178,11 @@ fn redo_in_room(
     records: &mut Records,
     entry: TextEntry,
 ) -> TextEntry
-    requires can { CanRedoText (state_of (text_of lines.old) records.old) entry }
+    requires can { CanRedoText (state_in lines.old records.old) entry }
     requires stanzas { stanzas.old.stanzas ≡ text_stanzas (text_of lines.old) }
     requires room { HasTextRoom lines.old stanzas.old entry }
-    ensures state { state_of (text_of lines.new) records.new ≡ redone_text (state_of (text_of lines.old) records.old) entry }
-    ensures entry { IsTextRedone (state_of (text_of lines.old) records.old) entry result }
+    ensures state { state_in lines.new records.new ≡ redone_text (state_in lines.old records.old) entry }
+    ensures entry { IsTextRedone (state_in lines.old records.old) entry result }
     ensures stanzas { stanzas.new.stanzas ≡ text_stanzas (text_of lines.new) }
 {
     match redo_entry(lines, stanzas, records, entry) {
@@ -201,12 +200,12 @@ fn take_back(
     text: TextEntry,
     change: LayoutChange,
 )
-    requires can { CanUndoText (state_of (text_of lines.old) records.old) text }
+    requires can { CanUndoText (state_in lines.old records.old) text }
     requires stanzas { stanzas.old.stanzas ≡ text_stanzas (text_of lines.old) }
     requires room { HasTextRoom lines.old stanzas.old text }
     requires can_change { CanChange (laid_of layout.old) change }
     requires layout_room { HasChangeRoom layout.old change }
-    ensures state { state_of (text_of lines.new) records.new ≡ undone_text (state_of (text_of lines.old) records.old) text }
+    ensures state { state_in lines.new records.new ≡ undone_text (state_in lines.old records.old) text }
     ensures stanzas { stanzas.new.stanzas ≡ text_stanzas (text_of lines.new) }
     ensures layout { laid_of layout.new ≡ with_change (laid_of layout.old) change }
 {
@@ -222,10 +221,10 @@ fn firsts_before(
     layout: &KeptLayout,
     known: &mut Option<Vec<usize>>,
 ) -> Result<Vec<usize>, AllocError>
-    requires whole { IsWhole (state_of (text_of lines.now) records.now) }
-    requires laid { IsLaidOf (state_of (text_of lines.now) records.now) (laid_of layout.now) }
-    requires known { IfSome known.old (λ those. those.items ≡ first_rows (state_of (text_of lines.now) records.now)) }
-    ensures found { IfOk result (λ those. those.items ≡ first_rows (state_of (text_of lines.now) records.now)) }
+    requires whole { IsWhole (state_in lines.now records.now) }
+    requires laid { IsLaidOf (state_in lines.now records.now) (laid_of layout.now) }
+    requires known { IfSome known.old (λ those. those.items ≡ first_rows (state_in lines.now records.now)) }
+    ensures found { IfOk result (λ those. those.items ≡ first_rows (state_in lines.now records.now)) }
     ensures forgotten { known.new ≡ None }
 {
     let none: &[usize] = &[];
@@ -251,30 +250,33 @@ pub(crate) fn edit_made<S: Steps>(
     edit: Edit,
     steps: &mut S,
 ) -> Result<Entry, EditFault>
-    requires whole { IsWhole (state_of (text_of lines.old) records.old) }
+    requires whole { IsWhole (state_in lines.old records.old) }
     requires stanzas { stanzas.old.stanzas ≡ text_stanzas (text_of lines.old) }
-    requires laid { IsLaidOf (state_of (text_of lines.old) records.old) (laid_of layout.old) }
-    requires pages { pages.old.starts ≡ pages_of (state_of (text_of lines.old) records.old) }
-    requires numbered { IsNumberedOf (state_of (text_of lines.old) records.old) numbered.old }
-    requires firsts { IfSome firsts.old (λ those. those.items ≡ first_rows (state_of (text_of lines.old) records.old)) }
-    ensures refuses { Refuses (refusal_of (text_of lines.old) (edit_of edit)) result }
-    ensures state { OnOk result (state_of (text_of lines.new) records.new ≡ edited_state (state_of (text_of lines.old) records.old) (replacement_of lines.old.lines (edit_of edit))) }
-    ensures whole { OnOk result (IsWhole (state_of (text_of lines.new) records.new)) }
-    ensures back { IfOk result (LeadsBack (state_of (text_of lines.old) records.old) (state_of (text_of lines.new) records.new)) }
-    ensures range { IfOk result (λ it. done_range it ≡ range_of (replacement_of lines.old.lines (edit_of edit))) }
-    ensures few { IfOk result (HoldsFew (state_of (text_of lines.new) records.new)) }
-    ensures laid { IsLaidOf (state_of (text_of lines.new) records.new) (laid_of layout.new) }
-    ensures numbered { IsNumberedOf (state_of (text_of lines.new) records.new) numbered.new }
-    ensures firsts { IfSome firsts.new (λ those. those.items ≡ first_rows (state_of (text_of lines.new) records.new)) }
-    ensures pages { pages.new.starts ≡ pages_of (state_of (text_of lines.new) records.new) }
+    requires laid { IsLaidOf (state_in lines.old records.old) (laid_of layout.old) }
+    requires pages { pages.old.starts ≡ pages_of (state_in lines.old records.old) }
+    requires numbered { IsNumberedOf (state_in lines.old records.old) numbered.old }
+    requires firsts { IfSome firsts.old (λ those. those.items ≡ first_rows (state_in lines.old records.old)) }
+    ensures refuses { Refuses (refusal_in lines.old edit) result }
+    ensures state { OnOk result (state_in lines.new records.new ≡ edited_by (state_in lines.old records.old) edit) }
+    ensures whole { OnOk result (IsWhole (state_in lines.new records.new)) }
+    ensures back { IfOk result (LeadsBack (state_in lines.old records.old) (state_in lines.new records.new)) }
+    ensures range { IfOk result (λ it. done_range it ≡ range_in lines.old edit) }
+    ensures few { IfOk result (HoldsFew (state_in lines.new records.new)) }
+    ensures laid { IsLaidOf (state_in lines.new records.new) (laid_of layout.new) }
+    ensures numbered { IsNumberedOf (state_in lines.new records.new) numbered.new }
+    ensures firsts { IfSome firsts.new (λ those. those.items ≡ first_rows (state_in lines.new records.new)) }
+    ensures pages { pages.new.starts ≡ pages_of (state_in lines.new records.new) }
     ensures stanzas { stanzas.new.stanzas ≡ text_stanzas (text_of lines.new) }
-    ensures same { OnErr result (state_of (text_of lines.new) records.new ≡ state_of (text_of lines.old) records.old) }
-    ensures reads { OnOk result (EditReads (state_of (text_of lines.old) records.old) (replacement_of lines.old.lines (edit_of edit)) (S.reads steps.old) (S.reads steps.new)) }
-    ensures at_most { EditReadsAtMost (state_of (text_of lines.old) records.old) (replacement_of lines.old.lines (edit_of edit)) (S.reads steps.old) (S.reads steps.new) }
-    ensures unread { IsRefused (refusal_of (text_of lines.old) (edit_of edit)) → S.reads steps.new ≡ S.reads steps.old }
-    ensures fills { OnOk result (EditFills (state_of (text_of lines.old) records.old) (replacement_of lines.old.lines (edit_of edit)) (S.fills steps.old) (S.fills steps.new)) }
-    ensures fills_at_most { EditFillsAtMost (state_of (text_of lines.old) records.old) (replacement_of lines.old.lines (edit_of edit)) (S.fills steps.old) (S.fills steps.new) }
-    ensures unfilled { IsRefused (refusal_of (text_of lines.old) (edit_of edit)) → S.fills steps.new ≡ S.fills steps.old }
+    ensures same { OnErr result (state_in lines.new records.new ≡ state_in lines.old records.old) }
+    ensures reads { OnOk result (ReadsEdit (state_in lines.old records.old) edit
+        (S.reads steps.old) (S.reads steps.new)) }
+    ensures at_most { ReadsEditAtMost (state_in lines.old records.old) edit (S.reads steps.old) (S.reads steps.new) }
+    ensures unread { IsRefused (refusal_in lines.old edit) → S.reads steps.new ≡ S.reads steps.old }
+    ensures fills { OnOk result (FillsEdit (state_in lines.old records.old) edit
+        (S.fills steps.old) (S.fills steps.new)) }
+    ensures fills_at_most { FillsEditAtMost (state_in lines.old records.old) edit
+        (S.fills steps.old) (S.fills steps.new) }
+    ensures unfilled { IsRefused (refusal_in lines.old edit) → S.fills steps.new ≡ S.fills steps.old }
 {
     let before = firsts_before(alloc, lines, records, layout, firsts)?;
     let EditedText {
@@ -332,25 +334,25 @@ pub(crate) fn undo_made(
     firsts: &mut Option<Vec<usize>>,
     entry: Entry,
 ) -> Result<Entry, Unturned>
-    requires can { CanUndo (state_of (text_of lines.old) records.old) entry }
+    requires can { CanUndo (state_in lines.old records.old) entry }
     requires stanzas { stanzas.old.stanzas ≡ text_stanzas (text_of lines.old) }
-    requires laid { IsLaidOf (state_of (text_of lines.old) records.old) (laid_of layout.old) }
-    requires pages { pages.old.starts ≡ pages_of (state_of (text_of lines.old) records.old) }
-    requires numbered { IsNumberedOf (state_of (text_of lines.old) records.old) numbered.old }
-    requires firsts { IfSome firsts.old (λ those. those.items ≡ first_rows (state_of (text_of lines.old) records.old)) }
-    requires was_whole { IsWhole (state_of (text_of lines.old) records.old) }
-    requires whole { IsWhole (undone_state (state_of (text_of lines.old) records.old) entry) }
-    ensures state { OnOk result (state_of (text_of lines.new) records.new ≡ undone_state (state_of (text_of lines.old) records.old) entry) }
-    ensures forth { IfOk result (LeadsForth (state_of (text_of lines.old) records.old) (state_of (text_of lines.new) records.new)) }
+    requires laid { IsLaidOf (state_in lines.old records.old) (laid_of layout.old) }
+    requires pages { pages.old.starts ≡ pages_of (state_in lines.old records.old) }
+    requires numbered { IsNumberedOf (state_in lines.old records.old) numbered.old }
+    requires firsts { IfSome firsts.old (λ those. those.items ≡ first_rows (state_in lines.old records.old)) }
+    requires was_whole { IsWhole (state_in lines.old records.old) }
+    requires whole { IsWhole (undone_state (state_in lines.old records.old) entry) }
+    ensures state { OnOk result (state_in lines.new records.new ≡ undone_state (state_in lines.old records.old) entry) }
+    ensures forth { IfOk result (LeadsForth (state_in lines.old records.old) (state_in lines.new records.new)) }
     ensures range { IfOk result (λ it. undone_range it ≡ done_range entry) }
-    ensures laid { IsLaidOf (state_of (text_of lines.new) records.new) (laid_of layout.new) }
-    ensures numbered { IsNumberedOf (state_of (text_of lines.new) records.new) numbered.new }
-    ensures firsts { IfSome firsts.new (λ those. those.items ≡ first_rows (state_of (text_of lines.new) records.new)) }
-    ensures pages { pages.new.starts ≡ pages_of (state_of (text_of lines.new) records.new) }
+    ensures laid { IsLaidOf (state_in lines.new records.new) (laid_of layout.new) }
+    ensures numbered { IsNumberedOf (state_in lines.new records.new) numbered.new }
+    ensures firsts { IfSome firsts.new (λ those. those.items ≡ first_rows (state_in lines.new records.new)) }
+    ensures pages { pages.new.starts ≡ pages_of (state_in lines.new records.new) }
     ensures stanzas { stanzas.new.stanzas ≡ text_stanzas (text_of lines.new) }
-    ensures same { OnErr result (state_of (text_of lines.new) records.new ≡ state_of (text_of lines.old) records.old) }
+    ensures same { OnErr result (state_in lines.new records.new ≡ state_in lines.old records.old) }
     ensures handed_back { IfErr result (λ error. IsSameEntry error.back entry) }
-    ensures again { IfErr result (λ error. CanUndo (state_of (text_of lines.old) records.old) error.back) }
+    ensures again { IfErr result (λ error. CanUndo (state_in lines.old records.old) error.back) }
 {
     let _count = lines.len();
     let Entry {
@@ -420,25 +422,25 @@ pub(crate) fn redo_made(
     firsts: &mut Option<Vec<usize>>,
     entry: Entry,
 ) -> Result<Entry, Unturned>
-    requires can { CanRedo (state_of (text_of lines.old) records.old) entry }
+    requires can { CanRedo (state_in lines.old records.old) entry }
     requires stanzas { stanzas.old.stanzas ≡ text_stanzas (text_of lines.old) }
-    requires laid { IsLaidOf (state_of (text_of lines.old) records.old) (laid_of layout.old) }
-    requires pages { pages.old.starts ≡ pages_of (state_of (text_of lines.old) records.old) }
-    requires numbered { IsNumberedOf (state_of (text_of lines.old) records.old) numbered.old }
-    requires firsts { IfSome firsts.old (λ those. those.items ≡ first_rows (state_of (text_of lines.old) records.old)) }
-    requires was_whole { IsWhole (state_of (text_of lines.old) records.old) }
-    requires whole { IsWhole (redone_state (state_of (text_of lines.old) records.old) entry) }
-    ensures state { OnOk result (state_of (text_of lines.new) records.new ≡ redone_state (state_of (text_of lines.old) records.old) entry) }
-    ensures back { IfOk result (LeadsBack (state_of (text_of lines.old) records.old) (state_of (text_of lines.new) records.new)) }
+    requires laid { IsLaidOf (state_in lines.old records.old) (laid_of layout.old) }
+    requires pages { pages.old.starts ≡ pages_of (state_in lines.old records.old) }
+    requires numbered { IsNumberedOf (state_in lines.old records.old) numbered.old }
+    requires firsts { IfSome firsts.old (λ those. those.items ≡ first_rows (state_in lines.old records.old)) }
+    requires was_whole { IsWhole (state_in lines.old records.old) }
+    requires whole { IsWhole (redone_state (state_in lines.old records.old) entry) }
+    ensures state { OnOk result (state_in lines.new records.new ≡ redone_state (state_in lines.old records.old) entry) }
+    ensures back { IfOk result (LeadsBack (state_in lines.old records.old) (state_in lines.new records.new)) }
     ensures range { IfOk result (λ it. done_range it ≡ undone_range entry) }
-    ensures laid { IsLaidOf (state_of (text_of lines.new) records.new) (laid_of layout.new) }
-    ensures numbered { IsNumberedOf (state_of (text_of lines.new) records.new) numbered.new }
-    ensures firsts { IfSome firsts.new (λ those. those.items ≡ first_rows (state_of (text_of lines.new) records.new)) }
-    ensures pages { pages.new.starts ≡ pages_of (state_of (text_of lines.new) records.new) }
+    ensures laid { IsLaidOf (state_in lines.new records.new) (laid_of layout.new) }
+    ensures numbered { IsNumberedOf (state_in lines.new records.new) numbered.new }
+    ensures firsts { IfSome firsts.new (λ those. those.items ≡ first_rows (state_in lines.new records.new)) }
+    ensures pages { pages.new.starts ≡ pages_of (state_in lines.new records.new) }
     ensures stanzas { stanzas.new.stanzas ≡ text_stanzas (text_of lines.new) }
-    ensures same { OnErr result (state_of (text_of lines.new) records.new ≡ state_of (text_of lines.old) records.old) }
+    ensures same { OnErr result (state_in lines.new records.new ≡ state_in lines.old records.old) }
     ensures handed_back { IfErr result (λ error. IsSameEntry error.back entry) }
-    ensures again { IfErr result (λ error. CanRedo (state_of (text_of lines.old) records.old) error.back) }
+    ensures again { IfErr result (λ error. CanRedo (state_in lines.old records.old) error.back) }
 {
     let _count = lines.len();
     let Entry {

@@ -1,28 +1,27 @@
 //! A state and its sheets.
 ghost use Rattle.std.specs.Prelude.{◌≡◌, ◌≤◌, Some, length, slice_get, IfErr, IfSome, IfNone, IfOk, OnOk, OnErr};
 ghost use Rattle.spec_text.specs.Lines.{line_texts, read_lines};
-ghost use Rattle.spec_text.specs.Edits.{refusal_of, replacement_of};
+ghost use Rattle.spec_text.specs.Edits.{replacement_of};
 ghost use Rattle.spec_text.specs.Ranges.{range_of};
-ghost use Rattle.spec_script.specs.Stanzas.{stanzas_of};
 ghost use Rattle.spec_state.specs.State.{opened_state, text_of as state_text};
-ghost use Rattle.spec_state.specs.Changes.{edited_state};
 ghost use Rattle.spec_state.specs.Openings.{pages_locked, round_begun, scenes_locked};
 ghost use Rattle.spec_machine.specs.Refusals.{pages_refusal, round_refusal, scenes_refusal};
 ghost use Rattle.spec_locked_pages.specs.Segments.{pages_of};
-ghost use Rattle.sp_reflow.specs.Filling.{FilledAtMost};
-ghost use Rattle.sp_reflow.specs.Starts.{many_more};
 ghost use Rattle.sp_text.specs.Changing.{Refuses, edit_of};
-ghost use Rattle.spec_state.specs.Keeping.{IsWhole, records_of, state_of};
+ghost use Rattle.spec_state.specs.Keeping.{IsWhole, records_of};
 ghost use Rattle.sp_text.specs.Gap.{text_of};
-ghost use Rattle.spec_state.specs.StateSheets.{body_sheets, locked_starts, rows_in, sheets_of_state};
-ghost use Rattle.sp_reread.specs.Cache.{RisesWithin, counted_on};
+ghost use Rattle.spec_state.specs.StateSheets.{body_sheets, sheets_of_state};
+ghost use Rattle.sp_reread.specs.Cache.{texts_in, ReadsAtMostAll, ReadsAll};
 ghost use Rattle.sp_exchange.specs.Reads.{IsRefused};
 ghost use Rattle.sp_exchange.specs.Restoring.{text_stanzas};
 ghost use Rattle.sp_made_parts.specs.Made.{IsMadeOf};
 ghost use Rattle.sp_locking.specs.Openings.{IsOpening};
-ghost use Rattle.sp_text_entry.specs.Reads.{EditReads, EditReadsAtMost};
-ghost use Rattle.sp_state.specs.Fills.{EditFills, EditFillsAtMost};
+ghost use Rattle.sp_text_entry.specs.Reads.{ReadsEdit, ReadsEditAtMost};
+ghost use Rattle.sp_state.specs.Fills.{FillsEdit, FillsEditAtMost};
 ghost use Rattle.sp_state.specs.Entries.{CanRedo, CanUndo, HoldsFew, IsSameEntry, LeadsBack, LeadsForth, done_range, redone_state, undone_range, undone_state};
+ghost use Rattle.sp_made_parts.specs.States.{state_in};
+ghost use Rattle.sp_made.specs.Pages.{FillsAll, FillsAtMostAll, locked_starts_in};
+ghost use Rattle.sp_text_entry.specs.TextEntries.{edited_by, refusal_at};
 
 use crate::editing::{edit_made, made_on, made_with_speakers, put_made, redo_made, undo_made};
 use crate::entry::{Entry, Unturned};
@@ -70,7 +69,8 @@ impl Model for Script {
     ghost use Rattle.std.specs.Prelude.{◌≡◌, IfSome};
     ghost use Rattle.sp_text.specs.Gap.{text_of};
     ghost use Rattle.spec_state.specs.State.{State};
-    ghost use Rattle.spec_state.specs.Keeping.{IsWhole, state_of};
+    ghost use Rattle.spec_state.specs.Keeping.{IsWhole};
+    ghost use Rattle.sp_made_parts.specs.States.{state_in};
     ghost use Rattle.sp_exchange.specs.Restoring.{text_stanzas};
     ghost use Rattle.spec_locked_pages.specs.Segments.{pages_of};
     ghost use Rattle.sp_made_parts.specs.Firsts.{first_rows};
@@ -78,10 +78,12 @@ impl Model for Script {
 
     ghost Value = { State };
 
-    ghost view = { λ s. state_of (text_of s.lines) s.records };
+    ghost view = { λ s. state_in s.lines s.records };
 
-    ghost invariant = { λ s. IsWhole (state_of (text_of s.lines) s.records) × IsMadeOf (state_of (text_of s.lines) s.records) s.made × (s.stanzas.stanzas ≡ text_stanzas (text_of s.lines)) × (s.pages.starts ≡ pages_of (state_of (text_of s.lines) s.records))
-        × IfSome s.firsts (λ those. those.items ≡ first_rows (state_of (text_of s.lines) s.records)) };
+    ghost invariant = { λ s. IsWhole (state_in s.lines s.records) × IsMadeOf (state_in s.lines s.records) s.made
+        × (s.stanzas.stanzas ≡ text_stanzas (text_of s.lines))
+        × (s.pages.starts ≡ pages_of (state_in s.lines s.records))
+        × IfSome s.firsts (λ those. those.items ≡ first_rows (state_in s.lines s.records)) };
 }
 
 /// The stanzas of lines, and what is made of them with these records. Each stanza is read once, and each page filled once.
@@ -91,14 +93,14 @@ fn read_and_make<S: Steps>(
     records: &Records,
     steps: &mut S,
 ) -> Result<(Stanzas, Made, Pages), AllocError>
-    requires { IsWhole (state_of (text_of lines.now) records.now) }
+    requires { IsWhole (state_in lines.now records.now) }
     ensures stanzas { IfOk result (λ it. it.0.stanzas ≡ text_stanzas (text_of lines.now)) }
-    ensures made { IfOk result (λ it. IsMadeOf (state_of (text_of lines.now) records.now) it.1) }
-    ensures pages { IfOk result (λ it. it.2.starts ≡ pages_of (state_of (text_of lines.now) records.now)) }
-    ensures reads { OnOk result (S.reads steps.new ≡ counted_on (length (stanzas_of (line_texts lines.now.lines))) (S.reads steps.old)) }
-    ensures at_most { RisesWithin (length (stanzas_of (line_texts lines.now.lines))) (S.reads steps.old) (S.reads steps.new) }
-    ensures fills { OnOk result (S.fills steps.new ≡ many_more (S.fills steps.old) (length (pages_of (state_of (text_of lines.now) records.now)))) }
-    ensures fills_at_most { FilledAtMost (S.fills steps.old) (S.fills steps.new) (length (pages_of (state_of (text_of lines.now) records.now))) }
+    ensures made { IfOk result (λ it. IsMadeOf (state_in lines.now records.now) it.1) }
+    ensures pages { IfOk result (λ it. it.2.starts ≡ pages_of (state_in lines.now records.now)) }
+    ensures reads { OnOk result (ReadsAll (texts_in lines.now) (S.reads steps.old) (S.reads steps.new)) }
+    ensures at_most { ReadsAtMostAll (texts_in lines.now) (S.reads steps.old) (S.reads steps.new) }
+    ensures fills { OnOk result (FillsAll (state_in lines.now records.now) (S.fills steps.old) (S.fills steps.new)) }
+    ensures fills_at_most { FillsAtMostAll (state_in lines.now records.now) (S.fills steps.old) (S.fills steps.new) }
 {
     let stanzas = Stanzas::new(alloc, lines, steps)?;
     let (made, pages) = make(alloc, lines, &stanzas, records, steps)?;
@@ -121,11 +123,11 @@ impl Script {
     pub fn new<S: Steps>(alloc: Global, lines: Lines, steps: &mut S) -> Result<Script, AllocError>
         requires read { lines.lines ≡ read_lines (line_texts lines.lines) }
         requires next { lines.next ≡ length lines.lines }
-        ensures state { IfOk result (λ script. script ≡ opened_state (line_texts lines.lines)) }
-        ensures reads { OnOk result (S.reads steps.new ≡ counted_on (length (stanzas_of (line_texts lines.lines))) (S.reads steps.old)) }
-        ensures at_most { RisesWithin (length (stanzas_of (line_texts lines.lines))) (S.reads steps.old) (S.reads steps.new) }
-        ensures fills { OnOk result (S.fills steps.new ≡ many_more (S.fills steps.old) (length (pages_of (opened_state (line_texts lines.lines))))) }
-        ensures fills_at_most { FilledAtMost (S.fills steps.old) (S.fills steps.new) (length (pages_of (opened_state (line_texts lines.lines)))) }
+        ensures state { IfOk result (λ script. script ≡ opened_state (texts_in lines)) }
+        ensures reads { OnOk result (ReadsAll (texts_in lines) (S.reads steps.old) (S.reads steps.new)) }
+        ensures at_most { ReadsAtMostAll (texts_in lines) (S.reads steps.old) (S.reads steps.new) }
+        ensures fills { OnOk result (FillsAll (opened_state (texts_in lines)) (S.fills steps.old) (S.fills steps.new)) }
+        ensures fills_at_most { FillsAtMostAll (opened_state (texts_in lines)) (S.fills steps.old) (S.fills steps.new) }
     {
         let _count = lines.len();
         Script::open(alloc, lines, Records::none(), steps)
@@ -139,12 +141,12 @@ impl Script {
         records: Records,
         steps: &mut S,
     ) -> Result<Script, AllocError>
-        requires { IsWhole (state_of (text_of lines) records) }
-        ensures state { IfOk result (λ script. script ≡ state_of (text_of lines) records) }
-        ensures reads { OnOk result (S.reads steps.new ≡ counted_on (length (stanzas_of (line_texts lines.lines))) (S.reads steps.old)) }
-        ensures at_most { RisesWithin (length (stanzas_of (line_texts lines.lines))) (S.reads steps.old) (S.reads steps.new) }
-        ensures fills { OnOk result (S.fills steps.new ≡ many_more (S.fills steps.old) (length (pages_of (state_of (text_of lines) records)))) }
-        ensures fills_at_most { FilledAtMost (S.fills steps.old) (S.fills steps.new) (length (pages_of (state_of (text_of lines) records))) }
+        requires { IsWhole (state_in lines records) }
+        ensures state { IfOk result (λ script. script ≡ state_in lines records) }
+        ensures reads { OnOk result (ReadsAll (texts_in lines) (S.reads steps.old) (S.reads steps.new)) }
+        ensures at_most { ReadsAtMostAll (texts_in lines) (S.reads steps.old) (S.reads steps.new) }
+        ensures fills { OnOk result (FillsAll (state_in lines records) (S.fills steps.old) (S.fills steps.new)) }
+        ensures fills_at_most { FillsAtMostAll (state_in lines records) (S.fills steps.old) (S.fills steps.new) }
     {
         let mut lines = lines;
         index_ids(&mut lines, &records)?;
@@ -192,7 +194,7 @@ impl Script {
     /// The first rows of its page records; none where pages aren't locked (docs/RULES.md, "Page records"). `AllocError` comes
     /// for want of memory alone.
     pub fn page_starts(&self, alloc: Global) -> Result<Vec<usize>, AllocError>
-        ensures { IfOk result (λ starts. starts.items ≡ locked_starts (self.now).lines (rows_in self.now) (self.now).pages) }
+        ensures { IfOk result (λ starts. starts.items ≡ locked_starts_in self.now) }
     {
         made_starts(alloc, &self.lines, &self.records, &self.made)
     }
@@ -228,18 +230,18 @@ impl Script {
         steps: &mut S,
     ) -> Result<Entry, EditFault>
         ensures whole { IsWhole self.old }
-        ensures refuses { Refuses (refusal_of (state_text self.old) (edit_of edit)) result }
-        ensures state { OnOk result (self.new ≡ edited_state self.old (replacement_of self.old.lines (edit_of edit))) }
+        ensures refuses { Refuses (refusal_at self.old edit) result }
+        ensures state { OnOk result (self.new ≡ edited_by self.old edit) }
         ensures back { IfOk result (LeadsBack self.old self.new) }
         ensures range { IfOk result (λ it. done_range it ≡ range_of (replacement_of self.old.lines (edit_of edit))) }
         ensures few { IfOk result (HoldsFew self.new) }
         ensures same { OnErr result (self.new ≡ self.old) }
-        ensures reads { OnOk result (EditReads self.old (replacement_of self.old.lines (edit_of edit)) (S.reads steps.old) (S.reads steps.new)) }
-        ensures at_most { EditReadsAtMost self.old (replacement_of self.old.lines (edit_of edit)) (S.reads steps.old) (S.reads steps.new) }
-        ensures unread { IsRefused (refusal_of (state_text self.old) (edit_of edit)) → S.reads steps.new ≡ S.reads steps.old }
-        ensures fills { OnOk result (EditFills self.old (replacement_of self.old.lines (edit_of edit)) (S.fills steps.old) (S.fills steps.new)) }
-        ensures fills_at_most { EditFillsAtMost self.old (replacement_of self.old.lines (edit_of edit)) (S.fills steps.old) (S.fills steps.new) }
-        ensures unfilled { IsRefused (refusal_of (state_text self.old) (edit_of edit)) → S.fills steps.new ≡ S.fills steps.old }
+        ensures reads { OnOk result (ReadsEdit self.old edit (S.reads steps.old) (S.reads steps.new)) }
+        ensures at_most { ReadsEditAtMost self.old edit (S.reads steps.old) (S.reads steps.new) }
+        ensures unread { IsRefused (refusal_at self.old edit) → S.reads steps.new ≡ S.reads steps.old }
+        ensures fills { OnOk result (FillsEdit self.old edit (S.fills steps.old) (S.fills steps.new)) }
+        ensures fills_at_most { FillsEditAtMost self.old edit (S.fills steps.old) (S.fills steps.new) }
+        ensures unfilled { IsRefused (refusal_at self.old edit) → S.fills steps.new ≡ S.fills steps.old }
     {
         let entry = edit_made(
             alloc,
@@ -343,8 +345,10 @@ impl Script {
         ensures state { OnOk result (self.new ≡ record self.old { paper = paper }) }
         ensures same { OnErr result (self.new ≡ self.old) }
         ensures reads { S.reads steps.new ≡ S.reads steps.old }
-        ensures fills { OnOk result (S.fills steps.new ≡ many_more (S.fills steps.old) (length (pages_of (record self.old { paper = paper })))) }
-        ensures fills_at_most { FilledAtMost (S.fills steps.old) (S.fills steps.new) (length (pages_of (record self.old { paper = paper }))) }
+        ensures fills { OnOk result (FillsAll (record self.old { paper = paper })
+            (S.fills steps.old) (S.fills steps.new)) }
+        ensures fills_at_most { FillsAtMostAll (record self.old { paper = paper })
+            (S.fills steps.old) (S.fills steps.new) }
     {
         let (made, pages) = made_on(
             alloc,

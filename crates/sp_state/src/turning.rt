@@ -1,27 +1,22 @@
 //! The layout and the first rows of pages after an edit, and after it is undone or done again.
-ghost use Rattle.std.specs.Prelude.{◌≡◌, ℕ, ◌+◌, ◌-◌, ◌≤◌, List, None, length, map, IfErr, IfOk, IfSome, IsTrue, OnErr, OnOk};
+ghost use Rattle.std.specs.Prelude.{◌≡◌, ◌+◌, ◌-◌, ◌≤◌, length, IfErr, IfOk, IfSome, IsTrue, OnErr, OnOk};
 ghost use Rattle.std.specs.Bool.{OnTrue};
-ghost use Rattle.spec_pages.specs.Pages.{rows_on};
-ghost use Rattle.spec_layout.specs.Shown.{shape_of};
-ghost use Rattle.spec_state.specs.Headings.{heading_labels};
-ghost use Rattle.spec_state.specs.Keeping.{IsWhole, state_of};
-ghost use Rattle.spec_state.specs.StateSheets.{rows_in, title_starts};
+ghost use Rattle.spec_state.specs.Keeping.{IsWhole};
+ghost use Rattle.spec_state.specs.StateSheets.{title_starts};
 ghost use Rattle.spec_locked_pages.specs.Segments.{pages_of};
-ghost use Rattle.spec_reflow.specs.Windows.{page_window};
 ghost use Rattle.sp_text.specs.Gap.{text_of};
 ghost use Rattle.sp_exchange.specs.Restoring.{text_stanzas};
-ghost use Rattle.sp_reflow.specs.Starts.{many_more};
-ghost use Rattle.sp_reflow.specs.Filling.{FilledAtMost};
-ghost use Rattle.sp_reflow.specs.Updates.{AreStale, CanPutBack, taken_back, taken_of, with_taken};
+ghost use Rattle.sp_reflow.specs.Updates.{CanPutBack, taken_back, taken_of, with_taken};
 ghost use Rattle.sp_relay.specs.Changes.{CanChange, with_change};
 ghost use Rattle.sp_relay.specs.Kept.{laid_of};
 ghost use Rattle.sp_numbers.specs.HeadingIds.{laid_labels};
-ghost use Rattle.sp_numbers.specs.Locked.{AreSheetsBefore};
-ghost use Rattle.sp_numbers.specs.Numbered.{AreUnmarked};
 ghost use Rattle.sp_made_parts.specs.Firsts.{IsLaidOf, first_rows};
 ghost use Rattle.sp_made_parts.specs.Made.{IsNumberedOf};
-ghost use Rattle.sp_made.specs.Pages.{AreStopsOf};
+ghost use Rattle.sp_made.specs.Pages.{labels_in, WerePageSheets, WereUnmarkedSheets};
 ghost use Rattle.sp_made.specs.Titles.{laid_titles};
+ghost use Rattle.sp_made_parts.specs.States.{state_in};
+ghost use Rattle.sp_state.specs.Fills.{exchange_of, AreStartsBefore, RefillsWindow, RefillsAtMost};
+ghost use Rattle.sp_state.specs.Entries.{LeadToSame};
 
 use sp_kit::Steps;
 use sp_made::{keeps_headings, laid_stops, leaves_titles, renumber, rows_on};
@@ -63,17 +58,19 @@ fn update_pages<S: Steps>(
     new: usize,
     steps: &mut S,
 ) -> Result<SwappedPages, AllocError>
-    requires whole { IsWhole (state_of (text_of lines.now) records.now) }
-    requires laid { IsLaidOf (state_of (text_of lines.now) records.now) (laid_of layout.now) }
-    requires firsts { firsts.now ≡ first_rows (state_of (text_of lines.now) records.now) }
-    requires stale { (stops : List ℕ) → AreStopsOf (state_of (text_of lines.now) records.now) stops → AreStale (rows_on (records.now).paper) (record { first = first; old = old; new = new }) pages.old.starts (map shape_of (rows_in (state_of (text_of lines.now) records.now))) stops }
-    ensures pages { OnOk result (pages.new.starts ≡ pages_of (state_of (text_of lines.now) records.now)) }
+    requires whole { IsWhole (state_in lines.now records.now) }
+    requires laid { IsLaidOf (state_in lines.now records.now) (laid_of layout.now) }
+    requires firsts { firsts.now ≡ first_rows (state_in lines.now records.now) }
+    requires stale { AreStartsBefore (state_in lines.now records.now) (exchange_of first old new) pages.old.starts }
+    ensures pages { OnOk result (pages.new.starts ≡ pages_of (state_in lines.now records.now)) }
     ensures back { IfOk result (λ it. with_taken pages.new.starts it ≡ pages.old.starts) }
     ensures can { IfOk result (λ it. CanPutBack pages.new.starts it) }
     ensures back_room { IfOk result (λ it. it.stands ≤ it.room) }
     ensures returns { IfOk result (λ it. length pages.new.starts - it.stands + length it.starts ≤ pages.new.room) }
-    ensures fills { OnOk result (S.fills steps.new ≡ many_more (S.fills steps.old) (length (page_window (rows_on (records.now).paper) (record { first = first; old = old; new = new }) pages.old.starts (pages_of (state_of (text_of lines.now) records.now))))) }
-    ensures at_most { FilledAtMost (S.fills steps.old) (S.fills steps.new) (length (page_window (rows_on (records.now).paper) (record { first = first; old = old; new = new }) pages.old.starts (pages_of (state_of (text_of lines.now) records.now)))) }
+    ensures fills { OnOk result (RefillsWindow (state_in lines.now records.now)
+        (exchange_of first old new) pages.old.starts (S.fills steps.old) (S.fills steps.new)) }
+    ensures at_most { RefillsAtMost (state_in lines.now records.now)
+        (exchange_of first old new) pages.old.starts (S.fills steps.old) (S.fills steps.new) }
     ensures reads { S.reads steps.new ≡ S.reads steps.old }
     ensures same { OnErr result (pages.new.starts ≡ pages.old.starts) }
 {
@@ -119,22 +116,24 @@ pub(crate) fn refilled<S: Steps>(
     new: usize,
     steps: &mut S,
 ) -> Result<SwappedPages, AllocError>
-    requires whole { IsWhole (state_of (text_of lines.now) records.now) }
+    requires whole { IsWhole (state_in lines.now records.now) }
     requires stanzas { stanzas.now.stanzas ≡ text_stanzas (text_of lines.now) }
-    requires laid { IsLaidOf (state_of (text_of lines.now) records.now) (laid_of layout.now) }
-    requires firsts { firsts.now ≡ first_rows (state_of (text_of lines.now) records.now) }
-    requires stale { (stops : List ℕ) → AreStopsOf (state_of (text_of lines.now) records.now) stops → AreStale (rows_on (records.now).paper) (record { first = first; old = old; new = new }) pages.old.starts (map shape_of (rows_in (state_of (text_of lines.now) records.now))) stops }
-    requires labels { IsTrue keeps_labels → numbered.old.labels ≡ heading_labels lines.now.lines records.now.scenes }
-    requires titles { IsTrue keeps_titles → numbered.old.title_starts ≡ title_starts (state_of (text_of lines.now) records.now) }
-    requires sheets { (records.now).pages ≡ None → (records.now).round ≡ 0 → AreUnmarked numbered.old.sheets pages.old.starts }
-    requires kept { IsTrue keeps_firsts → IfSome (records.now).pages (λ those. AreSheetsBefore those firsts.now pages.old.starts numbered.old.sheets) }
-    ensures pages { OnOk result (pages.new.starts ≡ pages_of (state_of (text_of lines.now) records.now)) }
+    requires laid { IsLaidOf (state_in lines.now records.now) (laid_of layout.now) }
+    requires firsts { firsts.now ≡ first_rows (state_in lines.now records.now) }
+    requires stale { AreStartsBefore (state_in lines.now records.now) (exchange_of first old new) pages.old.starts }
+    requires labels { IsTrue keeps_labels → numbered.old.labels ≡ labels_in lines.now records.now }
+    requires titles { IsTrue keeps_titles → numbered.old.title_starts ≡ title_starts (state_in lines.now records.now) }
+    requires sheets { WereUnmarkedSheets records.now pages.old.starts numbered.old.sheets }
+    requires kept { IsTrue keeps_firsts → WerePageSheets records.now firsts.now pages.old.starts numbered.old.sheets }
+    ensures pages { OnOk result (pages.new.starts ≡ pages_of (state_in lines.now records.now)) }
     ensures back { IfOk result (λ it. with_taken pages.new.starts it ≡ pages.old.starts) }
     ensures can { IfOk result (λ it. CanPutBack pages.new.starts it) }
-    ensures numbered { OnOk result (IsNumberedOf (state_of (text_of lines.now) records.now) numbered.new) }
+    ensures numbered { OnOk result (IsNumberedOf (state_in lines.now records.now) numbered.new) }
     ensures same_numbered { OnErr result (numbered.new ≡ numbered.old) }
-    ensures fills { OnOk result (S.fills steps.new ≡ many_more (S.fills steps.old) (length (page_window (rows_on (records.now).paper) (record { first = first; old = old; new = new }) pages.old.starts (pages_of (state_of (text_of lines.now) records.now))))) }
-    ensures at_most { FilledAtMost (S.fills steps.old) (S.fills steps.new) (length (page_window (rows_on (records.now).paper) (record { first = first; old = old; new = new }) pages.old.starts (pages_of (state_of (text_of lines.now) records.now)))) }
+    ensures fills { OnOk result (RefillsWindow (state_in lines.now records.now)
+        (exchange_of first old new) pages.old.starts (S.fills steps.old) (S.fills steps.new)) }
+    ensures at_most { RefillsAtMost (state_in lines.now records.now)
+        (exchange_of first old new) pages.old.starts (S.fills steps.old) (S.fills steps.new) }
     ensures reads { S.reads steps.new ≡ S.reads steps.old }
     ensures same { OnErr result (pages.new.starts ≡ pages.old.starts) }
 {
@@ -189,20 +188,21 @@ fn turned_pages(
     keeps_labels: bool,
     keeps_titles: bool,
 ) -> Result<TurnedPages, UnswappedPages>
-    requires whole { IsWhole (state_of (text_of lines.now) records.now) }
+    requires whole { IsWhole (state_in lines.now records.now) }
     requires stanzas { stanzas.now.stanzas ≡ text_stanzas (text_of lines.now) }
-    requires laid { IsLaidOf (state_of (text_of lines.now) records.now) (laid_of layout.now) }
+    requires laid { IsLaidOf (state_in lines.now records.now) (laid_of layout.now) }
     requires can { CanPutBack pages.old.starts back }
-    requires leads { with_taken pages.old.starts back ≡ pages_of (state_of (text_of lines.now) records.now) }
-    requires labels { IsTrue keeps_labels → numbered.old.labels ≡ heading_labels lines.now.lines records.now.scenes }
-    requires titles { IsTrue keeps_titles → numbered.old.title_starts ≡ title_starts (state_of (text_of lines.now) records.now) }
-    requires sheets { (records.now).pages ≡ None → (records.now).round ≡ 0 → AreUnmarked numbered.old.sheets pages.old.starts }
-    requires kept { IfSome known.now (λ those. IfSome (records.now).pages (λ them. AreSheetsBefore them those.items pages.old.starts numbered.old.sheets)) }
-    ensures pages { OnOk result (pages.new.starts ≡ pages_of (state_of (text_of lines.now) records.now)) }
+    requires leads { with_taken pages.old.starts back ≡ pages_of (state_in lines.now records.now) }
+    requires labels { IsTrue keeps_labels → numbered.old.labels ≡ labels_in lines.now records.now }
+    requires titles { IsTrue keeps_titles → numbered.old.title_starts ≡ title_starts (state_in lines.now records.now) }
+    requires sheets { WereUnmarkedSheets records.now pages.old.starts numbered.old.sheets }
+    requires kept { IfSome known.now (λ those.
+        WerePageSheets records.now those.items pages.old.starts numbered.old.sheets) }
+    ensures pages { OnOk result (pages.new.starts ≡ pages_of (state_in lines.now records.now)) }
     ensures back { IfOk result (λ it. with_taken pages.new.starts it.pages ≡ pages.old.starts) }
     ensures can { IfOk result (λ it. CanPutBack pages.new.starts it.pages) }
-    ensures firsts { IfOk result (λ it. it.firsts.items ≡ first_rows (state_of (text_of lines.now) records.now)) }
-    ensures numbered { OnOk result (IsNumberedOf (state_of (text_of lines.now) records.now) numbered.new) }
+    ensures firsts { IfOk result (λ it. it.firsts.items ≡ first_rows (state_in lines.now records.now)) }
+    ensures numbered { OnOk result (IsNumberedOf (state_in lines.now records.now) numbered.new) }
     ensures same_numbered { OnErr result (numbered.new ≡ numbered.old) }
     ensures same { OnErr result (pages.new.starts ≡ pages.old.starts) }
     ensures handed_back { IfErr result (λ error. taken_of error.back ≡ taken_of back) }
@@ -275,30 +275,31 @@ pub(crate) fn turn_made(
     back: SwappedPages,
     numbered: &mut Numbered,
 ) -> Result<Turned, UnturnedPages>
-    requires whole { IsWhole (state_of (text_of lines.now) records.now) }
+    requires whole { IsWhole (state_in lines.now records.now) }
     requires stanzas { stanzas.now.stanzas ≡ text_stanzas (text_of lines.now) }
     requires can_change { CanChange (laid_of layout.old) change }
-    requires laid { IsLaidOf (state_of (text_of lines.now) records.now) (with_change (laid_of layout.old) change) }
+    requires laid { IsLaidOf (state_in lines.now records.now) (with_change (laid_of layout.old) change) }
     requires can { CanPutBack pages.old.starts back }
-    requires leads { with_taken pages.old.starts back ≡ pages_of (state_of (text_of lines.now) records.now) }
+    requires leads { with_taken pages.old.starts back ≡ pages_of (state_in lines.now records.now) }
     requires labels { numbered.old.labels ≡ laid_labels (laid_of layout.old) (records.now).scenes }
     requires titles { numbered.old.title_starts ≡ laid_titles (laid_of layout.old) (records.now).paper }
-    requires sheets { (records.now).pages ≡ None → (records.now).round ≡ 0 → AreUnmarked numbered.old.sheets pages.old.starts }
-    requires kept { IfSome known.now (λ those. IfSome (records.now).pages (λ them. AreSheetsBefore them those.items pages.old.starts numbered.old.sheets)) }
-    ensures laid { OnOk result (IsLaidOf (state_of (text_of lines.now) records.now) (laid_of layout.new)) }
+    requires sheets { WereUnmarkedSheets records.now pages.old.starts numbered.old.sheets }
+    requires kept { IfSome known.now (λ those.
+        WerePageSheets records.now those.items pages.old.starts numbered.old.sheets) }
+    ensures laid { OnOk result (IsLaidOf (state_in lines.now records.now) (laid_of layout.new)) }
     ensures layout_back { IfOk result (λ it. with_change (laid_of layout.new) it.layout ≡ laid_of layout.old) }
     ensures can_change { IfOk result (λ it. CanChange (laid_of layout.new) it.layout) }
-    ensures pages { OnOk result (pages.new.starts ≡ pages_of (state_of (text_of lines.now) records.now)) }
+    ensures pages { OnOk result (pages.new.starts ≡ pages_of (state_in lines.now records.now)) }
     ensures back { IfOk result (λ it. with_taken pages.new.starts it.pages ≡ pages.old.starts) }
     ensures can { IfOk result (λ it. CanPutBack pages.new.starts it.pages) }
-    ensures firsts { IfOk result (λ it. it.firsts.items ≡ first_rows (state_of (text_of lines.now) records.now)) }
-    ensures numbered { OnOk result (IsNumberedOf (state_of (text_of lines.now) records.now) numbered.new) }
+    ensures firsts { IfOk result (λ it. it.firsts.items ≡ first_rows (state_in lines.now records.now)) }
+    ensures numbered { OnOk result (IsNumberedOf (state_in lines.now records.now) numbered.new) }
     ensures same_numbered { OnErr result (numbered.new ≡ numbered.old) }
     ensures same { OnErr result (pages.new.starts ≡ pages.old.starts) }
     ensures same_layout { OnErr result (laid_of layout.new ≡ laid_of layout.old) }
     ensures handed_back { IfErr result (λ error. taken_of error.pages ≡ taken_of back) }
     ensures again { IfErr result (λ error. CanChange (laid_of layout.old) error.layout) }
-    ensures leads_again { IfErr result (λ error. with_change (laid_of layout.old) error.layout ≡ with_change (laid_of layout.old) change) }
+    ensures leads_again { IfErr result (λ error. LeadToSame layout.old error.layout change) }
 {
     match layout.change(change) {
         Ok(other) => {

@@ -1,11 +1,14 @@
 -- What an edit displaced, and the states that it leads to (docs/RULES.md, "The desk").
 use Rattle.std.specs.Prelude.{◌≡◌, ◌≢◌, ◌<◌, List, length, map, All, AllPairs, Option, Some, None, option_map, IfSome}
 use Rattle.spec_text.specs.Lines.{TextState}
-use Rattle.spec_text.specs.Edits.{Displacement, restored}
+use Rattle.spec_text.specs.Edits.{Displacement, Refusal, refusal_of, replacement_of, restored}
 use Rattle.spec_text.specs.Ranges.{RangeOf}
 use Rattle.spec_labels.specs.declared.Moved.{Moved}
 use Rattle.spec_labels.specs.PageRecords.{PageRecordOf, put_back_records, taken_back}
 use Rattle.spec_state.specs.State.{State, text_of}
+use Rattle.spec_state.specs.Changes.{edited_state}
+use Rattle.sp_text.specs.declared.edit.Edit.{Edit}
+use Rattle.sp_text.specs.Changing.{edit_of}
 use Rattle.sp_text.specs.DisplacedLines.{DisplacedState, displaced_of}
 use Rattle.sp_text.specs.Gap.{LinesState}
 use Rattle.sp_reread.specs.Cache.{StanzasState, SwappedState}
@@ -99,3 +102,11 @@ pub record IsSameTextEntry (one other : TextEntryState) : Type 0 where
   pub text : IsSameText one.lines one.stanzas other.lines other.stanzas
   pub moved : one.moved ≡ other.moved
   pub raised : one.raised ≡ other.raised
+
+-- The state after an edit.
+abbrev pub edited_by : State → Edit → State
+edited_by state edit = edited_state state (replacement_of state.lines (edit_of edit))
+
+-- Why it refuses an edit.
+abbrev pub refusal_at : State → Edit → Option Refusal
+refusal_at state edit = refusal_of (text_of state) (edit_of edit)

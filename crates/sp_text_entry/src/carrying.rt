@@ -1,24 +1,17 @@
 //! Page records in an edit: they are carried, and those whose rows differ are raised.
-ghost use Rattle.std.specs.Prelude.{◌≡◌, ◌+◌, ◌≤◌, Option, List, IfOk, IfSome, OnOk, OnErr, length};
-ghost use Rattle.spec_text.specs.Edits.{restored};
+ghost use Rattle.std.specs.Prelude.{◌≡◌, ◌+◌, ◌≤◌, IfOk, OnOk, OnErr, length};
 ghost use Rattle.spec_text.specs.Limits.{size_limit};
 ghost use Rattle.spec_text.specs.Lines.{IsText};
-ghost use Rattle.spec_labels.specs.Labels.{LabelOf};
-ghost use Rattle.spec_layout.specs.Shown.{shown_rows};
-ghost use Rattle.spec_state.specs.Changes.{segment_rows};
-ghost use Rattle.spec_state.specs.Keeping.{IsWhole, state_of};
-ghost use Rattle.sp_text.specs.DisplacedLines.{displaced_of};
-ghost use Rattle.sp_text.specs.Gap.{text_of};
+ghost use Rattle.spec_state.specs.Keeping.{IsWhole};
 ghost use Rattle.sp_compare.specs.BareRows.{AreLaid};
-ghost use Rattle.sp_compare.specs.Raised.{AreSegments};
 ghost use Rattle.sp_elements.specs.Bodies.{row_count};
-ghost use Rattle.sp_relay.specs.Changes.{CanChange, with_change};
+ghost use Rattle.sp_relay.specs.Changes.{CanChange};
 ghost use Rattle.sp_relay.specs.Kept.{laid_of};
-ghost use Rattle.sp_relay.specs.Outside.{StaysOutside};
 ghost use Rattle.sp_made_parts.specs.Firsts.{IsLaidOf, first_rows};
 ghost use Rattle.sp_text_entry.specs.TextEntries.{had_by};
-ghost use Rattle.sp_text_entry.specs.Raised.{AreCarried, FitPages, put_back_in, raises_in, records_carried, records_raised, state_before};
-ghost use Rattle.sp_text_entry.specs.Relaid.{body_before, others_of};
+ghost use Rattle.sp_text_entry.specs.Raised.{AreCarried, FitPages, put_back_in, old_text, old_state, carried_by, carried_state, raised_by, LeadRecordsBack};
+ghost use Rattle.sp_text_entry.specs.Relaid.{others_of, old_body_in, both_in, KeepsOutside, HasSegments, AreRaisedIn, old_layout_in};
+ghost use Rattle.sp_made_parts.specs.States.{state_in};
 
 use sp_compare::{BothTexts, OtherRows, RunPlaces, raises};
 use sp_locks::{carry, put_back};
@@ -37,7 +30,7 @@ fn carry_pages(
     displaced: &Displaced,
 ) -> Result<Vec<Moved>, AllocError>
     requires { AreCarried lines.now.lines displaced.now.lines records.old }
-    ensures records { OnOk result (records.new ≡ records_carried (text_of lines.now) (displaced_of displaced.now) records.old) }
+    ensures records { OnOk result (records.new ≡ carried_by lines.now displaced.now records.old) }
     ensures fits { IfOk result (λ moved. FitPages records.new moved.items) }
     ensures back { IfOk result (λ moved. put_back_in moved.items records.new ≡ records.old) }
     ensures same { OnErr result (records.new ≡ records.old) }
@@ -82,13 +75,13 @@ fn both_texts<'a>(
     gone: &'a LayoutChange,
 ) -> BothTexts<'a>
     requires place { displaced.now.first + displaced.now.stands ≤ length lines.now.lines }
-    requires text { IsText (restored (text_of lines.now) (displaced_of displaced.now)) }
+    requires text { IsText (old_text lines.now displaced.now) }
     requires news { AreLaid lines.now.lines (laid_of layout.now).body }
     requires can_change { CanChange (laid_of layout.now) gone.now }
-    requires few { row_count (body_before (laid_of layout.now) gone.now).elements ≤ size_limit }
-    requires olds { AreLaid (restored (text_of lines.now) (displaced_of displaced.now)).lines (body_before (laid_of layout.now) gone.now) }
-    requires outside { StaysOutside (restored (text_of lines.now) (displaced_of displaced.now)).lines lines.now.lines (laid_of layout.now).body.elements gone.now.part.places }
-    ensures { result ≡ record { old = (restored (text_of lines.now) (displaced_of displaced.now)).lines; olds = (body_before (laid_of layout.now) gone.now).elements; new = lines.now.lines; news = (laid_of layout.now).body.elements } }
+    requires few { row_count (old_body_in layout.now gone.now).elements ≤ size_limit }
+    requires olds { AreLaid (old_text lines.now displaced.now).lines (old_body_in layout.now gone.now) }
+    requires outside { KeepsOutside lines.now displaced.now layout.now gone.now }
+    ensures { result ≡ both_in lines.now displaced.now layout.now gone.now }
 {
     let part = &gone.part;
     let places = part.places;
@@ -128,17 +121,18 @@ fn raises_among(
     layout: &KeptLayout,
     gone: &LayoutChange,
 ) -> Result<Raised, AllocError>
-    requires whole { IsWhole (state_of (text_of lines.now) records.now) }
+    requires whole { IsWhole (state_in lines.now records.now) }
     requires place { displaced.now.first + displaced.now.stands ≤ length lines.now.lines }
-    requires text { IsText (restored (text_of lines.now) (displaced_of displaced.now)) }
-    requires laid { IsLaidOf (state_of (text_of lines.now) records.now) (laid_of layout.now) }
+    requires text { IsText (old_text lines.now displaced.now) }
+    requires laid { IsLaidOf (state_in lines.now records.now) (laid_of layout.now) }
     requires can_change { CanChange (laid_of layout.now) gone.now }
-    requires few { row_count (body_before (laid_of layout.now) gone.now).elements ≤ size_limit }
-    requires olds { AreLaid (restored (text_of lines.now) (displaced_of displaced.now)).lines (body_before (laid_of layout.now) gone.now) }
-    requires outside { StaysOutside (restored (text_of lines.now) (displaced_of displaced.now)).lines lines.now.lines (laid_of layout.now).body.elements gone.now.part.places }
-    requires before { IfSome records.now.pages (λ those. AreSegments (row_count (body_before (laid_of layout.now) gone.now).elements) (length those) before.now) }
-    ensures raised { IfOk result (λ it. (labels : Option (List LabelOf)) → it.raised.items ≡ raises_in (segment_rows (shown_rows (restored (text_of lines.now) (displaced_of displaced.now)).lines labels (body_before (laid_of layout.now) gone.now).elements) before.now) (state_of (text_of lines.now) records.now) records.now.pages) }
-    ensures firsts { IfOk result (λ it. it.firsts.items ≡ first_rows (state_of (text_of lines.now) records.now)) }
+    requires few { row_count (old_body_in layout.now gone.now).elements ≤ size_limit }
+    requires olds { AreLaid (old_text lines.now displaced.now).lines (old_body_in layout.now gone.now) }
+    requires outside { KeepsOutside lines.now displaced.now layout.now gone.now }
+    requires before { HasSegments (old_body_in layout.now gone.now) records.now before.now }
+    ensures raised { IfOk result (λ it. AreRaisedIn (both_in lines.now displaced.now layout.now gone.now)
+        before.now (state_in lines.now records.now) it.raised.items) }
+    ensures firsts { IfOk result (λ it. it.firsts.items ≡ first_rows (state_in lines.now records.now)) }
 {
     let firsts = laid_firsts(alloc, lines, records, layout, before)?;
     let Some(pages) = &records.pages else {
@@ -172,19 +166,19 @@ pub(crate) fn carry_and_raise(
     gone: &LayoutChange,
 ) -> Result<Carried, AllocError>
     requires place { displaced.now.first + displaced.now.stands ≤ length lines.now.lines }
-    requires whole { IsWhole (state_before (text_of lines.now) (displaced_of displaced.now) records.old) }
-    requires carried { IsWhole (state_of (text_of lines.now) (records_carried (text_of lines.now) (displaced_of displaced.now) records.old)) }
+    requires whole { IsWhole (old_state lines.now displaced.now records.old) }
+    requires carried { IsWhole (carried_state lines.now displaced.now records.old) }
     requires can { AreCarried lines.now.lines displaced.now.lines records.old }
-    requires laid { IsLaidOf (state_of (text_of lines.now) records.old) (laid_of layout.now) }
+    requires laid { IsLaidOf (state_in lines.now records.old) (laid_of layout.now) }
     requires can_change { CanChange (laid_of layout.now) gone.now }
-    requires was { IsLaidOf (state_before (text_of lines.now) (displaced_of displaced.now) records.old) (with_change (laid_of layout.now) gone.now) }
-    requires outside { StaysOutside (restored (text_of lines.now) (displaced_of displaced.now)).lines lines.now.lines (laid_of layout.now).body.elements gone.now.part.places }
-    requires before { before.now ≡ first_rows (state_before (text_of lines.now) (displaced_of displaced.now) records.old) }
-    ensures records { OnOk result (records.new ≡ records_raised (text_of lines.now) (displaced_of displaced.now) records.old) }
+    requires was { IsLaidOf (old_state lines.now displaced.now records.old) (old_layout_in layout.now gone.now) }
+    requires outside { KeepsOutside lines.now displaced.now layout.now gone.now }
+    requires before { before.now ≡ first_rows (old_state lines.now displaced.now records.old) }
+    ensures records { OnOk result (records.new ≡ raised_by lines.now displaced.now records.old) }
     ensures raised { IfOk result (λ it. FitPages records.new it.raised.items) }
     ensures moved { IfOk result (λ it. FitPages (put_back_in it.raised.items records.new) it.moved.items) }
-    ensures back { IfOk result (λ it. put_back_in it.moved.items (put_back_in it.raised.items records.new) ≡ records.old) }
-    ensures firsts { IfOk result (λ it. it.firsts.items ≡ first_rows (state_of (text_of lines.now) records.new)) }
+    ensures back { IfOk result (λ it. LeadRecordsBack records.new it.raised.items it.moved.items records.old) }
+    ensures firsts { IfOk result (λ it. it.firsts.items ≡ first_rows (state_in lines.now records.new)) }
     ensures same { OnErr result (records.new ≡ records.old) }
 {
     let mut moved = carry_pages(alloc, records, lines, displaced)?;

@@ -1,17 +1,15 @@
 //! A layout in an edit: the part that the edit changes is laid out anew, and page records are carried and raised by it.
 ghost use Rattle.std.specs.Prelude.{◌≡◌, ◌+◌, ◌≤◌, length, IfOk, OnOk, OnErr};
-ghost use Rattle.spec_text.specs.Edits.{Replacement, restored};
-ghost use Rattle.spec_state.specs.Keeping.{IsWhole, state_of};
-ghost use Rattle.sp_text.specs.DisplacedLines.{displaced_of};
+ghost use Rattle.spec_state.specs.Keeping.{IsWhole};
 ghost use Rattle.sp_text.specs.Gap.{text_of};
 ghost use Rattle.sp_exchange.specs.Restoring.{text_stanzas};
 ghost use Rattle.sp_relay.specs.Edited.{KeepsToWindow, WasLaidOf};
 ghost use Rattle.sp_relay.specs.Changes.{CanChange, HasChangeRoom, with_change};
 ghost use Rattle.sp_relay.specs.Kept.{laid_of};
-ghost use Rattle.sp_refill.specs.Edits.{IsOfEdit};
 ghost use Rattle.sp_made_parts.specs.Firsts.{IsLaidOf, first_rows};
-ghost use Rattle.sp_text_entry.specs.Raised.{AreCarried, FitPages, put_back_in, records_carried, records_raised, state_before};
-ghost use Rattle.sp_text_entry.specs.Relaid.{IsExchangeOf, IsSomeEditOf};
+ghost use Rattle.sp_text_entry.specs.Raised.{AreCarried, FitPages, put_back_in, old_text, old_state, carried_state, raised_by, LeadRecordsBack};
+ghost use Rattle.sp_text_entry.specs.Relaid.{IsSomeEditOf, ExchangesRowsOf};
+ghost use Rattle.sp_made_parts.specs.States.{state_in};
 
 use crate::carrying::{Carried, carry_and_raise};
 use sp_records::Records;
@@ -60,23 +58,26 @@ pub(crate) fn relay_and_raise(
 ) -> Result<Relaid, AllocError>
     requires stanzas { stanzas.now.stanzas ≡ text_stanzas (text_of lines.now) }
     requires place { displaced.now.first + displaced.now.stands ≤ length lines.now.lines }
-    requires whole { IsWhole (state_before (text_of lines.now) (displaced_of displaced.now) records.old) }
-    requires carried { IsWhole (state_of (text_of lines.now) (records_carried (text_of lines.now) (displaced_of displaced.now) records.old)) }
+    requires whole { IsWhole (old_state lines.now displaced.now records.old) }
+    requires carried { IsWhole (carried_state lines.now displaced.now records.old) }
     requires can { AreCarried lines.now.lines displaced.now.lines records.old }
-    requires was { WasLaidOf (restored (text_of lines.now) (displaced_of displaced.now)) lines.now.lines stanzas.now.stanzas swapped.now (records.old).speakers (laid_of layout.old) }
-    requires edit { IsSomeEditOf (state_before (text_of lines.now) (displaced_of displaced.now) records.old) lines.now.lines stanzas.now.stanzas swapped.now }
-    requires before { before.now ≡ first_rows (state_before (text_of lines.now) (displaced_of displaced.now) records.old) }
-    ensures laid { OnOk result (IsLaidOf (state_of (text_of lines.now) records.new) (laid_of layout.new)) }
+    requires was { WasLaidOf (old_text lines.now displaced.now) lines.now.lines stanzas.now.stanzas swapped.now
+        (records.old).speakers (laid_of layout.old) }
+    requires edit { IsSomeEditOf (old_state lines.now displaced.now records.old)
+        lines.now.lines stanzas.now.stanzas swapped.now }
+    requires before { before.now ≡ first_rows (old_state lines.now displaced.now records.old) }
+    ensures laid { OnOk result (IsLaidOf (state_in lines.now records.new) (laid_of layout.new)) }
     ensures layout_back { IfOk result (λ it. with_change (laid_of layout.new) it.change ≡ laid_of layout.old) }
     ensures can_change { IfOk result (λ it. CanChange (laid_of layout.new) it.change) }
     ensures room { IfOk result (λ it. HasChangeRoom layout.new it.change) }
     ensures few { IfOk result (λ it. KeepsToWindow stanzas.now.stanzas swapped.now it.change) }
-    ensures rows { (edit : Replacement) → IsOfEdit (state_before (text_of lines.now) (displaced_of displaced.now) records.old) edit lines.now.lines stanzas.now.stanzas swapped.now → IfOk result (λ it. IsExchangeOf (state_before (text_of lines.now) (displaced_of displaced.now) records.old) edit it.rows) }
-    ensures records { OnOk result (records.new ≡ records_raised (text_of lines.now) (displaced_of displaced.now) records.old) }
+    ensures rows { IfOk result (λ it. ExchangesRowsOf (old_state lines.now displaced.now records.old)
+        lines.now.lines stanzas.now.stanzas swapped.now it.rows) }
+    ensures records { OnOk result (records.new ≡ raised_by lines.now displaced.now records.old) }
     ensures raised { IfOk result (λ it. FitPages records.new it.raised.items) }
     ensures moved { IfOk result (λ it. FitPages (put_back_in it.raised.items records.new) it.moved.items) }
-    ensures back { IfOk result (λ it. put_back_in it.moved.items (put_back_in it.raised.items records.new) ≡ records.old) }
-    ensures firsts { IfOk result (λ it. it.firsts.items ≡ first_rows (state_of (text_of lines.now) records.new)) }
+    ensures back { IfOk result (λ it. LeadRecordsBack records.new it.raised.items it.moved.items records.old) }
+    ensures firsts { IfOk result (λ it. it.firsts.items ≡ first_rows (state_in lines.now records.new)) }
     ensures same { OnErr result (records.new ≡ records.old) }
     ensures same_layout { OnErr result (laid_of layout.new ≡ laid_of layout.old) }
 {

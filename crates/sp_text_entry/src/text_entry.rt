@@ -1,20 +1,18 @@
 //! What an edit displaced.
 ghost use Rattle.std.specs.Prelude.{◌≡◌, IfOk, IfErr, IsOk, OnOk, OnErr};
-ghost use Rattle.spec_text.specs.Edits.{refusal_of, replacement_of};
-ghost use Rattle.spec_text.specs.Ranges.{range_of};
-ghost use Rattle.spec_state.specs.Changes.{edited_state};
-ghost use Rattle.spec_state.specs.Keeping.{IsWhole, state_of};
-ghost use Rattle.sp_text.specs.Changing.{Refuses, edit_of};
+ghost use Rattle.spec_state.specs.Keeping.{IsWhole};
+ghost use Rattle.sp_text.specs.Changing.{Refuses};
 ghost use Rattle.sp_text.specs.Gap.{text_of};
 ghost use Rattle.sp_exchange.specs.Reads.{IsRefused};
-ghost use Rattle.sp_exchange.specs.Restoring.{CanRestoreText, HasRoomFor, text_before, text_stanzas};
-ghost use Rattle.sp_text_entry.specs.TextEntries.{CanUndoText, CanRedoText, HasTextRoom, IsTextRedone, IsSameTextEntry, IsTextUndone, LeadsTextBack, LeadsTextForth, undone_text, redone_text, undone_lines, done_lines};
+ghost use Rattle.sp_exchange.specs.Restoring.{CanRestoreText, HasRoomFor, text_before, text_stanzas, replacement_in, range_in, refusal_in};
+ghost use Rattle.sp_text_entry.specs.TextEntries.{CanUndoText, CanRedoText, HasTextRoom, IsTextRedone, IsSameTextEntry, IsTextUndone, LeadsTextBack, LeadsTextForth, undone_text, redone_text, undone_lines, done_lines, edited_by};
 ghost use Rattle.sp_relay.specs.Changes.{CanChange, HasChangeRoom, with_change};
 ghost use Rattle.sp_relay.specs.Edited.{KeepsToWindow};
 ghost use Rattle.sp_relay.specs.Kept.{laid_of};
 ghost use Rattle.sp_made_parts.specs.Firsts.{IsLaidOf, first_rows};
 ghost use Rattle.sp_text_entry.specs.Relaid.{IsExchangeOf};
-ghost use Rattle.sp_text_entry.specs.Reads.{EditReads, EditReadsAtMost};
+ghost use Rattle.sp_text_entry.specs.Reads.{ReadsEdit, ReadsEditAtMost};
+ghost use Rattle.sp_made_parts.specs.States.{state_in};
 
 use crate::carrying::put_back_pages;
 use crate::relaying::{Relaid, relay_and_raise};
@@ -90,29 +88,32 @@ pub fn edit_entry<S: Steps>(
     edit: Edit,
     steps: &mut S,
 ) -> Result<EditedText, EditFault>
-    requires whole { IsWhole (state_of (text_of lines.old) records.old) }
+    requires whole { IsWhole (state_in lines.old records.old) }
     requires stanzas { stanzas.old.stanzas ≡ text_stanzas (text_of lines.old) }
-    requires laid { IsLaidOf (state_of (text_of lines.old) records.old) (laid_of layout.old) }
-    requires before { before.now ≡ first_rows (state_of (text_of lines.old) records.old) }
-    ensures refuses { Refuses (refusal_of (text_of lines.old) (edit_of edit)) result }
-    ensures state { OnOk result (state_of (text_of lines.new) records.new ≡ edited_state (state_of (text_of lines.old) records.old) (replacement_of lines.old.lines (edit_of edit))) }
-    ensures whole { OnOk result (IsWhole (state_of (text_of lines.new) records.new)) }
-    ensures back { IfOk result (λ it. LeadsTextBack (state_of (text_of lines.old) records.old) (state_of (text_of lines.new) records.new) it.text) }
-    ensures range { IfOk result (λ it. done_lines it.text ≡ range_of (replacement_of lines.old.lines (edit_of edit))) }
+    requires laid { IsLaidOf (state_in lines.old records.old) (laid_of layout.old) }
+    requires before { before.now ≡ first_rows (state_in lines.old records.old) }
+    ensures refuses { Refuses (refusal_in lines.old edit) result }
+    ensures state { OnOk result (state_in lines.new records.new ≡ edited_by (state_in lines.old records.old) edit) }
+    ensures whole { OnOk result (IsWhole (state_in lines.new records.new)) }
+    ensures back { IfOk result (λ it.
+        LeadsTextBack (state_in lines.old records.old) (state_in lines.new records.new) it.text) }
+    ensures range { IfOk result (λ it. done_lines it.text ≡ range_in lines.old edit) }
     ensures room { IfOk result (λ it. HasTextRoom lines.new stanzas.new it.text) }
     ensures stanzas { stanzas.new.stanzas ≡ text_stanzas (text_of lines.new) }
-    ensures laid { OnOk result (IsLaidOf (state_of (text_of lines.new) records.new) (laid_of layout.new)) }
+    ensures laid { OnOk result (IsLaidOf (state_in lines.new records.new) (laid_of layout.new)) }
     ensures layout_back { IfOk result (λ it. with_change (laid_of layout.new) it.layout ≡ laid_of layout.old) }
     ensures can_change { IfOk result (λ it. CanChange (laid_of layout.new) it.layout) }
     ensures layout_room { IfOk result (λ it. HasChangeRoom layout.new it.layout) }
     ensures few { IfOk result (λ it. KeepsToWindow (text_stanzas (text_of lines.new)) it.text.stanzas it.layout) }
-    ensures rows { IfOk result (λ it. IsExchangeOf (state_of (text_of lines.old) records.old) (replacement_of lines.old.lines (edit_of edit)) it.rows) }
-    ensures firsts { IfOk result (λ it. it.firsts.items ≡ first_rows (state_of (text_of lines.new) records.new)) }
-    ensures same { OnErr result (state_of (text_of lines.new) records.new ≡ state_of (text_of lines.old) records.old) }
+    ensures rows { IfOk result (λ it.
+        IsExchangeOf (state_in lines.old records.old) (replacement_in lines.old edit) it.rows) }
+    ensures firsts { IfOk result (λ it. it.firsts.items ≡ first_rows (state_in lines.new records.new)) }
+    ensures same { OnErr result (state_in lines.new records.new ≡ state_in lines.old records.old) }
     ensures same_layout { OnErr result (laid_of layout.new ≡ laid_of layout.old) }
-    ensures reads { OnOk result (EditReads (state_of (text_of lines.old) records.old) (replacement_of lines.old.lines (edit_of edit)) (S.reads steps.old) (S.reads steps.new)) }
-    ensures at_most { EditReadsAtMost (state_of (text_of lines.old) records.old) (replacement_of lines.old.lines (edit_of edit)) (S.reads steps.old) (S.reads steps.new) }
-    ensures unread { IsRefused (refusal_of (text_of lines.old) (edit_of edit)) → S.reads steps.new ≡ S.reads steps.old }
+    ensures reads { OnOk result (ReadsEdit (state_in lines.old records.old) edit
+        (S.reads steps.old) (S.reads steps.new)) }
+    ensures at_most { ReadsEditAtMost (state_in lines.old records.old) edit (S.reads steps.old) (S.reads steps.new) }
+    ensures unread { IsRefused (refusal_in lines.old edit) → S.reads steps.new ≡ S.reads steps.old }
     ensures fills { S.fills steps.new ≡ S.fills steps.old }
 {
     let _count = lines.len();
@@ -157,12 +158,12 @@ pub fn undo_entry(
     entry: TextEntry,
 ) -> Result<TextEntry, UnturnedText>
     requires stanzas { stanzas.old.stanzas ≡ text_stanzas (text_of lines.old) }
-    requires can { CanUndoText (state_of (text_of lines.old) records.old) entry }
-    ensures state { OnOk result (state_of (text_of lines.new) records.new ≡ undone_text (state_of (text_of lines.old) records.old) entry) }
-    ensures forth { IfOk result (LeadsTextForth (state_of (text_of lines.old) records.old) (state_of (text_of lines.new) records.new)) }
+    requires can { CanUndoText (state_in lines.old records.old) entry }
+    ensures state { OnOk result (state_in lines.new records.new ≡ undone_text (state_in lines.old records.old) entry) }
+    ensures forth { IfOk result (LeadsTextForth (state_in lines.old records.old) (state_in lines.new records.new)) }
     ensures range { IfOk result (λ it. undone_lines it ≡ done_lines entry) }
-    ensures same { OnErr result (state_of (text_of lines.new) records.new ≡ state_of (text_of lines.old) records.old) }
-    ensures entry { IfOk result (IsTextUndone (state_of (text_of lines.old) records.old) entry) }
+    ensures same { OnErr result (state_in lines.new records.new ≡ state_in lines.old records.old) }
+    ensures entry { IfOk result (IsTextUndone (state_in lines.old records.old) entry) }
     ensures handed_back { IfErr result (λ error. IsSameTextEntry error.back entry) }
     ensures stanzas { stanzas.new.stanzas ≡ text_stanzas (text_of lines.new) }
     ensures room { IfOk result (HasTextRoom lines.new stanzas.new) }
@@ -211,12 +212,12 @@ pub fn redo_entry(
     entry: TextEntry,
 ) -> Result<TextEntry, UnturnedText>
     requires stanzas { stanzas.old.stanzas ≡ text_stanzas (text_of lines.old) }
-    requires can { CanRedoText (state_of (text_of lines.old) records.old) entry }
-    ensures state { OnOk result (state_of (text_of lines.new) records.new ≡ redone_text (state_of (text_of lines.old) records.old) entry) }
-    ensures back { IfOk result (LeadsTextBack (state_of (text_of lines.old) records.old) (state_of (text_of lines.new) records.new)) }
+    requires can { CanRedoText (state_in lines.old records.old) entry }
+    ensures state { OnOk result (state_in lines.new records.new ≡ redone_text (state_in lines.old records.old) entry) }
+    ensures back { IfOk result (LeadsTextBack (state_in lines.old records.old) (state_in lines.new records.new)) }
     ensures range { IfOk result (λ it. done_lines it ≡ undone_lines entry) }
-    ensures same { OnErr result (state_of (text_of lines.new) records.new ≡ state_of (text_of lines.old) records.old) }
-    ensures entry { IfOk result (IsTextRedone (state_of (text_of lines.old) records.old) entry) }
+    ensures same { OnErr result (state_in lines.new records.new ≡ state_in lines.old records.old) }
+    ensures entry { IfOk result (IsTextRedone (state_in lines.old records.old) entry) }
     ensures handed_back { IfErr result (λ error. IsSameTextEntry error.back entry) }
     ensures stanzas { stanzas.new.stanzas ≡ text_stanzas (text_of lines.new) }
     ensures room { IfOk result (HasTextRoom lines.new stanzas.new) }

@@ -14,8 +14,10 @@ put_back-requires-clause-low c =
     (subst (λ (xs : List StanzaOf). GivesBack c.args.swapped xs (text_stanzas there)) (sym c.requires.stanzas) c.requires.can.stanzas)
 
 pub put_back_in_room-swapped-requires-clause-room : goal.put_back_in_room-swapped-requires-clause-room
-put_back_in_room-swapped-requires-clause-room c =
-    stanzas-room c.in-Ok.other c.put_back.new.self.stanzas c.args.stanzas.now.stanzas c.args.stanzas.now.room c.put_back.new.self.room c.in-Ok.ensures.out c.len-stanzas.ensures.enough c.in-Ok.ensures.room
+put_back_in_room-swapped-requires-clause-room c = record {
+  stanzas_room = stanzas-room c.in-Ok.other c.put_back.new.self.stanzas c.args.stanzas.now.stanzas c.args.stanzas.now.room c.put_back.new.self.room c.in-Ok.ensures.out c.len-stanzas.ensures.enough c.in-Ok.ensures.room;
+  swapped_room = omega (arith, c.in-Ok.ensures.out_place.1, c.in-Ok.ensures.out_room.1);
+}
 
 pub returns-in-Ok-restore-clause-room : goal.returns-in-Ok-restore-clause-room
 returns-in-Ok-restore-clause-room c =

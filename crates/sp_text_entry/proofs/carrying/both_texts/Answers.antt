@@ -7,7 +7,7 @@ use Rattle.sp_text.specs.DisplacedLines.{displaced_of}
 use Rattle.sp_text.specs.Gap.{text_of}
 use Rattle.sp_compare.specs.declared.old_rows.RunPlaces.{RunPlaces}
 use Rattle.sp_compare.specs.BareRows.{AreLaid, Both, StayOutside}
-use Rattle.sp_compare.specs.OldElements.{AreOtherRows, OtherRowsOf, elements_before}
+use Rattle.sp_compare.specs.OldElements.{AreOtherRows, OtherRowsOf, old_elements}
 use Rattle.sp_elements.specs.Bodies.{KeyedElements, keyed_elements, row_count}
 use Rattle.sp_elements.specs.Exchanges.{CanMove}
 use Rattle.sp_layout.specs.LaidOut.{LayoutOf}
@@ -31,7 +31,7 @@ abbrev run_places : PartPlaces → RunPlaces
 run_places places = record { from = places.from; to = places.to; less = places.less; more = places.more }
 
 abbrev olds_of : OfChange → KeyedElements
-olds_of it = elements_before it.body it.others (run_places it.at) it.gone
+olds_of it = old_elements it.body it.others (run_places it.at) it.gone
 
 abbrev of_change : LayoutOf → ChangeOf → OfChange
 of_change layout change = record { body = layout.body; gone = keyed_elements change.part.kept.body; at = change.part.places; others = others_of change.speech }

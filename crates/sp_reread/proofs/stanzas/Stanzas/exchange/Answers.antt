@@ -17,7 +17,7 @@ back_count c =
 facts : (c : goal.After-exchange) → PutBack c.seek_stanza.new.front.stanzas c.seek_stanza.new.back.stanzas c.args.stanzas.now.items c.exchange.new.front.stanzas c.exchange.new.back.stanzas c.exchange.new.items.items c.args.self.now.stanzas c.args.at c.args.stands
 facts c =
     put-back c.seek_stanza.new.front.stanzas c.seek_stanza.new.back.stanzas c.args.stanzas.now.items c.exchange.new.front.stanzas c.exchange.new.back.stanzas c.exchange.new.items.items c.args.self.now.stanzas c.args.at c.args.stands
-    c.exchange.ensures.exchanged (list_is c) c.seek_stanza.ensures.at (back_count c)
+    (record { put = c.exchange.ensures.put; left = c.exchange.ensures.left; count = c.exchange.ensures.count }) (list_is c) c.seek_stanza.ensures.at (back_count c)
 
 pub invariant_of-self : goal.invariant_of-self
 invariant_of-self c =
