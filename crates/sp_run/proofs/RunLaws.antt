@@ -5,6 +5,8 @@ use Rattle.std.specs.declared.alloc.Global.{Global}
 use Rattle.std.specs.declared.string.String.{String}
 use Rattle.spec_session.specs.Runs.{Counts}
 use Rattle.spec_session.specs.Sessions.{FailedNothing, streams}
+use Rattle.spec_state.specs.State.{State}
+use Rattle.spec_state.specs.Keeping.{IsWhole}
 use Rattle.spec_state.specs.Printing.{printing_of}
 use Rattle.spec_text.specs.Limits.{raw_limit}
 use Rattle.sp_kit.specs.Files.{Files}
@@ -22,11 +24,13 @@ use Rattle.sp_run.specs.RoomEnding.{HeldRoom, RoomAnsweredAll, RoomAnsweredCalml
 use Rattle.sp_run.specs.Answering.{AnswersWords, asked_in}
 use Rattle.sp_run.specs.Collating.{AnswersFate, Collated, fate_of}
 use Rattle.sp_run.specs.Ending.{AnswersSample, Ends, SampleEnds, ToldSample}
+use Rattle.sp_run.specs.Reopening.{HasSaved}
 use Rattle.sp_run.specs.World.{World}
 use Rattle.sp_opening.proofs.Held.{not-risen}
 use Rattle.sp_show.proofs.Answering.{answers-ends, answers-file}
 use Rattle.sp_desk_session.proofs.DeskAnswers.{commands-answer, desk-settles}
 use Rattle.sp_desk_session.proofs.DeskSessions.{answered-calmly, held-answered}
+use Rattle.sp_run.proofs.Reopened.{saved-reopened}
 use Rattle.sp_run.proofs.RoomSessions.{room-answered, room-calmly, room-settles}
 use Rattle.sp_run.proofs.Collations.{answers-fate}
 
@@ -140,6 +144,12 @@ module _ {I O F S : Type 0} {words : List (String Global)} {old new : World I O 
       → AnsweredAll name old.told new.told old.counts new.counts
   run-answered name is done = held-answered name old.told new.told old.counts new.counts (ended-as (desk name) statuses.Done is done)
 
+  -- It opened the state that an earlier session saved, where that stands on the shelf.
+  pub run-reopened : (name : List ℕ) (saved : State) (is : asked_in words ≡ Some (desk name)) (done : status ≡ statuses.Done) → IsWhole saved
+      → HasSaved old.told.shelf name saved → (run-answered name is done).state ≡ saved
+  run-reopened name saved is done whole stands =
+      saved-reopened old.told.shelf name saved (run-answered name is done).state whole stands (run-answered name is done).has
+
   -- Where no store failed, each save was done.
   pub run-saved : (name : List ℕ) → asked_in words ≡ Some (desk name) → status ≡ statuses.Done
       → new.told.shelf.faults ≡ old.told.shelf.faults → old.told.shelf.faults < 2 ^ 64 - 1 → AnsweredCalmly name old.told new.told
@@ -167,6 +177,12 @@ module _ {I O F S : Type 0} {words : List (String Global)} {old new : World I O 
   pub run-seats-answered : (name : List ℕ) → asked_in words ≡ Some (room name) → status ≡ statuses.Done
       → RoomAnsweredAll name old.told new.told old.counts new.counts
   run-seats-answered name is done = room-answered name old.told new.told old.counts new.counts (ended-as (room name) statuses.Done is done)
+
+  -- It opened the state that an earlier session saved, where that stands on the shelf.
+  pub run-seats-reopened : (name : List ℕ) (saved : State) (is : asked_in words ≡ Some (room name)) (done : status ≡ statuses.Done) → IsWhole saved
+      → HasSaved old.told.shelf name saved → (run-seats-answered name is done).state ≡ saved
+  run-seats-reopened name saved is done whole stands =
+      saved-reopened old.told.shelf name saved (run-seats-answered name is done).state whole stands (run-seats-answered name is done).has
 
   -- Where no store failed, each save was done.
   pub run-seats-saved : (name : List ℕ) → asked_in words ≡ Some (room name) → status ≡ statuses.Done

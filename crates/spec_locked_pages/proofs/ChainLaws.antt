@@ -16,7 +16,7 @@ use Rattle.spec_machine.proofs.WholeStates.{edit-whole}
 use Rattle.spec_relayout.proofs.WindowExists.{window-exists}
 use Rattle.spec_locked_pages.specs.Segments.{IsLockedPage}
 use Rattle.spec_locked_pages.specs.LockedPages.{LeavesAlone, StaysLocked, KeepsLockedPage}
-use Rattle.spec_locked_pages.specs.Chains.{IsEditOf, LeadTo, LeadFrom, AreLinked, first_state, AllLeaveAlone, KeepsAlong}
+use Rattle.spec_locked_pages.specs.Chains.{IsEditOf, LeadTo, LeadFrom, AreLinked, eldest, first_state, AllLeaveAlone, KeepsAlong}
 use Rattle.spec_locked_pages.proofs.LockedPage.{window-locked}
 
 -- ---- one edit
@@ -69,6 +69,17 @@ lead-more : (entries : List EntryOf) (entry : EntryOf) (now : State) → LeadTo 
 lead-more [] entry now lead made = made
 lead-more (one ∷ []) entry now lead made = (lead, made)
 lead-more (one ∷ next ∷ later) entry now lead made = (lead.0, lead-more (next ∷ later) entry now lead.1 made)
+
+-- Entries that lead to the first state of others.
+pub first-join : (earlier later : List EntryOf) (now : State) → first_state (earlier ++ later) now ≡ first_state earlier (first_state later now)
+first-join [] later now = refl
+first-join (entry ∷ earlier) later now = refl
+
+pub lead-join : (earlier later : List EntryOf) (now : State) → LeadTo earlier (first_state later now) → LeadTo later now → LeadTo (earlier ++ later) now
+lead-join [] later now lead more = more
+lead-join (entry ∷ []) [] now lead more = lead
+lead-join (entry ∷ []) (next ∷ later) now lead more = (lead, more)
+lead-join (entry ∷ next ∷ earlier) later now lead more = (lead.0, lead-join (next ∷ earlier) later now lead.1 more)
 
 -- And one less.
 lead-less : (entries : List EntryOf) (entry : EntryOf) (now : State) → LeadTo (entries ++ entry ∷ []) now → LeadTo entries entry.state × IsEditOf entry.range entry.state now
@@ -161,6 +172,13 @@ first-whole memory (suc k) (entry ∷ entries) whole all = first-whole memory k 
 pub memory-keeps : (memory : Memory) (i k : ℕ) → IsWholeMemory memory → AreLinked memory → KeepsAlong i (drop k memory.done) memory.state
 memory-keeps memory i k whole linked =
     chain-keeps i (drop k memory.done) memory.state (first-whole memory k memory.done whole.state whole.done) (lead-drop k memory.done memory.state linked.done)
+
+-- From each state on that leads to the first of these.
+pub earlier-keep : (memory : Memory) (i : ℕ) (entries : List EntryOf) → AreLinked memory → LeadTo entries (eldest memory) → IsWhole (first_state entries (eldest memory))
+    → KeepsAlong i (entries ++ memory.done) memory.state
+earlier-keep memory i entries linked lead whole =
+    chain-keeps i (entries ++ memory.done) memory.state (subst IsWhole (sym (first-join entries memory.done memory.state)) whole)
+    (lead-join entries memory.done memory.state lead linked.done)
 
 -- What an accepted edit does to locked pages.
 pub step-locked : (memory : Memory) (it : EditOf) (i : ℕ) → IsWholeMemory memory → Accepts memory (edit it)

@@ -8,7 +8,7 @@ use Rattle.spec_machine.specs.KeptMemories.{IsWholeMemory}
 use Rattle.spec_machine.proofs.MachineLaws.{opened-whole, steps-whole}
 use Rattle.spec_locked_pages.specs.Chains.{AreLinked}
 use Rattle.spec_locked_pages.specs.Promises.{KeepsPages, ArePageLaws}
-use Rattle.spec_locked_pages.proofs.ChainLaws.{stays-same, step-locked, memory-keeps, opened-linked, steps-linked}
+use Rattle.spec_locked_pages.proofs.ChainLaws.{stays-same, step-locked, memory-keeps, earlier-keep, opened-linked, steps-linked}
 use Rattle.spec_locked_pages.proofs.OpeningLaws.{lock-keeps, round-keeps}
 
 -- An accepted command keeps locked pages.
@@ -25,8 +25,9 @@ pub page-laws : (memory : Memory) → IsWholeMemory memory → AreLinked memory 
 page-laws memory whole linked = record {
   command = λ it can. command-keeps memory it whole can;
   chain = λ i k. memory-keeps memory i k whole linked;
-  lock = λ commands i can are all. lock-keeps memory commands i whole can are all;
-  round = λ commands i can are all. round-keeps memory commands i whole can are all;
+  earlier = λ i entries lead first. earlier-keep memory i entries linked lead first;
+  lock = λ sessions i can go. lock-keeps memory sessions i whole can go;
+  round = λ sessions i can go. round-keeps memory sessions i whole can go;
 }
 
 -- Over every list of accepted commands from a whole state on.

@@ -1,4 +1,5 @@
 pub mod Machine
+pub mod Sessions
 pub mod KeptMemories
 pub mod LabelPromises
 pub mod SheetPromises
