@@ -5,9 +5,9 @@ use Rattle.spec_text.specs.Ranges.{range_of}
 use Rattle.spec_wire.specs.Commands.{CommandOf, edit, undo}
 use Rattle.spec_state.specs.State.{State}
 use Rattle.spec_state.specs.Keeping.{IsWhole}
-use Rattle.spec_machine.specs.Machine.{Memory, AcceptsAll, edited_memory, entry_of, memory_after, memory_behind, opened_memory, undone_to}
+use Rattle.spec_machine.specs.Machine.{Memory, edited_memory, entry_of, memory_after, memory_behind, opened_memory, undone_to}
 use Rattle.spec_machine.specs.KeptMemories.{IsWholeMemory}
-use Rattle.spec_machine.specs.Sessions.{AcceptsSessions, LeadsOn, session_behind, sessions_behind}
+use Rattle.spec_machine.specs.Sessions.{AcceptsAll, AcceptsSessions, LeadsOn, session_behind, sessions_behind}
 use Rattle.spec_machine.proofs.MachineLaws.{all-stay, lost-on, opened-whole, steps-whole, steps-lost}
 use Rattle.spec_machine.proofs.LabelLaw.{state-labelled}
 use Rattle.spec_machine.proofs.DeskLaws.{locking-stays, beginning-stays}

@@ -1,10 +1,11 @@
 -- What is promised of the memories that accepted commands lead to (docs/RULES.md, "The desk").
-use Rattle.std.specs.Prelude.{◌≡◌, ℕ, ◌≤◌, List, Some, slice_get}
+use Rattle.std.specs.Prelude.{◌≡◌, ℕ, ◌≤◌, List, Some, None, slice_get}
 use Rattle.spec_text.specs.Edits.{EditOf}
 use Rattle.spec_wire.specs.Commands.{edit, undo, lock_pages, next_round}
 use Rattle.spec_state.specs.State.{State}
 use Rattle.spec_state.specs.StateSheets.{bytes_of_state}
-use Rattle.spec_machine.specs.Machine.{Memory, Accepts, memory_after, opened_memory}
+use Rattle.spec_machine.specs.Machine.{Memory, memory_after, opened_memory}
+use Rattle.spec_machine.specs.Refusals.{refusal_to}
 use Rattle.spec_machine.specs.KeptMemories.{IsWholeMemory}
 use Rattle.spec_machine.specs.LabelPromises.{AreLabelled, LosesNone}
 use Rattle.spec_machine.specs.Sessions.{LeadsOn}
@@ -21,7 +22,7 @@ pub record KeepsPromises (earlier now : Memory) : Type 0 where
   pub linked : AreLinked now
   pub labels : AreLabelled now.state
   pub lost : LosesNone earlier.state now.state
-  pub lock : Accepts now lock_pages → bytes_of_state (memory_after now lock_pages).state ≡ bytes_of_state now.state
+  pub lock : refusal_to now lock_pages ≡ None → bytes_of_state (memory_after now lock_pages).state ≡ bytes_of_state now.state
   pub round : bytes_of_state (memory_after now next_round).state ≡ bytes_of_state now.state
   pub undo : (it : EditOf) → (memory_after (memory_after now (edit it)) undo).state ≡ now.state
   pub pages : ArePageLaws now

@@ -9,9 +9,11 @@ use Rattle.spec_state.specs.State.{State}
 use Rattle.spec_state.specs.Keeping.{IsWhole}
 use Rattle.spec_state.specs.Changes.{edited_state, CanEdit}
 use Rattle.spec_wire.specs.Commands.{CommandOf, edit, undo, redo, lock_scenes, lock_pages, next_round, speakers, paper}
-use Rattle.spec_machine.specs.Machine.{EntryOf, Memory, opened_memory, last_entry, without_last, entry_of, undone_to, redone_to, memory_after, Accepts, AcceptsAll, memory_behind}
+use Rattle.spec_machine.specs.Machine.{EntryOf, Memory, opened_memory, last_entry, without_last, entry_of, undone_to, redone_to, memory_after, CanDo, memory_behind}
+use Rattle.spec_machine.specs.Sessions.{AcceptsAll}
 use Rattle.spec_machine.specs.KeptMemories.{IsEntry, IsWholeMemory}
 use Rattle.spec_machine.proofs.MachineLaws.{taken-edit}
+use Rattle.spec_machine.proofs.RefusalLaws.{accepted-can}
 use Rattle.spec_machine.proofs.WholeStates.{edit-whole}
 use Rattle.spec_relayout.proofs.WindowExists.{window-exists}
 use Rattle.spec_locked_pages.specs.Segments.{IsLockedPage}
@@ -146,7 +148,7 @@ redo-linked memory some linked =
     (record { done = lead-more memory.done (entry_of memory.state entry.range) entry.state linked.done both.1; undone = both.0 })
 
 -- Every accepted command keeps entries linked.
-pub step-linked : (memory : Memory) (command : CommandOf) → AreLinked memory → Accepts memory command → AreLinked (memory_after memory command)
+pub step-linked : (memory : Memory) (command : CommandOf) → AreLinked memory → CanDo memory command → AreLinked (memory_after memory command)
 step-linked memory (edit it) linked can = edit-linked memory (replacement_of memory.state.lines it) (taken-edit memory.state it can) linked
 step-linked memory undo linked can = undo-linked memory can linked
 step-linked memory redo linked can = redo-linked memory can linked
@@ -159,7 +161,7 @@ step-linked memory _ linked can = linked
 
 pub steps-linked : (memory : Memory) (commands : List CommandOf) → AreLinked memory → AcceptsAll memory commands → AreLinked (memory_behind memory commands)
 steps-linked memory [] linked all = linked
-steps-linked memory (command ∷ commands) linked all = steps-linked (memory_after memory command) commands (step-linked memory command linked all.0) all.1
+steps-linked memory (command ∷ commands) linked all = steps-linked (memory_after memory command) commands (step-linked memory command linked (accepted-can memory command all.0)) all.1
 
 -- The first of some entries is whole.
 first-whole : (memory : Memory) (k : ℕ) (entries : List EntryOf) → IsWhole memory.state → All (IsEntry memory.state) entries → IsWhole (first_state (drop k entries) memory.state)
@@ -181,6 +183,6 @@ earlier-keep memory i entries linked lead whole =
     (lead-join entries memory.done memory.state lead linked.done)
 
 -- What an accepted edit does to locked pages.
-pub step-locked : (memory : Memory) (it : EditOf) (i : ℕ) → IsWholeMemory memory → Accepts memory (edit it)
+pub step-locked : (memory : Memory) (it : EditOf) (i : ℕ) → IsWholeMemory memory → CanDo memory (edit it)
     → KeepsLockedPage (range_of (replacement_of memory.state.lines it)) memory.state (memory_after memory (edit it)).state i
 step-locked memory it i whole can = edit-locked memory.state (replacement_of memory.state.lines it) i whole.state (taken-edit memory.state it can)

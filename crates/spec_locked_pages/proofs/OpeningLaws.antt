@@ -29,11 +29,13 @@ use Rattle.spec_state.specs.SoundStates.{AreLocked, IsSound}
 use Rattle.spec_state.proofs.StateKeys.{state-keys}
 use Rattle.spec_state.proofs.StateLaws.{whole-kept, whole-sound}
 use Rattle.spec_wire.specs.Commands.{CommandOf, edit, undo, redo, lock_scenes, lock_pages, next_round, speakers, paper}
-use Rattle.spec_machine.specs.Machine.{EntryOf, Memory, opened_memory, without_last, entry_of, undone_to, redone_to, memory_after, Accepts, AcceptsAll, memory_behind, CanLockPages, CanBegin}
+use Rattle.spec_machine.specs.Machine.{EntryOf, Memory, opened_memory, without_last, entry_of, undone_to, redone_to, memory_after, CanDo, memory_behind, CanLockPages, CanBegin}
+use Rattle.spec_machine.specs.Refusals.{refusal_to}
 use Rattle.spec_machine.specs.KeptMemories.{IsWholeMemory}
-use Rattle.spec_machine.specs.Sessions.{AcceptsSessions, session_behind, session_entries, sessions_behind}
+use Rattle.spec_machine.specs.Sessions.{AcceptsAll, AcceptsSessions, session_behind, session_entries, sessions_behind}
 use Rattle.spec_machine.proofs.DeskLaws.{opening-found}
 use Rattle.spec_machine.proofs.MachineLaws.{steps-whole, opened-whole}
+use Rattle.spec_machine.proofs.RefusalLaws.{accepted-can, free-pages, free-round}
 use Rattle.spec_machine.proofs.WholeStates.{lock_pages-whole, round-whole}
 use Rattle.spec_rounds.proofs.SinglePages.{IsSingle}
 use Rattle.spec_rounds.proofs.OpeningLaw.{round-rows, lock-rows, rows-stay}
@@ -259,7 +261,7 @@ first-more [] entry now = refl
 first-more (one ∷ entries) entry now = refl
 
 -- Steps leave the first state.
-step-first : (memory : Memory) (command : CommandOf) → IsStep command → Accepts memory command
+step-first : (memory : Memory) (command : CommandOf) → IsStep command → CanDo memory command
     → first_state (memory_after memory command).done (memory_after memory command).state ≡ first_state memory.done memory.state
 step-first memory (edit it) is can = first-more memory.done (entry_of memory.state _) _
 step-first memory undo is can =
@@ -282,7 +284,7 @@ steps-first : (memory : Memory) (commands : List CommandOf) → AreSteps command
     → first_state (memory_behind memory commands).done (memory_behind memory commands).state ≡ first_state memory.done memory.state
 steps-first memory [] are all = refl
 steps-first memory (command ∷ commands) are all =
-    steps-first (memory_after memory command) commands (All-tail IsStep command commands are) all.1 ∙ step-first memory command (All-head IsStep command commands are) all.0
+    steps-first (memory_after memory command) commands (All-tail IsStep command commands are) all.1 ∙ step-first memory command (All-head IsStep command commands are) (accepted-can memory command all.0)
 
 -- The entries of sessions lead from the state that the first of them opened.
 pub record SessionsLead (memory : Memory) (sessions : List (List CommandOf)) : Type 0 where
@@ -335,12 +337,14 @@ opened-keeps memory sessions i whole opened go =
     length-bytes s = length-map (sheets_at s i) _
 
 -- From an accepted lock of pages on, and from a round on.
-pub lock-keeps : (memory : Memory) (sessions : List (List CommandOf)) (i : ℕ) → IsWholeMemory memory → Accepts memory lock_pages → GoOn (memory_after memory lock_pages) sessions
+pub lock-keeps : (memory : Memory) (sessions : List (List CommandOf)) (i : ℕ) → IsWholeMemory memory → refusal_to memory lock_pages ≡ None → GoOn (memory_after memory lock_pages) sessions
     → KeepsOpened (memory_after memory lock_pages) sessions i
-lock-keeps memory sessions i whole can go =
+lock-keeps memory sessions i whole free go =
+    let can = free-pages memory.state free in
     opened-keeps (memory_after memory lock_pages) sessions i (lock_pages-whole memory.state whole.state can) (lock-opened memory.state whole.state can) go
 
-pub round-keeps : (memory : Memory) (sessions : List (List CommandOf)) (i : ℕ) → IsWholeMemory memory → Accepts memory next_round → GoOn (memory_after memory next_round) sessions
+pub round-keeps : (memory : Memory) (sessions : List (List CommandOf)) (i : ℕ) → IsWholeMemory memory → refusal_to memory next_round ≡ None → GoOn (memory_after memory next_round) sessions
     → KeepsOpened (memory_after memory next_round) sessions i
-round-keeps memory sessions i whole can go =
+round-keeps memory sessions i whole free go =
+    let can = free-round memory.state free in
     opened-keeps (memory_after memory next_round) sessions i (round-whole memory.state whole.state can) (round-opened memory.state whole.state can) go

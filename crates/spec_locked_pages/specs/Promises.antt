@@ -1,11 +1,13 @@
 -- What is promised of locked pages (docs/RULES.md, "Windows").
-use Rattle.std.specs.Prelude.{ℕ, List, ◌++◌, drop}
+use Rattle.std.specs.Prelude.{◌≡◌, ℕ, None, List, ◌++◌, drop}
 use Rattle.spec_text.specs.Edits.{replacement_of}
 use Rattle.spec_text.specs.Ranges.{range_of}
 use Rattle.spec_state.specs.State.{State}
 use Rattle.spec_state.specs.Keeping.{IsWhole}
 use Rattle.spec_wire.specs.Commands.{CommandOf, edit, lock_pages, next_round}
-use Rattle.spec_machine.specs.Machine.{EntryOf, Memory, memory_after, Accepts}
+use Rattle.spec_machine.specs.Machine.{EntryOf, Memory, memory_after}
+use Rattle.spec_machine.specs.Refusals.{refusal_to}
+use Rattle.spec_machine.specs.Sessions.{Accepts}
 use Rattle.spec_locked_pages.specs.LockedPages.{KeepsLockedPage}
 use Rattle.spec_locked_pages.specs.Chains.{LeadTo, GoOn, KeepsAlong, KeepsOpened, eldest, first_state}
 
@@ -22,7 +24,7 @@ pub record ArePageLaws (memory : Memory) : Type 0 where
   pub chain : (i k : ℕ) → KeepsAlong i (drop k memory.done) memory.state
   pub earlier : (i : ℕ) (entries : List EntryOf) → LeadTo entries (eldest memory) → IsWhole (first_state entries (eldest memory))
       → KeepsAlong i (entries ++ memory.done) memory.state
-  pub lock : (sessions : List (List CommandOf)) (i : ℕ) → Accepts memory lock_pages → GoOn (memory_after memory lock_pages) sessions
+  pub lock : (sessions : List (List CommandOf)) (i : ℕ) → refusal_to memory lock_pages ≡ None → GoOn (memory_after memory lock_pages) sessions
       → KeepsOpened (memory_after memory lock_pages) sessions i
-  pub round : (sessions : List (List CommandOf)) (i : ℕ) → Accepts memory next_round → GoOn (memory_after memory next_round) sessions
+  pub round : (sessions : List (List CommandOf)) (i : ℕ) → refusal_to memory next_round ≡ None → GoOn (memory_after memory next_round) sessions
       → KeepsOpened (memory_after memory next_round) sessions i

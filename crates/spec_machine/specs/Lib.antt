@@ -1,9 +1,9 @@
 pub mod Machine
-pub mod Sessions
 pub mod KeptMemories
 pub mod LabelPromises
 pub mod SheetPromises
 pub mod Refusals
+pub mod Sessions
 pub mod Blocks
 pub mod Outlines
 pub mod Answers

@@ -8,9 +8,11 @@ use Rattle.spec_state.proofs.StateLaws.{state-AreKeptPages}
 use Rattle.spec_collation.specs.BytesCollated.{collated_bytes, collating}
 use Rattle.spec_state.specs.Openings.{pages_extended}
 use Rattle.spec_wire.specs.Commands.{CommandOf, lock_pages, next_round}
-use Rattle.spec_machine.specs.Machine.{EntryOf, Memory, Accepts, memory_after}
+use Rattle.spec_machine.specs.Machine.{EntryOf, Memory, memory_after}
+use Rattle.spec_machine.specs.Refusals.{refusal_to}
 use Rattle.spec_machine.specs.KeptMemories.{IsWholeMemory}
 use Rattle.spec_machine.specs.Sessions.{session_entries, sessions_behind}
+use Rattle.spec_machine.proofs.RefusalLaws.{free-pages, free-round}
 use Rattle.spec_machine.proofs.WholeStates.{lock_pages-whole, round-whole}
 use Rattle.spec_locked_pages.specs.Chains.{AreLinked, LeadTo, GoOn, IsOpened, eldest, first_state}
 use Rattle.spec_locked_pages.proofs.ChainLaws.{first-join, lead-join}
@@ -60,15 +62,16 @@ sessions-bring memory sessions begun go =
     (entries-bring (session_entries memory sessions) (sessions_behind memory sessions).state (subst HasOpenPages (sym lead.first) begun) lead.whole lead.leads)
 
 -- What a lock of pages leaves is open, and what a round on locked pages leaves.
-pub lock-open : (memory : Memory) → IsWholeMemory memory → Accepts memory lock_pages → HasOpenPages (memory_after memory lock_pages).state
-lock-open memory whole can =
+pub lock-open : (memory : Memory) → IsWholeMemory memory → refusal_to memory lock_pages ≡ None → HasOpenPages (memory_after memory lock_pages).state
+lock-open memory whole free =
+    let can = free-pages memory.state free in
     record { whole = lock_pages-whole memory.state whole.state can; locked = refl; opened = lock-opened memory.state whole.state can }
 
-pub round-open : (memory : Memory) → IsWholeMemory memory → is_some memory.state.pages ≡ true → Accepts memory next_round → HasOpenPages (memory_after memory next_round).state
-round-open memory whole locked can = record {
-  whole = round-whole memory.state whole.state can;
+pub round-open : (memory : Memory) → IsWholeMemory memory → is_some memory.state.pages ≡ true → refusal_to memory next_round ≡ None → HasOpenPages (memory_after memory next_round).state
+round-open memory whole locked free = record {
+  whole = round-whole memory.state whole.state (free-round memory.state free);
   locked = by memory.state.pages locked;
-  opened = round-opened memory.state whole.state can;
+  opened = round-opened memory.state whole.state (free-round memory.state free);
 }
   where
     by : (pages : Option (List PageRecordOf)) → is_some pages ≡ true → is_some (pages_extended memory.state pages) ≡ true
@@ -77,9 +80,9 @@ round-open memory whole locked can = record {
 
 pub packet-laws : (memory : Memory) → IsWholeMemory memory → AreLinked memory → ArePacketLaws memory
 packet-laws memory whole linked = record {
-  lock = λ can. lock-opened memory.state whole.state can;
-  round = λ can. round-opened memory.state whole.state can;
+  lock = λ free. lock-opened memory.state whole.state (free-pages memory.state free);
+  round = λ free. round-opened memory.state whole.state (free-round memory.state free);
   packet = λ earlier lead begun. packet-brings memory earlier whole linked lead begun;
-  since_lock = λ sessions can go. sessions-bring (memory_after memory lock_pages) sessions (lock-open memory whole can) go;
-  since_round = λ sessions locked can go. sessions-bring (memory_after memory next_round) sessions (round-open memory whole locked can) go;
+  since_lock = λ sessions free go. sessions-bring (memory_after memory lock_pages) sessions (lock-open memory whole free) go;
+  since_round = λ sessions locked free go. sessions-bring (memory_after memory next_round) sessions (round-open memory whole locked free) go;
 }
