@@ -7,3 +7,4 @@ pub mod MachineLaws
 pub mod LabelLaw
 pub mod DeskLaws
 pub mod StepLaws
+pub mod SessionLaws
