@@ -63,8 +63,8 @@ class Memo:
         self.handed = self.sheets_to_hand_out()
 
     def sheets_to_hand_out(self):
-        """Those of the packet. That these bring the old ones up to date is proved where a round is edited in one session; so any other that
-        isn't as it was goes with them."""
+        """Those of the packet. That these bring the old ones up to date is proved where each session opens what the one before saved; any
+        other that isn't as it was goes with them."""
         changed = (at for at, sheet in enumerate(self.sheets.all) if self.old_sheets and self.is_new(sheet))
         return [self.sheets.all[at] for at in sorted({*self.sheets.packet, *changed})]
 

@@ -17,12 +17,12 @@ use Rattle.spec_print.specs.Sheets.{Sheet}
 use Rattle.spec_wire.specs.Commands.{CommandOf, edit, undo, redo, lock_scenes, lock_pages, next_round, sheet}
 use Rattle.spec_wire.specs.Replies as replies
 use Rattle.spec_wire.specs.Replies.{RefusalOf, refused, nothing_to_undo, nothing_to_redo, no_sheet}
-use Rattle.spec_machine.specs.Machine.{EntryOf, Memory, opened_memory, last_entry, without_last, entry_of, edited_memory, undone_to, redone_to, memory_after, Accepts}
+use Rattle.spec_machine.specs.Machine.{EntryOf, Memory, opened_memory, last_entry, without_last, entry_of, edited_memory, undone_to, redone_to, memory_after, CanDo}
 use Rattle.spec_machine.specs.KeptMemories.{IsEntry, IsWholeMemory}
 use Rattle.spec_machine.specs.Refusals.{refusal_to, edit_refusal, reason_if, scenes_refusal, pages_refusal, round_refusal}
 use Rattle.spec_machine.specs.Answers.{Step, step_by, step_of, accepted_reply, found_sheet, sheet_reply}
 use Rattle.spec_machine.proofs.MachineLaws.{step-whole}
-use Rattle.spec_machine.proofs.StepLaws.{Keeps, free-Accepts, same-Keeps, step-Keeps}
+use Rattle.spec_machine.proofs.StepLaws.{Keeps, free-CanDo, same-Keeps, step-Keeps}
 use Rattle.spec_locked_pages.specs.Chains.{AreLinked}
 use Rattle.spec_locked_pages.specs.Promises.{KeepsPages}
 use Rattle.spec_locked_pages.proofs.ChainLaws.{step-linked}
@@ -270,7 +270,7 @@ redo-back old new done undone front dones undones entry back desk last is can th
 
 -- They empty both lists.
 opening-step : (old new : State) (done undone : List EntryState) (command : CommandOf) → IsDesk old done undone → refusal_to (memory_by old done undone) command ≡ None
-    → Accepts (memory_by old done undone) command → opened_memory new ≡ memory_after (memory_by old done undone) command → IsStep (memory_by old done undone) command new [] []
+    → CanDo (memory_by old done undone) command → opened_memory new ≡ memory_after (memory_by old done undone) command → IsStep (memory_by old done undone) command new [] []
 opening-step old new done undone command desk free can same =
     let memory = memory_by old done undone in
     record {
@@ -344,7 +344,7 @@ step-pages old new command step whole after is there = by (refusal_to old comman
     by : (refusal : Option RefusalOf) → refusal_to old command ≡ refusal → step ≡ step_by old command refusal → KeepsPages old command new.state
     by None free same =
         let e : new ≡ memory_after old command = cc (there, ap (λ (s : Step). s.after) same) in
-        subst (λ (m : Memory). KeepsPages old command m.state) (sym e) (command-keeps old command whole (free-Accepts old command (subst IsWholeMemory e after) free))
+        subst (λ (m : Memory). KeepsPages old command m.state) (sym e) (command-keeps old command whole (free-CanDo old command (subst IsWholeMemory e after) free))
     by (Some reason) free same = let e : new ≡ old = cc (there, ap (λ (s : Step). s.after) same) in same-pages old new command e
 
 -- Every answer keeps the locked pages that it leaves alone.

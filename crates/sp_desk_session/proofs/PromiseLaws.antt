@@ -1,12 +1,13 @@
 -- What is promised of the memories that accepted commands lead to.
-use Rattle.std.proofs.Common.{◌≡◌, List, ap}
+use Rattle.std.proofs.Common.{◌≡◌, List, [], ◌∷◌, sym, ap, subst}
 use Rattle.spec_text.specs.Edits.{EditOf, replacement_of}
 use Rattle.spec_text.specs.Ranges.{range_of}
 use Rattle.spec_wire.specs.Commands.{CommandOf, edit, undo}
 use Rattle.spec_state.specs.State.{State}
 use Rattle.spec_state.specs.Keeping.{IsWhole}
-use Rattle.spec_machine.specs.Machine.{Memory, AcceptsAll, edited_memory, entry_of, memory_after, memory_behind, opened_memory, undone_to}
+use Rattle.spec_machine.specs.Machine.{Memory, edited_memory, entry_of, memory_after, memory_behind, opened_memory, undone_to}
 use Rattle.spec_machine.specs.KeptMemories.{IsWholeMemory}
+use Rattle.spec_machine.specs.Sessions.{AcceptsAll, AcceptsSessions, LeadsOn, session_behind, sessions_behind}
 use Rattle.spec_machine.proofs.MachineLaws.{all-stay, lost-on, opened-whole, steps-whole, steps-lost}
 use Rattle.spec_machine.proofs.LabelLaw.{state-labelled}
 use Rattle.spec_machine.proofs.DeskLaws.{locking-stays, beginning-stays}
@@ -28,6 +29,7 @@ edit-undone memory it =
 pub follows-promised : (earlier now : Memory) → Follows earlier now → KeepsPromises earlier now
 follows-promised earlier now it = record {
   whole = it.whole;
+  linked = it.linked;
   labels = state-labelled now.state (it.whole).state;
   lost = it.lost;
   lock = locking-stays now (it.whole).state;
@@ -48,11 +50,30 @@ commands-follow : (earlier : Memory) (later : List CommandOf) → IsWholeMemory 
 commands-follow earlier later whole linked can =
     record { whole = steps-whole earlier later whole can; linked = steps-linked earlier later linked can; lost = steps-lost earlier later whole can }
 
+-- A session follows the memory whose state it opens, and so do sessions one after another.
+session-follows : (earlier : Memory) (commands : List CommandOf) → IsWholeMemory earlier → AcceptsAll (opened_memory earlier.state) commands → Follows earlier (session_behind earlier commands)
+session-follows earlier commands whole can =
+    let opened = opened_memory earlier.state in
+    let are = commands-follow opened commands (opened-whole earlier.state whole.state) (opened-linked earlier.state) can in
+    record { whole = are.whole; linked = are.linked; lost = are.lost }
+
+sessions-follow : (earlier : Memory) (sessions : List (List CommandOf)) → IsWholeMemory earlier → AreLinked earlier → AcceptsSessions earlier sessions → Follows earlier (sessions_behind earlier sessions)
+sessions-follow earlier [] whole linked can = follows-itself earlier whole linked
+sessions-follow earlier (commands ∷ later) whole linked can =
+    let now = session_behind earlier commands in
+    let here = session-follows earlier commands whole can.0 in
+    follows-on earlier now (sessions_behind now later) here (sessions-follow now later here.whole here.linked can.1)
+
+leads-follow : (earlier now : Memory) → IsWholeMemory earlier → AreLinked earlier → LeadsOn earlier now → Follows earlier now
+leads-follow earlier now whole linked lead =
+    let memory = memory_behind earlier lead.commands in
+    let here = commands-follow earlier lead.commands whole linked lead.taken in
+    subst (Follows earlier) (sym lead.is)
+    (follows-on earlier memory (sessions_behind memory lead.sessions) here (sessions-follow memory lead.sessions here.whole here.linked lead.accepted))
+
 pub promises_kept : (state : State) → IsWhole state → IsPromised state
 promises_kept state whole = record {
-  kept = λ first later can more.
-      let opened = opened_memory state in
-      let memory = memory_behind opened first in
-      let are = commands-follow opened first (opened-whole state whole) (opened-linked state) can in
-      follows-promised memory (memory_behind memory later) (commands-follow memory later are.whole are.linked more);
+  kept = λ earlier now first later.
+      let are = leads-follow (opened_memory state) earlier (opened-whole state whole) (opened-linked state) first in
+      follows-promised earlier now (leads-follow earlier now are.whole are.linked later);
 }

@@ -1,10 +1,16 @@
 -- What a run did, by what it did for its words: what follows of the contract of `run` (docs/RULES.md, "The program").
-use Rattle.std.proofs.Common.{◌≡◌, ℕ, ◌+◌, ◌-◌, ◌^◌, ◌<◌, List, Some, None, ◌↔◌, refl, subst}
+use Rattle.std.proofs.Common.{◌≡◌, ℕ, ◌+◌, ◌-◌, ◌^◌, ◌<◌, List, [], ◌∷◌, Some, None, slice_get, ◌↔◌, refl, subst}
 use Rattle.std.specs.declared.option.Option.{Option}
 use Rattle.std.specs.declared.alloc.Global.{Global}
 use Rattle.std.specs.declared.string.String.{String}
+use Rattle.spec_machine.specs.Machine.{Memory, opened_memory}
+use Rattle.spec_machine.specs.Sessions.{LeadsOn}
+use Rattle.spec_room.specs.Rooms.{opened_room}
+use Rattle.spec_session.specs.CommandLines.{command_lines}
 use Rattle.spec_session.specs.Runs.{Counts}
 use Rattle.spec_session.specs.Sessions.{FailedNothing, streams}
+use Rattle.spec_state.specs.State.{State}
+use Rattle.spec_state.specs.Keeping.{IsWhole}
 use Rattle.spec_state.specs.Printing.{printing_of}
 use Rattle.spec_text.specs.Limits.{raw_limit}
 use Rattle.sp_kit.specs.Files.{Files}
@@ -18,15 +24,21 @@ use Rattle.sp_opening.specs.Unopened.{Outside, ReadFailed, FetchFailed, ReadsUpT
 use Rattle.sp_show.specs.Showing.{Shown, PartShown, Answers, AnswersFile}
 use Rattle.sp_show.specs.ShowCounted.{ShowCounts}
 use Rattle.sp_desk_session.specs.DeskEnding.{AnsweredAll, AnsweredCalmly, AnswersDesk, HeldSession}
+use Rattle.sp_desk_session.specs.DeskLines.{desk_at, desk_itself, memories_of}
+use Rattle.sp_run.specs.RoomLines.{AnswersRoomLine, desk_in, room_at}
 use Rattle.sp_run.specs.RoomEnding.{HeldRoom, RoomAnsweredAll, RoomAnsweredCalmly}
 use Rattle.sp_run.specs.Answering.{AnswersWords, asked_in}
 use Rattle.sp_run.specs.Collating.{AnswersFate, Collated, fate_of}
 use Rattle.sp_run.specs.Ending.{AnswersSample, Ends, SampleEnds, ToldSample}
+use Rattle.sp_run.specs.Reopening.{HasSaved}
 use Rattle.sp_run.specs.World.{World}
+use Rattle.spec_machine.proofs.SessionLaws.{reopened-leads}
 use Rattle.sp_opening.proofs.Held.{not-risen}
 use Rattle.sp_show.proofs.Answering.{answers-ends, answers-file}
 use Rattle.sp_desk_session.proofs.DeskAnswers.{commands-answer, desk-settles}
 use Rattle.sp_desk_session.proofs.DeskSessions.{answered-calmly, held-answered}
+use Rattle.sp_run.proofs.Reached.{desk-leads, room-leads, runs-few}
+use Rattle.sp_run.proofs.Reopened.{saved-reopened}
 use Rattle.sp_run.proofs.RoomSessions.{room-answered, room-calmly, room-settles}
 use Rattle.sp_run.proofs.Collations.{answers-fate}
 
@@ -140,6 +152,28 @@ module _ {I O F S : Type 0} {words : List (String Global)} {old new : World I O 
       → AnsweredAll name old.told new.told old.counts new.counts
   run-answered name is done = held-answered name old.told new.told old.counts new.counts (ended-as (desk name) statuses.Done is done)
 
+  -- It opened the state that an earlier session saved, where that stands on the shelf.
+  pub run-reopened : (name : List ℕ) (saved : State) (is : asked_in words ≡ Some (desk name)) (done : status ≡ statuses.Done) → IsWhole saved
+      → HasSaved old.told.shelf name saved → (run-answered name is done).state ≡ saved
+  run-reopened name saved is done whole stands =
+      saved-reopened old.told.shelf name saved (run-answered name is done).state whole stands (run-answered name is done).has
+
+  -- Accepted commands lead from there to each memory that it had.
+  pub run-leads : (name : List ℕ) (is : asked_in words ≡ Some (desk name)) (done : status ≡ statuses.Done) (j : ℕ) (now : Memory)
+      → slice_get (memories_of desk_itself (opened_memory (run-answered name is done).state) (run-answered name is done).steps) j ≡ Some now
+      → LeadsOn (opened_memory (run-answered name is done).state) now
+  run-leads name is done =
+      let all = run-answered name is done in
+      desk-leads (desk_at name (opened_memory all.state) old.told.shelf all.opened) (command_lines all.input) all.steps all.runs
+
+  -- So what led to the memory that was saved leads on to them.
+  pub run-goes-on : (earlier saved : Memory) (name : List ℕ) (is : asked_in words ≡ Some (desk name)) (done : status ≡ statuses.Done) → LeadsOn earlier saved
+      → IsWhole saved.state → HasSaved old.told.shelf name saved.state → (j : ℕ) (now : Memory)
+      → slice_get (memories_of desk_itself (opened_memory (run-answered name is done).state) (run-answered name is done).steps) j ≡ Some now → LeadsOn earlier now
+  run-goes-on earlier saved name is done leads whole stands j now there =
+      reopened-leads earlier saved now leads
+      (subst (λ (state : State). LeadsOn (opened_memory state) now) (run-reopened name saved.state is done whole stands) (run-leads name is done j now there))
+
   -- Where no store failed, each save was done.
   pub run-saved : (name : List ℕ) → asked_in words ≡ Some (desk name) → status ≡ statuses.Done
       → new.told.shelf.faults ≡ old.told.shelf.faults → old.told.shelf.faults < 2 ^ 64 - 1 → AnsweredCalmly name old.told new.told
@@ -167,6 +201,30 @@ module _ {I O F S : Type 0} {words : List (String Global)} {old new : World I O 
   pub run-seats-answered : (name : List ℕ) → asked_in words ≡ Some (room name) → status ≡ statuses.Done
       → RoomAnsweredAll name old.told new.told old.counts new.counts
   run-seats-answered name is done = room-answered name old.told new.told old.counts new.counts (ended-as (room name) statuses.Done is done)
+
+  -- It opened the state that an earlier session saved, where that stands on the shelf.
+  pub run-seats-reopened : (name : List ℕ) (saved : State) (is : asked_in words ≡ Some (room name)) (done : status ≡ statuses.Done) → IsWhole saved
+      → HasSaved old.told.shelf name saved → (run-seats-answered name is done).state ≡ saved
+  run-seats-reopened name saved is done whole stands =
+      saved-reopened old.told.shelf name saved (run-seats-answered name is done).state whole stands (run-seats-answered name is done).has
+
+  -- Accepted commands lead from there to each memory that its desk had.
+  pub run-seats-lead : (name : List ℕ) (is : asked_in words ≡ Some (room name)) (done : status ≡ statuses.Done) (j : ℕ) (now : Memory)
+      → slice_get (memories_of desk_in (opened_memory (run-seats-answered name is done).state) (run-seats-answered name is done).steps) j ≡ Some now
+      → LeadsOn (opened_memory (run-seats-answered name is done).state) now
+  run-seats-lead name is done =
+      let all = run-seats-answered name is done in
+      let first = opened_room (opened_memory all.state) in
+      room-leads first (all.state.lines ∷ []) (command_lines all.input) all.steps all.seen
+      (runs-few AnswersRoomLine (room_at name first old.told.shelf all.opened) (command_lines all.input) all.steps all.runs)
+
+  -- So what led to the memory that was saved leads on to them.
+  pub run-seats-go-on : (earlier saved : Memory) (name : List ℕ) (is : asked_in words ≡ Some (room name)) (done : status ≡ statuses.Done) → LeadsOn earlier saved
+      → IsWhole saved.state → HasSaved old.told.shelf name saved.state → (j : ℕ) (now : Memory)
+      → slice_get (memories_of desk_in (opened_memory (run-seats-answered name is done).state) (run-seats-answered name is done).steps) j ≡ Some now → LeadsOn earlier now
+  run-seats-go-on earlier saved name is done leads whole stands j now there =
+      reopened-leads earlier saved now leads
+      (subst (λ (state : State). LeadsOn (opened_memory state) now) (run-seats-reopened name saved.state is done whole stands) (run-seats-lead name is done j now there))
 
   -- Where no store failed, each save was done.
   pub run-seats-saved : (name : List ℕ) → asked_in words ≡ Some (room name) → status ≡ statuses.Done

@@ -15,7 +15,7 @@ use Rattle.spec_machine.specs.Answers.{step_by, step_of}
 use Rattle.spec_machine.specs.KeptMemories.{IsWholeMemory}
 use Rattle.spec_machine.specs.LabelPromises.{LosesNone}
 use Rattle.spec_machine.proofs.MachineLaws.{all-stay, step-lost}
-use Rattle.spec_machine.proofs.StepLaws.{free-Accepts}
+use Rattle.spec_machine.proofs.RefusalLaws.{accepted-can}
 use Rattle.spec_locked_pages.specs.Chains.{AreLinked}
 use Rattle.spec_room.specs.Changes.{Text}
 use Rattle.spec_room.specs.Kinds.{Kind, kind_of, command_at}
@@ -50,10 +50,11 @@ step-takes room it new reply is free whole = by (asked_of room it.seat it.seen (
         let after = memory_after room.desk (at asked) in
         let taken : is_refused (step_by room.desk (at asked) None).reply ≡ false = ap (λ (s : RoomStep). is_refused s.reply) (sym same) ∙ free in
         let there : new ≡ room_after room it.seat asked after = ap (λ (s : RoomStep). s.after) same ∙ ap (λ (b : Bool). cond b room (room_after room it.seat asked after)) taken in
+        let is : IsWholeMemory after = subst IsWholeMemory (ap (λ (r : RoomState). r.desk) there) whole in
         record {
           asked = asked;
           asks = asks;
-          accepts = free-Accepts room.desk (at asked) (subst IsWholeMemory (ap (λ (r : RoomState). r.desk) there) whole) none;
+          accepts = record { free = none; text = (is.state).text };
           room = there;
         }
     free-takes asked (Some reason) asks some same = absurd (let told : true ≡ false = ap (λ (s : RoomStep). is_refused s.reply) (sym same) ∙ free in cc)
@@ -76,7 +77,8 @@ step-stays room it new reply is told = by (asked_of room it.seat it.seen (kind_o
 -- No locked label is lost.
 takes-lost : (old : RoomState) (it : RoomLineOf) (new : RoomState) → IsWholeMemory old.desk → Takes old it new → LosesNone old.desk.state new.desk.state
 takes-lost old it new whole takes =
-    subst (λ (room : RoomState). LosesNone old.desk.state room.desk.state) (sym takes.room) (step-lost old.desk (command_at it.command takes.asked) whole takes.accepts)
+    let command = command_at it.command takes.asked in
+    subst (λ (room : RoomState). LosesNone old.desk.state room.desk.state) (sym takes.room) (step-lost old.desk command whole (accepted-can old.desk command takes.accepts))
 
 step-lost-none : (old : RoomState) (it : RoomLineOf) (new : RoomState) (reply : ReplyOf) → room_step_to new reply ≡ room_step_of old it → IsWholeMemory old.desk → IsWholeMemory new.desk
     → LosesNone old.desk.state new.desk.state

@@ -9,14 +9,16 @@ use Rattle.spec_state.specs.State.{State}
 use Rattle.spec_state.specs.Keeping.{IsWhole}
 use Rattle.spec_state.specs.Changes.{edited_state, CanEdit}
 use Rattle.spec_wire.specs.Commands.{CommandOf, edit, undo, redo, lock_scenes, lock_pages, next_round, speakers, paper}
-use Rattle.spec_machine.specs.Machine.{EntryOf, Memory, opened_memory, last_entry, without_last, entry_of, undone_to, redone_to, memory_after, Accepts, AcceptsAll, memory_behind}
+use Rattle.spec_machine.specs.Machine.{EntryOf, Memory, opened_memory, last_entry, without_last, entry_of, undone_to, redone_to, memory_after, CanDo, memory_behind}
+use Rattle.spec_machine.specs.Sessions.{AcceptsAll}
 use Rattle.spec_machine.specs.KeptMemories.{IsEntry, IsWholeMemory}
 use Rattle.spec_machine.proofs.MachineLaws.{taken-edit}
+use Rattle.spec_machine.proofs.RefusalLaws.{accepted-can}
 use Rattle.spec_machine.proofs.WholeStates.{edit-whole}
 use Rattle.spec_relayout.proofs.WindowExists.{window-exists}
 use Rattle.spec_locked_pages.specs.Segments.{IsLockedPage}
 use Rattle.spec_locked_pages.specs.LockedPages.{LeavesAlone, StaysLocked, KeepsLockedPage}
-use Rattle.spec_locked_pages.specs.Chains.{IsEditOf, LeadTo, LeadFrom, AreLinked, first_state, AllLeaveAlone, KeepsAlong}
+use Rattle.spec_locked_pages.specs.Chains.{IsEditOf, LeadTo, LeadFrom, AreLinked, eldest, first_state, AllLeaveAlone, KeepsAlong}
 use Rattle.spec_locked_pages.proofs.LockedPage.{window-locked}
 
 -- ---- one edit
@@ -69,6 +71,17 @@ lead-more : (entries : List EntryOf) (entry : EntryOf) (now : State) → LeadTo 
 lead-more [] entry now lead made = made
 lead-more (one ∷ []) entry now lead made = (lead, made)
 lead-more (one ∷ next ∷ later) entry now lead made = (lead.0, lead-more (next ∷ later) entry now lead.1 made)
+
+-- Entries that lead to the first state of others.
+pub first-join : (earlier later : List EntryOf) (now : State) → first_state (earlier ++ later) now ≡ first_state earlier (first_state later now)
+first-join [] later now = refl
+first-join (entry ∷ earlier) later now = refl
+
+pub lead-join : (earlier later : List EntryOf) (now : State) → LeadTo earlier (first_state later now) → LeadTo later now → LeadTo (earlier ++ later) now
+lead-join [] later now lead more = more
+lead-join (entry ∷ []) [] now lead more = lead
+lead-join (entry ∷ []) (next ∷ later) now lead more = (lead, more)
+lead-join (entry ∷ next ∷ earlier) later now lead more = (lead.0, lead-join (next ∷ earlier) later now lead.1 more)
 
 -- And one less.
 lead-less : (entries : List EntryOf) (entry : EntryOf) (now : State) → LeadTo (entries ++ entry ∷ []) now → LeadTo entries entry.state × IsEditOf entry.range entry.state now
@@ -135,7 +148,7 @@ redo-linked memory some linked =
     (record { done = lead-more memory.done (entry_of memory.state entry.range) entry.state linked.done both.1; undone = both.0 })
 
 -- Every accepted command keeps entries linked.
-pub step-linked : (memory : Memory) (command : CommandOf) → AreLinked memory → Accepts memory command → AreLinked (memory_after memory command)
+pub step-linked : (memory : Memory) (command : CommandOf) → AreLinked memory → CanDo memory command → AreLinked (memory_after memory command)
 step-linked memory (edit it) linked can = edit-linked memory (replacement_of memory.state.lines it) (taken-edit memory.state it can) linked
 step-linked memory undo linked can = undo-linked memory can linked
 step-linked memory redo linked can = redo-linked memory can linked
@@ -148,7 +161,7 @@ step-linked memory _ linked can = linked
 
 pub steps-linked : (memory : Memory) (commands : List CommandOf) → AreLinked memory → AcceptsAll memory commands → AreLinked (memory_behind memory commands)
 steps-linked memory [] linked all = linked
-steps-linked memory (command ∷ commands) linked all = steps-linked (memory_after memory command) commands (step-linked memory command linked all.0) all.1
+steps-linked memory (command ∷ commands) linked all = steps-linked (memory_after memory command) commands (step-linked memory command linked (accepted-can memory command all.0)) all.1
 
 -- The first of some entries is whole.
 first-whole : (memory : Memory) (k : ℕ) (entries : List EntryOf) → IsWhole memory.state → All (IsEntry memory.state) entries → IsWhole (first_state (drop k entries) memory.state)
@@ -162,7 +175,14 @@ pub memory-keeps : (memory : Memory) (i k : ℕ) → IsWholeMemory memory → Ar
 memory-keeps memory i k whole linked =
     chain-keeps i (drop k memory.done) memory.state (first-whole memory k memory.done whole.state whole.done) (lead-drop k memory.done memory.state linked.done)
 
+-- From each state on that leads to the first of these.
+pub earlier-keep : (memory : Memory) (i : ℕ) (entries : List EntryOf) → AreLinked memory → LeadTo entries (eldest memory) → IsWhole (first_state entries (eldest memory))
+    → KeepsAlong i (entries ++ memory.done) memory.state
+earlier-keep memory i entries linked lead whole =
+    chain-keeps i (entries ++ memory.done) memory.state (subst IsWhole (sym (first-join entries memory.done memory.state)) whole)
+    (lead-join entries memory.done memory.state lead linked.done)
+
 -- What an accepted edit does to locked pages.
-pub step-locked : (memory : Memory) (it : EditOf) (i : ℕ) → IsWholeMemory memory → Accepts memory (edit it)
+pub step-locked : (memory : Memory) (it : EditOf) (i : ℕ) → IsWholeMemory memory → CanDo memory (edit it)
     → KeepsLockedPage (range_of (replacement_of memory.state.lines it)) memory.state (memory_after memory (edit it)).state i
 step-locked memory it i whole can = edit-locked memory.state (replacement_of memory.state.lines it) i whole.state (taken-edit memory.state it can)

@@ -29,10 +29,13 @@ use Rattle.spec_state.specs.SoundStates.{AreLocked, IsSound}
 use Rattle.spec_state.proofs.StateKeys.{state-keys}
 use Rattle.spec_state.proofs.StateLaws.{whole-kept, whole-sound}
 use Rattle.spec_wire.specs.Commands.{CommandOf, edit, undo, redo, lock_scenes, lock_pages, next_round, speakers, paper}
-use Rattle.spec_machine.specs.Machine.{EntryOf, Memory, opened_memory, without_last, entry_of, undone_to, redone_to, memory_after, Accepts, AcceptsAll, memory_behind, CanLockPages, CanBegin}
+use Rattle.spec_machine.specs.Machine.{EntryOf, Memory, opened_memory, without_last, entry_of, undone_to, redone_to, memory_after, CanDo, memory_behind, CanLockPages, CanBegin}
+use Rattle.spec_machine.specs.Refusals.{refusal_to}
 use Rattle.spec_machine.specs.KeptMemories.{IsWholeMemory}
+use Rattle.spec_machine.specs.Sessions.{AcceptsAll, AcceptsSessions, session_behind, session_entries, sessions_behind}
 use Rattle.spec_machine.proofs.DeskLaws.{opening-found}
 use Rattle.spec_machine.proofs.MachineLaws.{steps-whole, opened-whole}
+use Rattle.spec_machine.proofs.RefusalLaws.{accepted-can, free-pages, free-round}
 use Rattle.spec_machine.proofs.WholeStates.{lock_pages-whole, round-whole}
 use Rattle.spec_rounds.proofs.SinglePages.{IsSingle}
 use Rattle.spec_rounds.proofs.OpeningLaw.{round-rows, lock-rows, rows-stay}
@@ -42,13 +45,13 @@ use Rattle.spec_relayout.proofs.ItemRows.{shown_texts}
 use Rattle.spec_relayout.proofs.SoundElements.{SoundSteps, elements-sound}
 use Rattle.spec_locked_pages.specs.Segments.{records_in, record_at, no_segment, segments_in, segment_at, pages_of, pages_at, sheets_at, bytes_at, has_scene, HasScene, IsLockedPage}
 use Rattle.spec_locked_pages.specs.LockedPages.{StaysLocked}
-use Rattle.spec_locked_pages.specs.Chains.{first_state, IsOneSheet, IsOpened, KeepsOpened, IsStep, AreSteps}
+use Rattle.spec_locked_pages.specs.Chains.{LeadTo, first_state, GoOn, IsOneSheet, IsOpened, KeepsOpened, IsStep, AreSteps}
 use Rattle.spec_locked_pages.proofs.HeadingBlocks.{PlacedLined, blocks-lined}
 use Rattle.spec_locked_pages.proofs.HeadingRows.{IsOf, alone-begins, pair-begins}
 use Rattle.spec_locked_pages.proofs.RowsAgree.{agree-has, state-agree, script-rows, placed-of, heading-at}
 use Rattle.spec_locked_pages.proofs.StateScripts.{script_of, texts_of, blocks_in, items_of}
 use Rattle.spec_locked_pages.proofs.StateStarts.{length-starts, segment-made}
-use Rattle.spec_locked_pages.proofs.ChainLaws.{memory-keeps, steps-linked, opened-linked, has-last}
+use Rattle.spec_locked_pages.proofs.ChainLaws.{chain-keeps, first-join, lead-join, steps-linked, opened-linked, has-last}
 
 -- ---- headings with records
 
@@ -258,7 +261,7 @@ first-more [] entry now = refl
 first-more (one ∷ entries) entry now = refl
 
 -- Steps leave the first state.
-step-first : (memory : Memory) (command : CommandOf) → IsStep command → Accepts memory command
+step-first : (memory : Memory) (command : CommandOf) → IsStep command → CanDo memory command
     → first_state (memory_after memory command).done (memory_after memory command).state ≡ first_state memory.done memory.state
 step-first memory (edit it) is can = first-more memory.done (entry_of memory.state _) _
 step-first memory undo is can =
@@ -281,40 +284,67 @@ steps-first : (memory : Memory) (commands : List CommandOf) → AreSteps command
     → first_state (memory_behind memory commands).done (memory_behind memory commands).state ≡ first_state memory.done memory.state
 steps-first memory [] are all = refl
 steps-first memory (command ∷ commands) are all =
-    steps-first (memory_after memory command) commands (All-tail IsStep command commands are) all.1 ∙ step-first memory command (All-head IsStep command commands are) all.0
+    steps-first (memory_after memory command) commands (All-tail IsStep command commands are) all.1 ∙ step-first memory command (All-head IsStep command commands are) (accepted-can memory command all.0)
+
+-- The entries of sessions lead from the state that the first of them opened.
+pub record SessionsLead (memory : Memory) (sessions : List (List CommandOf)) : Type 0 where
+  pub first : first_state (session_entries memory sessions) (sessions_behind memory sessions).state ≡ memory.state
+  pub leads : LeadTo (session_entries memory sessions) (sessions_behind memory sessions).state
+  pub whole : IsWhole (sessions_behind memory sessions).state
+
+sessions-lead : (memory : Memory) (sessions : List (List CommandOf)) → IsWhole memory.state → All AreSteps sessions → AcceptsSessions memory sessions → SessionsLead memory sessions
+sessions-lead memory [] whole are all = record { first = refl; leads = tt; whole = whole }
+sessions-lead memory (commands ∷ later) whole are all =
+    let opened = opened_memory memory.state in
+    let now = session_behind memory commands in
+    let linked = steps-linked opened commands (opened-linked memory.state) all.0 in
+    let rest = sessions-lead now later (steps-whole opened commands (opened-whole memory.state whole) all.0).state (All-tail AreSteps commands later are) all.1 in
+    let entries = session_entries now later in
+    let end = (sessions_behind now later).state in
+    record {
+      first = first-join now.done entries end ∙ ap (first_state now.done) rest.first ∙ steps-first opened commands (All-head AreSteps commands later are) all.0;
+      leads = lead-join now.done entries end (subst (LeadTo now.done) (sym rest.first) linked.done) rest.leads;
+      whole = rest.whole;
+    }
+
+pub go-lead : (memory : Memory) (sessions : List (List CommandOf)) → IsWhole memory.state → GoOn memory sessions → SessionsLead memory sessions
+go-lead memory sessions whole go = sessions-lead memory sessions whole go.steps go.accepted
 
 -- From a whole state that was opened, over accepted commands that drop no state, locked pages stay one sheet.
-pub opened-keeps : (state : State) (commands : List CommandOf) (i : ℕ) → IsWhole state → IsOpened state → AreSteps commands → AcceptsAll (opened_memory state) commands
-    → KeepsOpened state (memory_behind (opened_memory state) commands) i
-opened-keeps state commands i whole opened are all =
-    let memory = memory_behind (opened_memory state) commands in
-    let first : first_state memory.done memory.state ≡ state = steps-first (opened_memory state) commands are all in
-    let keeps = memory-keeps memory i 0 (steps-whole (opened_memory state) commands (opened-whole state whole) all) (steps-linked (opened_memory state) commands (opened-linked state) all) in
+pub opened-keeps : (memory : Memory) (sessions : List (List CommandOf)) (i : ℕ) → IsWhole memory.state → IsOpened memory.state → GoOn memory sessions → KeepsOpened memory sessions i
+opened-keeps memory sessions i whole opened go =
+    let lead = go-lead memory sessions whole go in
+    let state = memory.state in
+    let entries = session_entries memory sessions in
+    let end = (sessions_behind memory sessions).state in
+    let keeps = chain-keeps i entries end (subst IsWhole (sym lead.first) whole) lead.leads in
     record {
-      first = first;
+      first = lead.first;
       keeps = λ there some alone.
           let locked = opened.locked i there some in
-          let stays : StaysLocked state memory.state i =
-          subst (λ (s : State). StaysLocked s memory.state i) first (keeps.keeps (subst (λ (s : State). IsLockedPage s i) (sym first) locked) alone) in
+          let stays : StaysLocked state end i =
+          subst (λ (s : State). StaysLocked s end i) lead.first (keeps.keeps (subst (λ (s : State). IsLockedPage s i) (sym lead.first) locked) alone) in
           let single = opened.single i there some in
           let now = stays.locked in
-          let size = length-bytes memory.state in
+          let size = length-bytes end in
           let was = length-bytes state in
           let same = ap length stays.sheets in
           let one = single.one in
-          (stays, one-sheet memory.state i now.there (omega (arith, size, was, same, one)));
+          (stays, one-sheet end i now.there (omega (arith, size, was, same, one)));
     }
   where
     length-bytes : (s : State) → length (bytes_at s i) ≡ length (sheets_at s i)
     length-bytes s = length-map (sheets_at s i) _
 
 -- From an accepted lock of pages on, and from a round on.
-pub lock-keeps : (memory : Memory) (commands : List CommandOf) (i : ℕ) → IsWholeMemory memory → Accepts memory lock_pages → AreSteps commands → AcceptsAll (memory_after memory lock_pages) commands
-    → KeepsOpened (pages_locked memory.state) (memory_behind (memory_after memory lock_pages) commands) i
-lock-keeps memory commands i whole can are all =
-    opened-keeps (pages_locked memory.state) commands i (lock_pages-whole memory.state whole.state can) (lock-opened memory.state whole.state can) are all
+pub lock-keeps : (memory : Memory) (sessions : List (List CommandOf)) (i : ℕ) → IsWholeMemory memory → refusal_to memory lock_pages ≡ None → GoOn (memory_after memory lock_pages) sessions
+    → KeepsOpened (memory_after memory lock_pages) sessions i
+lock-keeps memory sessions i whole free go =
+    let can = free-pages memory.state free in
+    opened-keeps (memory_after memory lock_pages) sessions i (lock_pages-whole memory.state whole.state can) (lock-opened memory.state whole.state can) go
 
-pub round-keeps : (memory : Memory) (commands : List CommandOf) (i : ℕ) → IsWholeMemory memory → Accepts memory next_round → AreSteps commands → AcceptsAll (memory_after memory next_round) commands
-    → KeepsOpened (round_begun memory.state) (memory_behind (memory_after memory next_round) commands) i
-round-keeps memory commands i whole can are all =
-    opened-keeps (round_begun memory.state) commands i (round-whole memory.state whole.state can) (round-opened memory.state whole.state can) are all
+pub round-keeps : (memory : Memory) (sessions : List (List CommandOf)) (i : ℕ) → IsWholeMemory memory → refusal_to memory next_round ≡ None → GoOn (memory_after memory next_round) sessions
+    → KeepsOpened (memory_after memory next_round) sessions i
+round-keeps memory sessions i whole free go =
+    let can = free-round memory.state free in
+    opened-keeps (memory_after memory next_round) sessions i (round-whole memory.state whole.state can) (round-opened memory.state whole.state can) go

@@ -6,6 +6,7 @@ use Rattle.spec_state.specs.State.{State}
 use Rattle.spec_state.specs.Changes.{edited_state, CanEdit}
 use Rattle.spec_wire.specs.Commands.{CommandOf, lock_scenes, lock_pages, next_round, speakers, paper}
 use Rattle.spec_machine.specs.Machine.{EntryOf, Memory}
+use Rattle.spec_machine.specs.Sessions.{AcceptsSessions, session_entries, sessions_behind}
 use Rattle.spec_labels.specs.PageRecords.{SheetOf}
 use Rattle.spec_locked_pages.specs.Segments.{records_in, record_at, segment_at, sheets_at, IsLockedPage}
 use Rattle.spec_locked_pages.specs.LockedPages.{LeavesAlone, StaysLocked}
@@ -39,6 +40,10 @@ abbrev pub first_state : List EntryOf → State → State
 first_state [] now = now
 first_state (entry ∷ entries) now = entry.state
 
+-- The first of the states that a memory leads back to, by what can be undone.
+abbrev pub eldest : Memory → State
+eldest memory = first_state memory.done memory.state
+
 -- No step of the entries touches an element that stands in the record's segment.
 abbrev pub AllLeaveAlone : ℕ → List EntryOf → State → Type 0
 AllLeaveAlone i [] now = Unit {0}
@@ -58,13 +63,6 @@ pub record IsOpened (state : State) : Type 0 where
   pub locked : (i : ℕ) → i < length (records_in state) → (segment_at state i).start < (segment_at state i).end → IsLockedPage state i
   pub single : (i : ℕ) → i < length (records_in state) → (segment_at state i).start < (segment_at state i).end → IsOneSheet state i
 
--- Where a state was opened by a lock or a round, a record with a row in it that all steps since then leave alone has the one sheet
--- that it had, with its label and its bytes.
-pub record KeepsOpened (opened : State) (memory : Memory) (i : ℕ) : Type 0 where
-  pub first : first_state memory.done memory.state ≡ opened
-  pub keeps : i < length (records_in opened) → (segment_at opened i).start < (segment_at opened i).end → AllLeaveAlone i memory.done memory.state
-      → StaysLocked opened memory.state i × IsOneSheet memory.state i
-
 -- The command makes an entry, goes along the entries or changes nothing: none of the states before it is dropped.
 abbrev pub IsStep : CommandOf → Type 0
 IsStep lock_scenes = ⊥
@@ -76,3 +74,16 @@ IsStep _ = Unit {0}
 
 abbrev pub AreSteps : List CommandOf → Type 0
 AreSteps commands = All IsStep commands
+
+-- From a memory on, sessions take their commands, and none of these drops a state.
+pub record GoOn (memory : Memory) (sessions : List (List CommandOf)) : Type 0 where
+  pub steps : All AreSteps sessions
+  pub accepted : AcceptsSessions memory sessions
+
+-- From a memory that a lock or a round left on, over sessions: a record with a row in it that all steps since then leave alone has the
+-- one sheet that it had, with its label and its bytes.
+pub record KeepsOpened (opened : Memory) (sessions : List (List CommandOf)) (i : ℕ) : Type 0 where
+  pub first : first_state (session_entries opened sessions) (sessions_behind opened sessions).state ≡ opened.state
+  pub keeps : i < length (records_in opened.state) → (segment_at opened.state i).start < (segment_at opened.state i).end
+      → AllLeaveAlone i (session_entries opened sessions) (sessions_behind opened sessions).state
+      → StaysLocked opened.state (sessions_behind opened sessions).state i × IsOneSheet (sessions_behind opened sessions).state i

@@ -1,5 +1,5 @@
 -- What holds of a desk behind every list of accepted commands.
-use Rattle.std.proofs.Common.{◌≡◌, ℕ, ◌<◌, Option, Some, List, length, get_or, refl, subst}
+use Rattle.std.proofs.Common.{◌≡◌, ℕ, ◌<◌, Option, Some, None, List, length, get_or, refl, subst}
 use Rattle.std.specs.Prelude.{IfSome}
 use Rattle.spec_labels.specs.Labels.{plain_label}
 use Rattle.spec_labels.specs.Scenes.{SceneRecordOf, AreSceneRecords, locked_labels, extended_records}
@@ -12,13 +12,16 @@ use Rattle.spec_state.proofs.StateKeys.{text-headings}
 use Rattle.spec_state.proofs.StateLaws.{whole-sound}
 use Rattle.spec_rounds.proofs.OpeningLaw.{lock-bytes, round-bytes}
 use Rattle.spec_wire.specs.Commands.{CommandOf, lock_pages, next_round}
-use Rattle.spec_machine.specs.Machine.{Memory, opened_memory, memory_after, Accepts, AcceptsAll, memory_behind}
+use Rattle.spec_machine.specs.Machine.{Memory, opened_memory, memory_after, memory_behind}
+use Rattle.spec_machine.specs.Refusals.{refusal_to}
+use Rattle.spec_machine.specs.Sessions.{AcceptsAll}
 use Rattle.spec_machine.specs.LabelPromises.{AreLabelled, LosesNone}
 use Rattle.spec_machine.proofs.LabelLaw.{state-labelled}
 use Rattle.spec_machine.proofs.MachineLaws.{opened-whole, steps-whole, steps-lost}
+use Rattle.spec_machine.proofs.RefusalLaws.{free-pages}
 
-pub locking-stays : (memory : Memory) → IsWhole memory.state → Accepts memory lock_pages → bytes_of_state (memory_after memory lock_pages).state ≡ bytes_of_state memory.state
-locking-stays memory whole can = lock-bytes memory.state (whole-sound memory.state whole) can.unlocked can.rows
+pub locking-stays : (memory : Memory) → IsWhole memory.state → refusal_to memory lock_pages ≡ None → bytes_of_state (memory_after memory lock_pages).state ≡ bytes_of_state memory.state
+locking-stays memory whole free = let can = free-pages memory.state free in lock-bytes memory.state (whole-sound memory.state whole) can.unlocked can.rows
 
 pub beginning-stays : (memory : Memory) → IsWhole memory.state → bytes_of_state (memory_after memory next_round).state ≡ bytes_of_state memory.state
 beginning-stays memory whole = round-bytes memory.state (whole-sound memory.state whole)
@@ -37,7 +40,7 @@ pub record AreDeskLaws (start now : Memory) : Type 0 where
   pub whole : IsWhole now.state
   pub labels : AreLabelled now.state
   pub lost : LosesNone start.state now.state
-  pub lock : Accepts now lock_pages → bytes_of_state (memory_after now lock_pages).state ≡ bytes_of_state now.state
+  pub lock : refusal_to now lock_pages ≡ None → bytes_of_state (memory_after now lock_pages).state ≡ bytes_of_state now.state
   pub round : bytes_of_state (memory_after now next_round).state ≡ bytes_of_state now.state
 
 pub desk-laws : (state : State) (commands : List CommandOf) → IsWhole state → AcceptsAll (opened_memory state) commands → AreDeskLaws (opened_memory state) (memory_behind (opened_memory state) commands)

@@ -14,7 +14,8 @@ use Rattle.spec_state.specs.Headings.{headings_of}
 use Rattle.spec_state.specs.StateSheets.{numbered_sheets, layout_in, rows_in, keys_in, pages_in, sheets_in, body_sheets}
 use Rattle.spec_state.specs.SoundStates.{AreLocked}
 use Rattle.spec_wire.specs.Commands.{CommandOf}
-use Rattle.spec_machine.specs.Machine.{opened_memory, AcceptsAll, memory_behind}
+use Rattle.spec_machine.specs.Machine.{opened_memory, memory_behind}
+use Rattle.spec_machine.specs.Sessions.{AcceptsAll}
 use Rattle.spec_state.specs.StateLabels.{page_label_of, scene_label_of, labels_of_pages, labels_of_scenes}
 use Rattle.spec_state.specs.Keeping.{IsWhole}
 use Rattle.spec_machine.specs.LabelPromises.{AreLabelled, LosesNone}

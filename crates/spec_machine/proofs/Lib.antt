@@ -2,8 +2,9 @@ pub mod LockKeeps
 pub mod RecordOrder
 pub mod PageKeeps
 pub mod WholeStates
-pub mod MachineLaws
 pub mod RefusalLaws
+pub mod MachineLaws
 pub mod LabelLaw
 pub mod DeskLaws
 pub mod StepLaws
+pub mod SessionLaws

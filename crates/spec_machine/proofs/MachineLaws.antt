@@ -24,9 +24,11 @@ use Rattle.spec_state.specs.Changes.{edited_state, CanEdit}
 use Rattle.spec_state.specs.Keeping.{IsWhole}
 use Rattle.spec_state.proofs.EditKeeps.{edited-labels}
 use Rattle.spec_wire.specs.Commands.{CommandOf, edit, undo, redo, lock_scenes, lock_pages, next_round, sheet, labels, blocks, outline, save, speakers, paper, packet}
-use Rattle.spec_machine.specs.Machine.{EntryOf, Memory, opened_memory, last_entry, without_last, entry_of, undone_to, redone_to, memory_after, CanTake, Accepts, AcceptsAll, memory_behind}
+use Rattle.spec_machine.specs.Machine.{EntryOf, Memory, opened_memory, last_entry, without_last, entry_of, undone_to, redone_to, memory_after, CanTake, CanDo, memory_behind}
+use Rattle.spec_machine.specs.Sessions.{AcceptsAll}
 use Rattle.spec_machine.specs.KeptMemories.{IsEntry, IsWholeMemory}
 use Rattle.spec_machine.specs.LabelPromises.{HasAll, LosesNone}
+use Rattle.spec_machine.proofs.RefusalLaws.{accepted-can}
 use Rattle.spec_machine.proofs.WholeStates.{edit-whole, lock_scenes-whole, lock_pages-whole, round-whole, speakers-whole, paper-whole}
 
 -- ---- entries
@@ -100,7 +102,7 @@ edited-whole memory it whole can =
       undone = none-entries new;
     }
 
-pub step-whole : (memory : Memory) (command : CommandOf) → IsWholeMemory memory → Accepts memory command → IsWholeMemory (memory_after memory command)
+pub step-whole : (memory : Memory) (command : CommandOf) → IsWholeMemory memory → CanDo memory command → IsWholeMemory (memory_after memory command)
 step-whole memory (edit it) whole can = edited-whole memory (replacement_of memory.state.lines it) whole (taken-edit memory.state it can)
 step-whole memory undo whole can = undo-whole memory (last_entry memory.done) refl whole
 step-whole memory redo whole can = redo-whole memory (last_entry memory.undone) refl whole
@@ -119,7 +121,7 @@ step-whole memory packet whole can = whole
 -- So do all steps.
 pub steps-whole : (memory : Memory) (commands : List CommandOf) → IsWholeMemory memory → AcceptsAll memory commands → IsWholeMemory (memory_behind memory commands)
 steps-whole memory [] whole can = whole
-steps-whole memory (command ∷ commands) whole can = steps-whole (memory_after memory command) commands (step-whole memory command whole can.0) can.1
+steps-whole memory (command ∷ commands) whole can = steps-whole (memory_after memory command) commands (step-whole memory command whole (accepted-can memory command can.0)) can.1
 
 -- ---- what is opened is whole
 
@@ -169,7 +171,7 @@ redo-lost memory (Some entry) is whole =
     let there = (moves memory memory.undone entry whole whole.undone is).there in
     record { pages = same-lost _ _ there.pages; scenes = same-lost _ _ there.scenes }
 
-pub step-lost : (memory : Memory) (command : CommandOf) → IsWholeMemory memory → Accepts memory command → LosesNone memory.state (memory_after memory command).state
+pub step-lost : (memory : Memory) (command : CommandOf) → IsWholeMemory memory → CanDo memory command → LosesNone memory.state (memory_after memory command).state
 step-lost memory (edit it) whole can =
     record { pages = same-lost _ _ (edited-labels memory.state (replacement_of memory.state.lines it)); scenes = none-lost (scene_labels memory.state) }
 step-lost memory undo whole can = undo-lost memory (last_entry memory.done) refl whole
@@ -198,6 +200,7 @@ step-lost memory packet whole can = all-stay memory.state
 pub steps-lost : (memory : Memory) (commands : List CommandOf) → IsWholeMemory memory → AcceptsAll memory commands → LosesNone memory.state (memory_behind memory commands).state
 steps-lost memory [] whole can = all-stay memory.state
 steps-lost memory (command ∷ commands) whole can =
-    let here = step-lost memory command whole can.0 in
-    let rest = steps-lost (memory_after memory command) commands (step-whole memory command whole can.0) can.1 in
+    let able = accepted-can memory command can.0 in
+    let here = step-lost memory command whole able in
+    let rest = steps-lost (memory_after memory command) commands (step-whole memory command whole able) can.1 in
     lost-on memory.state (memory_after memory command).state (memory_behind (memory_after memory command) commands).state here rest

@@ -3,17 +3,20 @@ use Rattle.std.proofs.Common.{◌≡◌, ℕ, ◌<◌, ◌≤◌, Bool, true, fa
 use Rattle.std.specs.Prelude.{IfSome, is_some, option_map}
 use Rattle.std.proofs.lemmas.Bool.Decides.{nat_tests}
 use Rattle.std.proofs.lemmas.Bool.{or_parts, or_from}
+use Rattle.spec_text.specs.Edits.{Refusal, refusal_of}
 use Rattle.spec_labels.specs.Scenes.{scene_record_limit, unlockable_place, disordered_place}
 use Rattle.spec_labels.specs.PageRecords.{page_record_limit}
 use Rattle.spec_records.specs.Kept.{round_limit}
-use Rattle.spec_state.specs.State.{State}
+use Rattle.spec_state.specs.State.{State, text_of}
 use Rattle.spec_state.specs.Headings.{headings_of}
 use Rattle.spec_state.specs.StateSheets.{rows_in}
 use Rattle.spec_state.specs.Openings as openings
 use Rattle.spec_state.specs.Openings.{round_begun}
-use Rattle.spec_wire.specs.Replies.{RefusalOf, scenes_locked, scene_form, scene_order, scenes_not_locked, pages_locked, no_pages, rounds_full, records_full}
-use Rattle.spec_machine.specs.Machine.{CanLockScenes, CanLockPages, CanBegin}
-use Rattle.spec_machine.specs.Refusals.{first_of, reason_if, are_more, are_too_many, scenes_refusal, pages_refusal, round_refusal, setting_refusal}
+use Rattle.spec_wire.specs.Commands.{CommandOf, edit, undo, redo, lock_scenes, lock_pages, next_round, speakers, paper}
+use Rattle.spec_wire.specs.Replies.{RefusalOf, nothing_to_undo, nothing_to_redo, scenes_locked, scene_form, scene_order, scenes_not_locked, pages_locked, no_pages, rounds_full, records_full}
+use Rattle.spec_machine.specs.Machine.{Memory, CanLockScenes, CanLockPages, CanBegin, CanDo}
+use Rattle.spec_machine.specs.Sessions.{Accepts}
+use Rattle.spec_machine.specs.Refusals.{edit_refusal, first_of, reason_if, are_more, are_too_many, scenes_refusal, pages_refusal, round_refusal, setting_refusal}
 
 -- ---- reasons in order
 
@@ -217,3 +220,27 @@ round-free state can =
 
 pub free-setting : (state : State) → setting_refusal state ≡ None → state.pages ≡ None
 free-setting state is = none-is state.pages (no-reason (is_some state.pages) pages_locked is)
+
+-- ---- what is accepted can be done
+
+no-edit : (refusal : Option Refusal) → option_map edit_refusal refusal ≡ None → refusal ≡ None
+no-edit None is = refl
+no-edit (Some reason) is = absurd (let bad : ⊥ = cc in bad)
+
+some-entry : (count : ℕ) (reason : RefusalOf) → reason_if (eqb count 0) reason ≡ None → 0 < count
+some-entry count reason free = by count (no-reason (eqb count 0) reason free)
+  where
+    by : (n : ℕ) → eqb n 0 ≡ false → 0 < n
+    by n is = grind (arith, nat_tests)
+
+-- An accepted command can be done.
+pub accepted-can : (memory : Memory) (command : CommandOf) → Accepts memory command → CanDo memory command
+accepted-can memory (edit it) is = record { taken = no-edit (refusal_of (text_of memory.state) it) is.free; text = is.text }
+accepted-can memory undo is = some-entry (length memory.done) nothing_to_undo is.free
+accepted-can memory redo is = some-entry (length memory.undone) nothing_to_redo is.free
+accepted-can memory lock_scenes is = free-scenes memory.state is.free
+accepted-can memory lock_pages is = free-pages memory.state is.free
+accepted-can memory next_round is = free-round memory.state is.free
+accepted-can memory (speakers on) is = free-setting memory.state is.free
+accepted-can memory (paper size) is = free-setting memory.state is.free
+accepted-can memory _ is = tt

@@ -3,6 +3,7 @@ pub mod KeptMemories
 pub mod LabelPromises
 pub mod SheetPromises
 pub mod Refusals
+pub mod Sessions
 pub mod Blocks
 pub mod Outlines
 pub mod Answers

@@ -65,7 +65,7 @@ memory_after memory (speakers on) = opened_memory (record (memory.state) { speak
 memory_after memory (paper size) = opened_memory (record (memory.state) { paper = size })
 memory_after memory _ = memory
 
--- ---- when a command that changes a memory is accepted
+-- ---- when a command that changes a memory can be done
 
 -- The edit isn't refused, and what it makes of the text is one, as it is where the texts of the edit are UTF-8.
 pub record CanTake (state : State) (it : EditOf) : Type 0 where
@@ -96,21 +96,17 @@ pub record CanBegin (state : State) : Type 0 where
   pub few_scenes : FewScenes (scenes_extended (headings_of state.lines) state.scenes)
   pub few_pages : FewPages (pages_extended state state.pages)
 
-abbrev pub Accepts : Memory → CommandOf → Type 0
-Accepts memory (edit it) = CanTake memory.state it
-Accepts memory undo = 0 < length memory.done
-Accepts memory redo = 0 < length memory.undone
-Accepts memory lock_scenes = CanLockScenes memory.state
-Accepts memory lock_pages = CanLockPages memory.state
-Accepts memory next_round = CanBegin memory.state
-Accepts memory (speakers on) = memory.state.pages ≡ None
-Accepts memory (paper size) = memory.state.pages ≡ None
-Accepts memory _ = Unit {0}
+abbrev pub CanDo : Memory → CommandOf → Type 0
+CanDo memory (edit it) = CanTake memory.state it
+CanDo memory undo = 0 < length memory.done
+CanDo memory redo = 0 < length memory.undone
+CanDo memory lock_scenes = CanLockScenes memory.state
+CanDo memory lock_pages = CanLockPages memory.state
+CanDo memory next_round = CanBegin memory.state
+CanDo memory (speakers on) = memory.state.pages ≡ None
+CanDo memory (paper size) = memory.state.pages ≡ None
+CanDo memory _ = Unit {0}
 
--- Accepted commands, one after another.
-abbrev pub AcceptsAll : Memory → List CommandOf → Type 0
-AcceptsAll memory [] = Unit {0}
-AcceptsAll memory (command ∷ commands) = Accepts memory command × AcceptsAll (memory_after memory command) commands
-
+-- Commands, one after another.
 abbrev pub memory_behind : Memory → List CommandOf → Memory
 memory_behind memory commands = fold memory_after memory commands

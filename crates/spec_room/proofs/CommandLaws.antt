@@ -3,7 +3,7 @@ use Rattle.std.proofs.Common.{◌≡◌, ℕ, Bool, false, cond, Ok, List, sym, 
 use Rattle.spec_text.specs.Edits.{EditOf, replace, splice}
 use Rattle.spec_wire.specs.Commands.{CommandOf, RoomLineOf, edit, undo, redo, lock_scenes, lock_pages, next_round, sheet, labels, blocks, outline, save, speakers, paper, packet}
 use Rattle.spec_wire.specs.Replies.{ReplyOf, is_refused}
-use Rattle.spec_machine.specs.Machine.{Memory, memory_after, Accepts}
+use Rattle.spec_machine.specs.Machine.{Memory, memory_after, CanDo}
 use Rattle.spec_machine.specs.Answers as answers
 use Rattle.spec_machine.specs.Answers.{step_of}
 use Rattle.spec_room.specs.Kinds.{Kind, edits, undoes, redoes, forgets, looks, edit_range, edit_moved, kind_of, command_at}
@@ -35,7 +35,7 @@ kind_of-at room seat seen save asked e = let same : looks ≡ asked = cc in same
 kind_of-at room seat seen packet asked e = let same : looks ≡ asked = cc in same
 
 -- The desk makes a step of this kind.
-pub accepted-step : (room : RoomState) (it : RoomLineOf) (asked : Kind) → asked_of room it.seat it.seen (kind_of it.command) ≡ Ok asked → Accepts room.desk (command_at it.command asked)
+pub accepted-step : (room : RoomState) (it : RoomLineOf) (asked : Kind) → asked_of room it.seat it.seen (kind_of it.command) ≡ Ok asked → CanDo room.desk (command_at it.command asked)
     → Step room.desk asked (memory_after room.desk (command_at it.command asked))
 accepted-step room it asked asks can =
     subst (λ (kind : Kind). Step room.desk kind (memory_after room.desk (command_at it.command asked))) (kind_of-at room it.seat it.seen it.command asked asks)

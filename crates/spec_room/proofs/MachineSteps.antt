@@ -13,7 +13,7 @@ use Rattle.spec_text.proofs.TakenEdits.{taken-inside}
 use Rattle.spec_state.specs.State.{text_of}
 use Rattle.spec_wire.specs.Commands.{CommandOf, edit, undo, redo, lock_scenes, lock_pages, next_round, sheet, labels, blocks, outline, save, speakers, paper, packet}
 use Rattle.spec_wire.specs.Replies.{RefusalOf, nothing_to_undo, nothing_to_redo, refused, is_refused}
-use Rattle.spec_machine.specs.Machine.{EntryOf, Memory, entry_of, last_entry, without_last, undone_to, redone_to, memory_after, Accepts}
+use Rattle.spec_machine.specs.Machine.{EntryOf, Memory, entry_of, last_entry, without_last, undone_to, redone_to, memory_after, CanDo}
 use Rattle.spec_machine.specs.Refusals.{edit_refusal, refusal_to}
 use Rattle.spec_machine.specs.Answers.{step_by, step_of, accepted_reply}
 use Rattle.spec_machine.proofs.RefusalLaws.{no-reason}
@@ -129,7 +129,7 @@ step-made memory outline taken = refl
 step-made memory save taken = refl
 step-made memory packet taken = refl
 
-accepted-taken : (memory : Memory) (command : CommandOf) → Accepts memory command → IsTaken memory command
+accepted-taken : (memory : Memory) (command : CommandOf) → CanDo memory command → IsTaken memory command
 accepted-taken memory (edit it) can = can.taken
 accepted-taken memory undo can = can
 accepted-taken memory redo can = can
@@ -146,7 +146,7 @@ accepted-taken memory save can = tt
 accepted-taken memory packet can = tt
 
 -- It makes a step of its kind.
-pub accepted-made : (memory : Memory) (command : CommandOf) → Accepts memory command → Step memory (kind_of command) (memory_after memory command)
+pub accepted-made : (memory : Memory) (command : CommandOf) → CanDo memory command → Step memory (kind_of command) (memory_after memory command)
 accepted-made memory command can = step-made memory command (accepted-taken memory command can)
 
 no-edit : (refusal : Option Refusal) → option_map edit_refusal refusal ≡ None → refusal ≡ None

@@ -5,9 +5,11 @@ use Rattle.spec_text.specs.Edits.{EditOf, stretch}
 use Rattle.spec_state.specs.State.{State}
 use Rattle.spec_state.specs.Keeping.{IsWhole}
 use Rattle.spec_wire.specs.Commands.{CommandOf, RoomLineOf, edit}
-use Rattle.spec_machine.specs.Machine.{Memory, opened_memory, memory_after, Accepts, AcceptsAll, memory_behind}
+use Rattle.spec_machine.specs.Machine.{Memory, opened_memory, memory_after, memory_behind}
+use Rattle.spec_machine.specs.Sessions.{Accepts, AcceptsAll}
 use Rattle.spec_machine.specs.KeptMemories.{IsWholeMemory}
 use Rattle.spec_machine.proofs.MachineLaws.{opened-whole, step-whole}
+use Rattle.spec_machine.proofs.RefusalLaws.{accepted-can}
 use Rattle.spec_room.specs.Changes.{Text}
 use Rattle.spec_room.specs.Kinds.{Kind, edits, undoes, redoes, forgets, looks, edit_range, kind_of, command_at}
 use Rattle.spec_room.specs.Rooms.{RoomState, opened_room, kept_changes, last_of, since, asked_of, rises, room_after}
@@ -86,7 +88,8 @@ stood_goes state commands old texts it asked stood asks can =
     let command = command_at it.command asked in
     let new = memory_after old.desk command in
     let kind = kind_of it.command in
-    let step = accepted-step old it asked asks can in
+    let able = accepted-can old.desk command can in
+    let step = accepted-step old it asked asks able in
     let rise = rises-asked old it.seat it.seen kind asked asks in
     let longer = versions-length texts kind new.state.lines in
     let before = stood.count in
@@ -95,7 +98,7 @@ stood_goes state commands old texts it asked stood asks can =
     record {
       desk = ap (λ (m : Memory). memory_after m command) stood.desk ∙ sym (behind-more (opened_memory state) commands command);
       accepts = accepts-more (opened_memory state) commands command stood.accepts (subst (λ (m : Memory). Accepts m command) stood.desk can);
-      whole = step-whole old.desk command stood.whole can;
+      whole = step-whole old.desk command stood.whole able;
       holds = holds_after old it.seat asked new stood.holds step few;
       count = omega (arith, rise, longer, before);
       stands = subst (StandsFor (room_after old it.seat asked new)) (versions-last texts kind new.state.lines)
@@ -127,7 +130,7 @@ session_seen state commands old texts seat seen it new whole session takes =
     let stands = stood state commands old texts whole session in
     let asks = asks_edit old seat seen range takes.asked takes.asks in
     let then = text_at-version state commands old texts seen stands asks.not_ahead asks.not_stale in
-    let step = accepted-step old line takes.asked takes.asks takes.accepts in
+    let step = accepted-step old line takes.asked takes.asks (accepted-can old.desk (command_at (edit it) takes.asked) takes.accepts) in
     let law = edits_seen old seat seen range takes.asked made (last_of (kept_changes + 1) texts) stands.holds stands.stands takes.asks step in
     subst (TakesSeen old texts seen range) (sym takes.room) (record {
       place = law.place;

@@ -4,7 +4,8 @@ use Rattle.spec_text.specs.Edits.{stretch}
 use Rattle.spec_text.specs.Ranges.{RangeOf}
 use Rattle.spec_state.specs.State.{State}
 use Rattle.spec_wire.specs.Commands.{CommandOf, RoomLineOf}
-use Rattle.spec_machine.specs.Machine.{opened_memory, memory_after, Accepts}
+use Rattle.spec_machine.specs.Machine.{opened_memory, memory_after}
+use Rattle.spec_machine.specs.Sessions.{Accepts}
 use Rattle.spec_room.specs.Changes.{Text, Changes, place_of}
 use Rattle.spec_room.specs.Kinds.{Kind, kind_of, command_at}
 use Rattle.spec_room.specs.Rooms.{RoomState, opened_room, changes_since, asked_of, rises, room_after}
