@@ -125,19 +125,13 @@ def program(body):
     return text + "\nfn main(rt: HostRuntime) {\n}\n", edits
 
 
-def crates():
-    """What crates.txt has, and each crate with those that it names."""
-    text = (TOP / "crates.txt").read_text()
-    lines = [line.split("#")[0].partition(":") for line in text.splitlines()]
-    return text, {name: below.split() for name, colon, below in lines if colon}
-
-
 def tried(folder, text):
     """Begins to try a program over copies of the sources."""
-    listed, known = crates()
-    for name in known:
+    listed = (TOP / "crates.txt").read_text()
+    names = re.findall(r"^(\w+)\b.*:", listed, re.M)
+    for name in names:
         shutil.copytree(TOP / "crates" / name / "src", folder / "crates" / name / "src")
-    used = [name for name in known if re.search(rf"\b{name}::", text)]
+    used = [name for name in names if re.search(rf"\b{name}::", text)]
     (folder / "crates.txt").write_text(f"{listed}\nlent: {' '.join(used)}\n")
     main = folder / "crates/lent/src/main.rt"
     main.parent.mkdir(parents=True)
