@@ -27,10 +27,8 @@ WITHOUT_EDITS = (
     "sp_record_file",
     "sp_made_parts",
     "sp_text_entry",
-    "sp_made",
     "sp_locking",
     "sp_state",
-    "sp_desk",
     "sp_room",
     "sp_sample",
 )
