@@ -2,7 +2,7 @@ ghost use Rattle.std.specs.Prelude.{◌≡◌, ℕ, ◌+◌, ◌<◌, ◌^◌, f
 ghost use Rattle.spec_wire.specs.Commands as commands;
 ghost use Rattle.spec_wire.specs.Replies.{is_refused};
 ghost use Rattle.spec_room.specs.Changes.{Text};
-ghost use Rattle.spec_room.specs.Kinds.{kind_of};
+ghost use Rattle.spec_room.specs.Kinds.{kind_of, looks};
 ghost use Rattle.spec_room.specs.Rooms.{opened_room};
 ghost use Rattle.spec_room.specs.Standing.{StandsFor, KeepsSeen, texts_after};
 ghost use Rattle.sp_text.specs.Changing.{edit_of};
@@ -110,6 +110,9 @@ impl Room {
         ensures same { OnErr result (self.new ≡ self.old) }
         ensures reads { RoomReads self.old (line_of seat.now seen (command_of command)) result (S.reads steps.old) (S.reads steps.new) }
         ensures fills { RoomFills self.old (line_of seat.now seen (command_of command)) result (S.fills steps.old) (S.fills steps.new) }
+
+        // A command that only looks leaves the room as it was.
+        ensures looks { kind_of (command_of command) ≡ looks → self.new ≡ self.old }
 
         // An edit takes away or changes just the lines that its seat saw.
         ensures seen { (texts : List Text) → StandsFor self.old texts → OnOk result (KeepsSeen self.old texts seen (kind_of (command_of command)) self.new) }
