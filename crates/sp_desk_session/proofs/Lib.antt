@@ -1,4 +1,5 @@
 pub mod PromiseLaws
+pub mod Plain
 pub mod Replies
 pub mod CountLaws
 pub mod Touches

@@ -85,7 +85,7 @@ runs-later way before (line ∷ lines) (step ∷ steps) runs =
 
 -- What is left at the end of a session has no lower count than the last answer left.
 stops-later : (before : AtShelf NamedDesk) (asks : Bool) (after : AtShelf NamedDesk) → Leaves asks before after → before.shelf.faults ≤ after.shelf.faults
-stops-later before true after leaves = leaves.later
+stops-later before true after leaves = let same = leaves.kept in omega (arith, same)
 stops-later before false after leaves = let same : after.shelf.faults ≡ before.shelf.faults = ap (λ (it : ShelfState). it.faults) leaves in omega (arith, same)
 
 ends-later : (way : Way) (old new : Streams) (before after : AtShelf way.It) (course : Course (AtShelf way.It)) (end : SessionEnd) → EndsAs way.stops old new before after course end

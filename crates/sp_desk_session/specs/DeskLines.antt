@@ -139,9 +139,9 @@ abbrev pub Leaves : Bool → AtShelf NamedDesk → AtShelf NamedDesk → Type 0
 Leaves true before after = StoreLeft (files_of before.it.name before.it.memory.state) before.shelf after.shelf
 Leaves false before after = after.shelf ≡ before.shelf
 
--- How want of memory leaves a desk and its shelf: there was none for what the line asks, or for the line of the reply.
+-- How want of memory leaves a desk and its shelf, for what the line asks or for the line of the reply: the desk is as it was.
 pub record StopsAt (before : AtShelf NamedDesk) (asked : Result CommandOf FaultOf) (after : AtShelf NamedDesk) : Type 0 where
-  pub memory : (after.it.memory ≡ before.it.memory) ⊎ (after.it.memory ≡ (line_step_by before.it.memory asked).after)
+  pub memory : after.it.memory ≡ before.it.memory
   pub name : after.it.name ≡ before.it.name
   pub leaves : Leaves (asks_save asked) before after
 

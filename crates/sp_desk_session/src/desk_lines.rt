@@ -15,7 +15,7 @@ use sp_fields::WireFault;
 use sp_kit::{Shelf, Steps};
 use sp_packet::{PacketFault, packet};
 use sp_session::Responder;
-use sp_wire::{read_command, write_reply};
+use sp_wire::{read_command, reply_room, write_reply};
 use std::alloc::{AllocError, Global};
 use std::marker::Model;
 
@@ -129,8 +129,9 @@ impl<'a> Responder for DeskLines<'a> {
         shelf: &mut F,
         steps: &mut S,
     ) -> Result<Vec<u8>, AllocError> {
+        let room = reply_room(self.alloc)?;
         let reply = reply_to_line(self.alloc, self.name, &mut self.desk, line, shelf, steps)?;
         let _sheets = self.desk.sheets();
-        write_reply(self.alloc, &reply)
+        write_reply(self.alloc, &reply, room)
     }
 }

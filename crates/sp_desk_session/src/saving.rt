@@ -10,8 +10,8 @@ use sp_opening::save;
 use std::alloc::{AllocError, Global};
 
 /// Stores the present state of a desk, and answers the digest of its text, or refuses `Shelf` where a store failed: then the
-/// shelf's count rose. `AllocError` comes for want of memory: then under each of both names stands what stood there or what was to be
-/// stored, or the count rose. Other names keep what they have.
+/// shelf's count rose. `AllocError` comes for want of memory: then under the name stands what stood there or the text, and all other
+/// names, and the count, are as they were.
 pub fn save_desk<F: Shelf>(
     alloc: Global,
     name: &str,

@@ -6,10 +6,9 @@ use Rattle.spec_text.specs.Lines.{text_bytes}
 use Rattle.spec_records.specs.RecordFile.{written}
 use Rattle.spec_state.specs.State.{State}
 use Rattle.spec_state.specs.Keeping.{state_kept}
-use Rattle.sp_kit.specs.Causes.{Rose}
 use Rattle.sp_kit.specs.Files.{Files, ShelfState, KeepsOthers}
 use Rattle.sp_opening.specs.Records.{records_name}
-use Rattle.sp_opening.specs.Saving.{Changes, KeepsAllBut, TwoFiles, files_of, PutBoth, PutFirst, StoredBoth, StoreFailed, LeftBoth, StoreLeft}
+use Rattle.sp_opening.specs.Saving.{Changes, KeepsAllBut, TwoFiles, files_of, PutBoth, PutFirst, StoreFailed, LeftFirst, StoreLeft}
 
 -- The record file doesn't stand under the script's name.
 pub names-differ : (name : List ℕ) → name ≢ records_name name
@@ -40,28 +39,6 @@ changes-then (Some old) (Some mid) (Some new) P joins first second = joins old m
 
 -- ---- two stores
 
--- ---- what was stored is what want of memory may leave
-
-pub stored-left : (it : TwoFiles) (old new : ShelfState) → StoredBoth it old new → StoreLeft it old new
-stored-left it old new stored =
-    let same = stored.kept in record {
-      later = omega (arith, same);
-      files = changes-map old.files new.files (PutBoth it) (LeftBoth (Rose old.faults new.faults) it)
-          (λ before now put. record { first = inr (inl put.first); second = inr (inl put.second); others = put.others }) stored.files;
-    }
-
-failed-both : (it : TwoFiles) (rose : Type 0) (old new : Files) → it.name ≢ it.beside → rose → KeepsOthers old new it.name ⊎ PutFirst it old new → LeftBoth rose it old new
-failed-both it rose old new differ is (inl others) =
-    record { first = inr (inr is); second = inl (others it.beside (λ same. differ (sym same))); others = λ name not-first not-second. others name not-first }
-failed-both it rose old new differ is (inr put) = record { first = inr (inl put.first); second = inr (inr is); others = put.others }
-
-pub failed-left : (it : TwoFiles) (old new : ShelfState) → it.name ≢ it.beside → StoreFailed it old new → StoreLeft it old new
-failed-left it old new differ failed = record {
-  later = failed.later;
-  files = changes-map old.files new.files (λ before now. KeepsOthers before now it.name ⊎ PutFirst it before now) (LeftBoth (Rose old.faults new.faults) it)
-      (λ before now. failed-both it (Rose old.faults new.faults) before now differ failed.rose) failed.files;
-}
-
 -- Each of these changes no name but the two.
 pub put-others : (it : TwoFiles) (old new : Files) → PutBoth it old new → KeepsAllBut old new it.name it.beside
 put-others it old new put = put.others
@@ -76,7 +53,7 @@ failed-others it old new failed =
 
 pub left-others : (it : TwoFiles) (old new : ShelfState) → StoreLeft it old new → Changes old.files new.files (λ before now. KeepsAllBut before now it.name it.beside)
 left-others it old new left =
-    changes-map old.files new.files (LeftBoth (Rose old.faults new.faults) it) (λ before now. KeepsAllBut before now it.name it.beside) (λ before now both. both.others) left.files
+    changes-map old.files new.files (LeftFirst it) (λ before now. KeepsAllBut before now it.name it.beside) (λ before now first. λ name not-first not-second. first.others name not-first) left.files
 
 -- The files of a state, by their parts.
 pub files-as : (name : List ℕ) (state : State) (it : TwoFiles) → it.name ≡ name → it.bytes ≡ text_bytes state.lines → it.beside ≡ records_name name → it.records ≡ written state.lines (state_kept state)
@@ -86,10 +63,8 @@ files-as name state it named text beside records = λ i. record { name = named i
 -- ---- before a store
 
 nothing-left : (it : TwoFiles) (same : ShelfState) → StoreLeft it same same
-nothing-left it same = record {
-  later = omega arith;
-  files = changes-none same.files same.files (LeftBoth (Rose same.faults same.faults) it) (λ files. record { first = inl refl; second = inl refl; others = λ name not-first not-second. refl }) refl;
-}
+nothing-left it same =
+    record { kept = refl; files = changes-none same.files same.files (LeftFirst it) (λ files. record { first = inl refl; others = λ name other. refl }) refl }
 
 -- Where nothing was stored, the shelf is as it was.
 pub unstored-left : {T E : Type 0} (result : Result T E) (it : TwoFiles) (same : ShelfState) → OnErr result (StoreLeft it same same)

@@ -55,20 +55,15 @@ pub record StoreFailed (it : TwoFiles) (old new : ShelfState) : Type 0 where
   pub rose : Rose old.faults new.faults
   pub files : Changes old.files new.files (λ before now. KeepsOthers before now it.name ⊎ PutFirst it before now)
 
--- What may stand under a name that bytes were to be stored under, where a count rose or not.
-abbrev pub LeftUnder : Type 0 → List ℕ → List ℕ → Files → Files → Type 0
-LeftUnder rose name bytes old new = (new name ≡ old name) ⊎ (new name ≡ Some bytes) ⊎ rose
+-- The first name is as it was, or has its bytes; all others are as they were.
+pub record LeftFirst (it : TwoFiles) (old new : Files) : Type 0 where
+  pub first : (new it.name ≡ old it.name) ⊎ (new it.name ≡ Some it.bytes)
+  pub others : KeepsOthers old new it.name
 
--- Each of the two names is as it was, or has the bytes, or a count rose.
-pub record LeftBoth (rose : Type 0) (it : TwoFiles) (old new : Files) : Type 0 where
-  pub first : LeftUnder rose it.name it.bytes old new
-  pub second : LeftUnder rose it.beside it.records old new
-  pub others : KeepsAllBut old new it.name it.beside
-
--- How want of memory may leave a shelf in two stores, or after them.
+-- How want of memory may leave a shelf before two stores or in them: the second wasn't done, and no fault was counted.
 pub record StoreLeft (it : TwoFiles) (old new : ShelfState) : Type 0 where
-  pub later : old.faults ≤ new.faults
-  pub files : Changes old.files new.files (LeftBoth (Rose old.faults new.faults) it)
+  pub kept : new.faults ≡ old.faults
+  pub files : Changes old.files new.files (LeftFirst it)
 
 -- How two stores go, the second of which isn't tried where the first failed.
 abbrev pub StoresBoth : TwoFiles → ShelfState → ShelfState → Result (Unit {0}) ShelfFault → Type 0

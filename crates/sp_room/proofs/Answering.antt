@@ -1,6 +1,6 @@
 -- A room after a command: it keeps what each room keeps, and is what the step of the definitions makes of it.
-use Rattle.std.proofs.Common.{◌≡◌, ℕ, ◌+◌, ◌-◌, ◌<◌, ◌^◌, Bool, true, false, not, cond, List, [], ◌∷◌, ◌++◌, length, drop, refl, sym, ap, subst, ◌∙◌, arith, append-nil}
-use Rattle.std.specs.Prelude.{IfOk, OnOk, OnErr}
+use Rattle.std.proofs.Common.{◌≡◌, ℕ, ◌+◌, ◌-◌, ◌<◌, ◌^◌, Bool, true, false, not, cond, List, [], ◌∷◌, ◌++◌, length, drop, refl, sym, ap, subst, ◌∙◌, arith, append-nil, length-append}
+use Rattle.std.specs.Prelude.{IfOk, OnOk, OnErr, Option, Some, None}
 use Rattle.std.specs.Str.{bytes_eq}
 use Rattle.std.specs.declared.result.Result.{Result}
 use Rattle.std.specs.declared.result.Result.TheVariants.{Ok, Err}
@@ -8,12 +8,13 @@ use Rattle.std.proofs.lemmas.List.{length-map, map-append, drop-map}
 use Rattle.spec_text.specs.Edits.{EditOf}
 use Rattle.spec_text.specs.Ranges.{RangeOf}
 use Rattle.spec_wire.specs.Commands.{CommandOf, RoomLineOf, edit, undo, redo, lock_scenes, lock_pages, next_round, sheet, labels, blocks, outline, save, speakers, paper, packet}
-use Rattle.spec_wire.specs.Replies.{ReplyOf, is_refused, not_yours}
+use Rattle.spec_wire.specs.Replies.{RefusalOf, ReplyOf, is_refused, not_yours}
 use Rattle.spec_machine.specs.Machine.{Memory}
-use Rattle.spec_machine.specs.Answers.{Step, step_of}
+use Rattle.spec_machine.specs.Answers.{Step, step_by, step_of}
+use Rattle.spec_machine.specs.Refusals.{refusal_to}
 use Rattle.spec_room.specs.Changes.{Text, turned}
 use Rattle.spec_room.specs.Kinds.{Kind, edits, undoes, redoes, forgets, looks, edit_range, edit_moved, kind_of, command_at}
-use Rattle.spec_room.specs.Rooms.{RoomState, kept_changes, last_of, but_last, asked_edit, for_owner, asked_of, change_of, room_after, room_step_to, room_step_of}
+use Rattle.spec_room.specs.Rooms.{RoomState, RoomStep, asked_step, room_step_by, kept_changes, last_of, but_last, asked_edit, for_owner, asked_of, change_of, room_after, room_step_to, room_step_of}
 use Rattle.spec_room.specs.Standing.{StandsFor, KeepsSeen, texts_after}
 use Rattle.spec_room.specs.Holding.{Holds}
 use Rattle.spec_room.proofs.MachineSteps as machine
@@ -263,6 +264,39 @@ pub same-room : (old new : RoomState) (it : RoomLineOf) (result : Result Reply D
 same-room old new it (Ok reply) answer = tt
 same-room old new it (Err (Refused reason)) answer = refused-same old it new (refusal_of reason) answer
 same-room old new it (Err NoMemory) answer = answer
+
+-- A command that only looks leaves a desk as it was.
+looks-desk : (memory : Memory) (command : CommandOf) → kind_of command ≡ looks → (step_of memory (command_at command looks)).after ≡ memory
+looks-desk memory command kind = subst (λ (it : CommandOf). (step_of memory it).after ≡ memory) (sym (same-command command looks (λ range is. absurd (let bad : ⊥ = cc in bad)))) (by command kind (refusal_to memory command))
+  where
+    by : (command : CommandOf) → kind_of command ≡ looks → (refusal : Option RefusalOf) → (step_by memory command refusal).after ≡ memory
+    by command kind (Some reason) = refl
+    by (sheet index) kind None = refl
+    by labels kind None = refl
+    by blocks kind None = refl
+    by outline kind None = refl
+    by save kind None = refl
+    by packet kind None = refl
+    by command kind None = absurd (let bad : ⊥ = cc in bad)
+
+looks-after : (old : RoomState) (seat : List ℕ) → Holds old → room_after old seat looks old.desk ≡ old
+looks-after old seat holds =
+    let kept = holds.kept in
+    let long = length-append old.changes [] in
+    let none : length (old.changes ++ []) - kept_changes ≡ 0 = omega (arith, long, kept) in
+    let changes : last_of kept_changes (old.changes ++ []) ≡ old.changes = ap (λ (n : ℕ). drop n (old.changes ++ [])) none ∙ append-nil old.changes in
+    let version : old.version + 0 ≡ old.version = omega arith in
+    λ i. record { desk = old.desk; version = version i; changes = changes i; done = old.done; undone = old.undone }
+
+pub looks-same : (old new : RoomState) (it : RoomLineOf) (result : Result Reply DeskFault) → Holds old → IsRoomAnswer old it new result → IfOk result (λ reply. is_refused (reply_of reply) ≡ false)
+    → kind_of it.command ≡ looks → new ≡ old
+looks-same old new it (Ok reply) holds answer free kind =
+    let made = step_of old.desk (command_at it.command looks) in
+    let at : room_step_to new (reply_of reply) ≡ asked_step old it.seat looks made = answer ∙ ap (room_step_by old it) (ap (asked_of old it.seat it.seen) kind) in
+    let taken : is_refused made.reply ≡ false = ap (λ (s : RoomStep). is_refused s.reply) (sym at) ∙ free in
+    ap (λ (s : RoomStep). s.after) at ∙ ap (λ (b : Bool). cond b old (room_after old it.seat looks made.after)) taken
+    ∙ ap (λ (m : Memory). room_after old it.seat looks m) (looks-desk old.desk it.command kind) ∙ looks-after old it.seat holds
+looks-same old new it (Err fault) holds answer free kind = same-room old new it (Err fault) answer
 
 pub seen-kept : (old new : RoomState) (it : RoomLineOf) (result : Result Reply DeskFault) → Holds old → IsRoomAnswer old it new result → IfOk result (λ reply. is_refused (reply_of reply) ≡ false)
     → (texts : List Text) → StandsFor old texts → OnOk result (KeepsSeen old texts it.seen (kind_of it.command) new)

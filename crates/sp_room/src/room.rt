@@ -1,7 +1,7 @@
 ghost use Rattle.std.specs.Prelude.{◌≡◌, ℕ, ◌+◌, ◌<◌, ◌^◌, false, List, [], ◌∷◌, length, IfOk, OnErr};
 ghost use Rattle.spec_wire.specs.Commands as commands;
 ghost use Rattle.spec_wire.specs.Replies.{is_refused};
-ghost use Rattle.spec_room.specs.Kinds.{kind_of};
+ghost use Rattle.spec_room.specs.Kinds.{kind_of, looks};
 ghost use Rattle.spec_room.specs.Rooms.{opened_room};
 ghost use Rattle.spec_room.specs.Standing.{StandsFor};
 ghost use Rattle.sp_text.specs.Changing.{edit_of};
@@ -111,6 +111,9 @@ impl Room {
             (S.reads steps.old) (S.reads steps.new) }
         ensures fills { RoomFills self.old (line_of seat.now seen (command_of command)) result
             (S.fills steps.old) (S.fills steps.new) }
+
+        // A command that only looks leaves the room as it was.
+        ensures looks { kind_of (command_of command) ≡ looks → self.new ≡ self.old }
 
         // An edit takes away or changes just the lines that its seat saw.
         ensures seen { KeepsSeenLines self.old seen (command_of command) self.new result }

@@ -1,6 +1,6 @@
 -- What becomes of a room by a line of one of its seats.
 use Rattle.std.proofs.Common.{◌≡◌, ℕ, Bool, true, false, cond, List, [], ◌∷◌, ◌++◌, inl, inr, refl, sym, ap, ◌∙◌, subst}
-use Rattle.std.specs.Prelude.{if◌then◌else◌, OnErr}
+use Rattle.std.specs.Prelude.{if◌then◌else◌, IfOk, OnErr}
 use Rattle.std.specs.declared.option.Option.{Option}
 use Rattle.std.specs.declared.option.Option.TheVariants.{Some, None}
 use Rattle.std.specs.declared.result.Result.{Result}
@@ -9,16 +9,16 @@ use Rattle.spec_wire.specs.Commands.{CommandOf, FaultOf, RoomLineOf, edit, undo,
 use Rattle.spec_wire.specs.Replies.{RefusalOf, ReplyOf, is_refused}
 use Rattle.spec_state.specs.State.{State}
 use Rattle.spec_state.specs.Keeping.{IsWhole}
-use Rattle.spec_machine.specs.Machine.{memory_after}
+use Rattle.spec_machine.specs.Machine.{Memory, memory_after}
 use Rattle.spec_machine.specs.Refusals.{refusal_to}
-use Rattle.spec_machine.specs.Answers.{step_by, step_of}
+use Rattle.spec_machine.specs.Answers.{accepted_reply, step_by, step_of}
 use Rattle.spec_machine.specs.KeptMemories.{IsWholeMemory}
 use Rattle.spec_machine.specs.LabelPromises.{LosesNone}
 use Rattle.spec_machine.proofs.MachineLaws.{all-stay, step-lost}
 use Rattle.spec_machine.proofs.RefusalLaws.{accepted-can}
 use Rattle.spec_locked_pages.specs.Chains.{AreLinked}
 use Rattle.spec_room.specs.Changes.{Text}
-use Rattle.spec_room.specs.Kinds.{Kind, kind_of, command_at}
+use Rattle.spec_room.specs.Kinds.{Kind, edits, undoes, redoes, forgets, looks, edit_moved, kind_of, command_at}
 use Rattle.spec_room.specs.Rooms.{RoomState, RoomStep, asked_of, room_after, room_step_to, asked_step, room_step_by, room_step_of}
 use Rattle.spec_room.specs.Sessions.{Session, Takes, goes, versions_after}
 use Rattle.spec_room.proofs.SessionLaws.{session_seen}
@@ -27,11 +27,11 @@ use Rattle.sp_commands.specs.declared.reply.Reply.{Reply}
 use Rattle.sp_commands.specs.Values.{reply_of}
 use Rattle.sp_desk.specs.declared.fault.DeskFault.{DeskFault}
 use Rattle.sp_room.specs.Answers.{IsRoomAnswer}
-use Rattle.sp_desk_session.specs.DeskLines.{Leaves, asks_save, is_packet, is_save}
+use Rattle.sp_desk_session.specs.DeskLines.{Leaves, Stores, asks_save, is_packet, is_save}
 use Rattle.sp_run.specs.RoomLines.{NamedRoom, SeatReplies, SeatStops, desk_of_room, other_room, packet_room, room_line_step_by, saved_room, seatless}
-use Rattle.sp_opening.specs.Saving.{files_of}
-use Rattle.sp_opening.proofs.Stores.{failed-left, names-differ}
-use Rattle.sp_desk_session.proofs.Replies.{stored-leaves}
+use Rattle.sp_wire.specs.Done.{TellsPlainly, is_done}
+use Rattle.sp_desk_session.proofs.Plain.{plain-digest}
+use Rattle.sp_desk_session.proofs.Replies.{none-left, packet-plain, step-plain}
 use Rattle.sp_desk_session.specs.Promises.{Follows}
 use Rattle.sp_run.specs.Seats.{IsSeen, IsTakenSeen}
 
@@ -102,19 +102,98 @@ pub answer-follows : (old : RoomState) (it : RoomLineOf) (new : RoomState) (resu
 answer-follows old it new (Ok reply) step same whole now linked = step-follows old it new (reply_of reply) step whole now linked
 answer-follows old it new (Err fault) step same whole now linked = same-follows old new same now linked
 
--- What a reply left, want of memory for its line may leave.
-pub seat-stops : (before after : AtShelf NamedRoom) (asked : Result RoomLineOf FaultOf) (reply : ReplyOf) → SeatReplies before asked after reply → SeatStops before asked after
-seat-stops before after asked reply (inl it) = record {
-  room = inr (ap (λ (s : RoomStep). s.after) it.step);
-  name = it.name;
-  leaves = stored-leaves (asks_save (seatless asked)) (desk_of_room before) (desk_of_room after) it.stores;
-}
-seat-stops before after asked reply (inr it) = record {
-  room = inl (ap (λ (r : NamedRoom). r.room) it.same);
-  name = ap (λ (r : NamedRoom). r.name) it.same;
-  leaves = subst (λ (b : Bool). Leaves b (desk_of_room before) (desk_of_room after)) (sym it.asks)
-      (failed-left (files_of before.it.name before.it.room.desk.state) before.shelf after.shelf (names-differ before.it.name) it.failed);
-}
+-- ---- the line of a reply
+
+-- A command whose reply would tell what was done is refused, where its reply doesn't.
+done-told : (memory : Memory) (command : CommandOf) → ((after : State) → is_done (accepted_reply memory after command) ≡ true) → is_done (step_of memory command).reply ≡ false
+    → is_refused (step_of memory command).reply ≡ false → ⊥
+done-told memory command done = by (refusal_to memory command)
+  where
+    by : (refusal : Option RefusalOf) → is_done (step_by memory command refusal).reply ≡ false → is_refused (step_by memory command refusal).reply ≡ false → ⊥
+    by None told free = let bad : true ≡ false = sym (done (memory_after memory command).state) ∙ told in let no : ⊥ = cc in no
+    by (Some reason) told free = let no : ⊥ = cc in no
+
+-- One whose reply tells nothing of the kind only looks.
+told-looks : (memory : Memory) (command : CommandOf) (asked : Kind) → is_done (step_of memory (command_at command asked)).reply ≡ false → is_refused (step_of memory (command_at command asked)).reply ≡ false
+    → kind_of command ≡ looks
+told-looks memory (edit it) (edits range) told free = absurd (done-told memory (edit (edit_moved it range.first)) (λ after. refl) told free)
+told-looks memory (edit it) undoes told free = absurd (done-told memory (edit it) (λ after. refl) told free)
+told-looks memory (edit it) redoes told free = absurd (done-told memory (edit it) (λ after. refl) told free)
+told-looks memory (edit it) forgets told free = absurd (done-told memory (edit it) (λ after. refl) told free)
+told-looks memory (edit it) looks told free = absurd (done-told memory (edit it) (λ after. refl) told free)
+told-looks memory undo asked told free = absurd (done-told memory undo (λ after. refl) told free)
+told-looks memory redo asked told free = absurd (done-told memory redo (λ after. refl) told free)
+told-looks memory lock_scenes asked told free = absurd (done-told memory lock_scenes (λ after. refl) told free)
+told-looks memory lock_pages asked told free = absurd (done-told memory lock_pages (λ after. refl) told free)
+told-looks memory next_round asked told free = absurd (done-told memory next_round (λ after. refl) told free)
+told-looks memory (speakers on) asked told free = absurd (done-told memory (speakers on) (λ after. refl) told free)
+told-looks memory (paper size) asked told free = absurd (done-told memory (paper size) (λ after. refl) told free)
+told-looks memory (sheet index) asked told free = refl
+told-looks memory labels asked told free = refl
+told-looks memory blocks asked told free = refl
+told-looks memory outline asked told free = refl
+told-looks memory save asked told free = refl
+told-looks memory packet asked told free = refl
+
+-- A reply that tells nothing of the kind leaves the room as it was.
+undone-step : (old : RoomState) (it : RoomLineOf) (new : RoomState) (reply : ReplyOf) → room_step_to new reply ≡ room_step_of old it → (kind_of it.command ≡ looks → new ≡ old) → is_done reply ≡ false → new ≡ old
+undone-step old it new reply is looked told = by (asked_of old it.seat it.seen (kind_of it.command)) (is_refused reply) refl is
+  where
+    by : (asked : Result Kind RefusalOf) (refuses : Bool) → is_refused reply ≡ refuses → room_step_to new reply ≡ room_step_by old it asked → new ≡ old
+    by (Err reason) refuses known same = ap (λ (s : RoomStep). s.after) same
+    by (Ok asked) true known same = step-stays old it new reply is known
+    by (Ok asked) false known same =
+        let made = step_of old.desk (command_at it.command asked) in
+        let undone : is_done made.reply ≡ false = ap (λ (s : RoomStep). is_done s.reply) (sym same) ∙ told in
+        let free : is_refused made.reply ≡ false = ap (λ (s : RoomStep). is_refused s.reply) (sym same) ∙ known in looked (told-looks old.desk it.command asked undone free)
+
+pub answer-undone : (old : RoomState) (it : RoomLineOf) (new : RoomState) (result : Result Reply DeskFault) → IsRoomAnswer old it new result → (kind_of it.command ≡ looks → new ≡ old)
+    → IfOk result (λ reply. is_done (reply_of reply) ≡ false → new ≡ old)
+answer-undone old it new (Ok reply) answer looked = undone-step old it new (reply_of reply) answer looked
+answer-undone old it new (Err fault) answer looked = tt
+
+room-plain : (room : RoomState) (it : RoomLineOf) → TellsPlainly (room_step_of room it).reply
+room-plain room it = by (asked_of room it.seat it.seen (kind_of it.command))
+  where
+    by : (asked : Result Kind RefusalOf) → TellsPlainly (room_step_by room it asked).reply
+    by (Ok asked) = step-plain room.desk (command_at it.command asked)
+    by (Err reason) = tt
+
+seat-line-plain : (room : RoomState) (asked : Result RoomLineOf FaultOf) → TellsPlainly (room_line_step_by room asked).reply
+seat-line-plain room (Err fault) = tt
+seat-line-plain room (Ok it) = by (is_save it.command) (is_packet it.command)
+  where
+    by : (saves packs : Bool) → TellsPlainly (if saves then saved_room room else (if packs then packet_room room else room_step_of room it)).reply
+    by true packs = plain-digest room.desk.state.lines
+    by false true = packet-plain room.desk.state
+    by false false = room-plain room it
+
+pub seat-plain : (before after : AtShelf NamedRoom) (asked : Result RoomLineOf FaultOf) (reply : ReplyOf) → SeatReplies before asked after reply → TellsPlainly reply
+seat-plain before after asked reply (inl it) = subst TellsPlainly (sym (ap (λ (s : RoomStep). s.reply) it.step)) (seat-line-plain before.it.room asked)
+seat-plain before after asked reply (inr it) = subst TellsPlainly (sym it.told) tt
+
+seat-unasked : (room : RoomState) (asked : Result RoomLineOf FaultOf) → is_done (room_line_step_by room asked).reply ≡ false → asks_save (seatless asked) ≡ false
+seat-unasked room (Err fault) = λ told. refl
+seat-unasked room (Ok it) = by (is_save it.command)
+  where
+    by : (saves : Bool) → is_done (if saves then saved_room room else other_room room it).reply ≡ false → saves ≡ false
+    by true told = absurd (let bad : ⊥ = cc in bad)
+    by false told = refl
+
+pub seat-stops : (before after : AtShelf NamedRoom) (asked : Result RoomLineOf FaultOf) (reply : ReplyOf) → is_done reply ≡ false → after.it.room ≡ before.it.room → SeatReplies before asked after reply
+    → SeatStops before asked after
+seat-stops before after asked reply told same (inl it) =
+    let unasked = seat-unasked before.it.room asked (sym (ap (λ (s : RoomStep). is_done s.reply) it.step) ∙ told) in
+    record {
+      room = same;
+      name = it.name;
+      leaves = subst (λ (b : Bool). Leaves b (desk_of_room before) (desk_of_room after)) (sym unasked) (subst (λ (b : Bool). Stores b (desk_of_room before) (desk_of_room after)) unasked it.stores);
+    }
+seat-stops before after asked reply told same (inr it) = absurd (let bad : true ≡ false = sym (ap is_done it.told) ∙ told in let no : ⊥ = cc in no)
+
+-- Where nothing was done, all is as it was.
+pub seat-none-stops : (at : AtShelf NamedRoom) (asked : Result RoomLineOf FaultOf) → SeatStops at asked at
+seat-none-stops at asked = record { room = refl; name = refl; leaves = none-left (asks_save (seatless asked)) (desk_of_room at) }
 
 -- ---- what the seats saw
 

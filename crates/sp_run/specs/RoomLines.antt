@@ -98,9 +98,9 @@ pub record AnswersRoomLine (before : AtShelf NamedRoom) (line : List ℕ) (after
   pub counts : SeatCounts before.it.room (room_line_of_line line) before.counts after.counts
   pub follows : Follows before.it.room.desk after.it.room.desk
 
--- How want of memory leaves a room and its shelf: there was none for what the line asks, or for the line of the reply.
+-- How want of memory leaves a room and its shelf, for what the line asks or for the line of the reply: the room is as it was.
 pub record SeatStops (before : AtShelf NamedRoom) (asked : Result RoomLineOf FaultOf) (after : AtShelf NamedRoom) : Type 0 where
-  pub room : (after.it.room ≡ before.it.room) ⊎ (after.it.room ≡ (room_line_step_by before.it.room asked).after)
+  pub room : after.it.room ≡ before.it.room
   pub name : after.it.name ≡ before.it.name
   pub leaves : Leaves (asks_save (seatless asked)) (desk_of_room before) (desk_of_room after)
 

@@ -1,7 +1,7 @@
 use Rattle.std.proofs.Common.{subst, rules}
 use Rattle.spec_machine.specs.KeptMemories.{IsWholeMemory}
 use Rattle.spec_locked_pages.specs.Chains.{AreLinked}
-use Rattle.sp_run.proofs.Seats.{answer-follows}
+use Rattle.sp_run.proofs.Seats.{answer-follows, answer-undone}
 use Rattle.sp_run.proofs.room_lines.ask_room.Goals as goal
 
 pub returns-clause-follows : goal.returns-clause-follows
@@ -17,3 +17,6 @@ returns-clause-reads g c = search rules
 
 pub returns-clause-fills : goal.returns-clause-fills
 returns-clause-fills g c = search rules
+
+pub returns-clause-undone : goal.returns-clause-undone
+returns-clause-undone g c = answer-undone c.args.room.now _ c.apply-answer.new.self c.apply-answer.result c.apply-answer.ensures.step c.apply-answer.ensures.looks

@@ -1,14 +1,28 @@
 use Rattle.std.proofs.Common.{◌≡◌}
 use Rattle.std.proofs.lemmas.Result.{IfOk-weaker}
+use Rattle.spec_session.specs.Runs.{counts_of}
+use Rattle.spec_wire.specs.Lines.{command_of_line}
 use Rattle.spec_wire.specs.Replies.{reply_line}
 use Rattle.sp_commands.specs.Values.{reply_of}
-use Rattle.sp_desk_session.proofs.CountLaws.{line-at-most}
-use Rattle.sp_desk_session.proofs.Replies.{on-err, replied-stops}
+use Rattle.sp_desk_session.proofs.CountLaws.{line-at-most, line-undone}
+use Rattle.sp_desk_session.proofs.Replies.{err-with, none-stops, on-err, replied-plain, undone-stops}
 use Rattle.sp_desk_session.proofs.desk_lines.DeskLinesResponder.answer.Goals as goal
+
+pub write_reply-requires : goal.write_reply-requires
+write_reply-requires g c = record { room = c.in_ok-room.ensures; plain = replied-plain _ _ _ _ c.in_ok-reply.ensures.reply }
+
+pub returns-in_err-room-clause-no_memory : goal.returns-in_err-room-clause-no_memory
+returns-in_err-room-clause-no_memory g c =
+    on-err c.from_residual.result (record {
+      stops = none-stops _ _;
+      counts = line-undone c.args.self.now.memory (command_of_line c.args.line.now) (counts_of (g.S.Steps.reads c.args.steps.now) (g.S.Steps.fills c.args.steps.now));
+    })
 
 pub returns-clause-no_memory : goal.returns-clause-no_memory
 returns-clause-no_memory g c =
-    rw (← c.self.view_is) (on-err c.write_reply.result (record { stops = replied-stops _ _ _ _ c.in_ok-reply.ensures.reply; counts = line-at-most _ _ _ _ c.in_ok-reply.ensures.counts }))
+    rw (← c.self.view_is)
+    (err-with c.write_reply.result c.write_reply.ensures.undone
+    (λ undone. record { stops = undone-stops _ _ _ _ undone c.in_ok-reply.ensures.reply; counts = line-at-most _ _ _ _ c.in_ok-reply.ensures.counts }))
 
 pub returns-clause-reply : goal.returns-clause-reply
 returns-clause-reply g c =

@@ -9,7 +9,7 @@ use Rattle.sp_desk.specs.Reads.{CommandReads}
 use Rattle.sp_desk.specs.Fills.{CommandFills}
 use Rattle.sp_room.specs.Answers.{line_of, IsRoomAnswer}
 use Rattle.sp_room.specs.Counts.{RoomReads, RoomFills}
-use Rattle.sp_room.proofs.Answering.{same-room, seen-kept, stands-kept}
+use Rattle.sp_room.proofs.Answering.{looks-same, same-room, seen-kept, stands-kept}
 use Rattle.sp_room.proofs.Counting.{of-same}
 use Rattle.sp_room.proofs.room.Room.apply.Goals as goal
 
@@ -23,6 +23,7 @@ returns-in-Edit g c =
       step = step;
       unrefused = c.edit.ensures.unrefused;
       same = same-room c.args.self.now c.edit.new.self it c.edit.result step;
+      looks = looks-same c.args.self.now c.edit.new.self it c.edit.result holds step c.edit.ensures.unrefused;
       seen = seen-kept c.args.self.now c.edit.new.self it c.edit.result holds step c.edit.ensures.unrefused;
       stands = stands-kept c.args.self.now c.edit.new.self it c.edit.result holds step c.edit.ensures.unrefused;
       reads = subst (λ (command : Command). RoomReads c.args.self.now (line_of c.args.seat.now c.args.seen (command_of command)) c.edit.result (g.S.Steps.reads c.args.steps.now) (g.S.Steps.reads c.edit.new.steps)) (sym c.in-Edit.is)
@@ -41,6 +42,7 @@ returns-in-Undo g c =
       step = step;
       unrefused = c.undo.ensures.unrefused;
       same = same-room c.args.self.now c.undo.new.self it c.undo.result step;
+      looks = looks-same c.args.self.now c.undo.new.self it c.undo.result holds step c.undo.ensures.unrefused;
       seen = seen-kept c.args.self.now c.undo.new.self it c.undo.result holds step c.undo.ensures.unrefused;
       stands = stands-kept c.args.self.now c.undo.new.self it c.undo.result holds step c.undo.ensures.unrefused;
       reads = subst (λ (command : Command). RoomReads c.args.self.now (line_of c.args.seat.now c.args.seen (command_of command)) c.undo.result (g.S.Steps.reads c.args.steps.now) (g.S.Steps.reads c.undo.new.steps)) (sym c.in-Undo.is)
@@ -61,6 +63,7 @@ returns-in-Redo g c =
       step = step;
       unrefused = c.redo.ensures.unrefused;
       same = same-room c.args.self.now c.redo.new.self it c.redo.result step;
+      looks = looks-same c.args.self.now c.redo.new.self it c.redo.result holds step c.redo.ensures.unrefused;
       seen = seen-kept c.args.self.now c.redo.new.self it c.redo.result holds step c.redo.ensures.unrefused;
       stands = stands-kept c.args.self.now c.redo.new.self it c.redo.result holds step c.redo.ensures.unrefused;
       reads = subst (λ (command : Command). RoomReads c.args.self.now (line_of c.args.seat.now c.args.seen (command_of command)) c.redo.result (g.S.Steps.reads c.args.steps.now) (g.S.Steps.reads c.redo.new.steps)) (sym c.in-Redo.is)
@@ -81,6 +84,7 @@ returns-in_default g c =
       step = step;
       unrefused = c.look.ensures.unrefused;
       same = same-room c.args.self.now c.look.new.self it c.look.result step;
+      looks = looks-same c.args.self.now c.look.new.self it c.look.result holds step c.look.ensures.unrefused;
       seen = seen-kept c.args.self.now c.look.new.self it c.look.result holds step c.look.ensures.unrefused;
       stands = stands-kept c.args.self.now c.look.new.self it c.look.result holds step c.look.ensures.unrefused;
       reads = c.look.ensures.reads c.args.seat.now c.args.seen;
