@@ -187,7 +187,6 @@ impl Desk {
         ensures step { IsAnswer self.old commands.undo self.new result }
         ensures unrefused { IfOk result (λ reply. is_refused (reply_of reply) ≡ false) }
     {
-        self.journal.reserve_one()?;
         let Some(entry) = self.journal.take_done() else {
             return Err(DeskFault::Refused(Refusal::NothingToUndo));
         };
@@ -207,7 +206,6 @@ impl Desk {
         ensures step { IsAnswer self.old commands.redo self.new result }
         ensures unrefused { IfOk result (λ reply. is_refused (reply_of reply) ≡ false) }
     {
-        self.journal.reserve_one()?;
         let Some(entry) = self.journal.take_undone() else {
             return Err(DeskFault::Refused(Refusal::NothingToRedo));
         };

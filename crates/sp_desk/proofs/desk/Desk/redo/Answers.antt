@@ -1,4 +1,4 @@
-use Rattle.std.proofs.Common.{◌≡◌, ◌∷◌, [], ◌++◌, ap, sym, ◌∙◌}
+use Rattle.std.proofs.Common.{◌≡◌, ◌∷◌, [], ◌++◌, ap, ◌∙◌}
 use Rattle.spec_wire.specs.Commands as commands
 use Rattle.spec_machine.specs.Machine.{Memory}
 use Rattle.spec_machine.specs.Answers.{step_of}
@@ -13,7 +13,7 @@ use Rattle.sp_desk.proofs.desk.Desk.redo.Goals as goal
 can : (c : goal.After-redo-arg-1) → CanTurn CanRedo redone_state c.self.inside.script c.in-Some.entry
 can c =
     can-redo c.self.inside.script c.self.inside.journal.done c.self.inside.journal.undone c.take_undone.new.self.undone c.in-Some.entry c.self.invariant
-    (sym (ap (λ (j : Entries EntryState). j.undone) c.reserve_one.ensures.entries) ∙ c.in-Some.ensures.some)
+    c.in-Some.ensures.some
 
 pub redo-requires-clause-can : goal.redo-requires-clause-can
 redo-requires-clause-can c = (can c).can
@@ -24,9 +24,9 @@ redo-requires-clause-whole c = (can c).whole
 stepped : (c : goal.After-edited_reply) → IsStep (memory_by c.self.inside.script c.self.inside.journal.done c.self.inside.journal.undone) commands.redo c.redo.new.self c.keep_done.new.self.done c.keep_done.new.self.undone
 stepped c =
     let done : c.take_undone.new.self.done ≡ c.self.inside.journal.done =
-    ap (λ (j : Entries EntryState). j.done) c.in-Some.ensures.some_leaves ∙ ap (λ (j : Entries EntryState). j.done) c.reserve_one.ensures.entries in
+    ap (λ (j : Entries EntryState). j.done) c.in-Some.ensures.some_leaves in
     redone-step c.self.inside.script c.redo.new.self c.self.inside.journal.done c.self.inside.journal.undone c.take_undone.new.self.undone c.keep_done.new.self.done c.keep_done.new.self.undone c.in-Some.entry c.in-Ok.again
-    c.self.invariant (sym (ap (λ (j : Entries EntryState). j.undone) c.reserve_one.ensures.entries) ∙ c.in-Some.ensures.some)
+    c.self.invariant c.in-Some.ensures.some
     c.in-Ok.ensures.state c.in-Ok.ensures.back c.in-Ok.ensures.range
     (ap (λ (j : Entries EntryState). j.undone) c.keep_done.ensures)
     (ap (λ (j : Entries EntryState). j.done) c.keep_done.ensures ∙ ap (λ es. es ++ c.in-Ok.again ∷ []) done)
@@ -41,9 +41,9 @@ returns-in-Ok-clause-step c =
 
 back : (c : goal.After-keep_undone) → IsSameDesk (memory_by c.self.inside.script c.self.inside.journal.done c.self.inside.journal.undone) c.redo.new.self c.keep_undone.new.self.done c.keep_undone.new.self.undone
 back c =
-    let last = sym (ap (λ (j : Entries EntryState). j.undone) c.reserve_one.ensures.entries) ∙ c.in-Some.ensures.some in
+    let last = c.in-Some.ensures.some in
     let done : c.take_undone.new.self.done ≡ c.self.inside.journal.done =
-    ap (λ (j : Entries EntryState). j.done) c.in-Some.ensures.some_leaves ∙ ap (λ (j : Entries EntryState). j.done) c.reserve_one.ensures.entries in
+    ap (λ (j : Entries EntryState). j.done) c.in-Some.ensures.some_leaves in
     let turn = can-redo c.self.inside.script c.self.inside.journal.done c.self.inside.journal.undone c.take_undone.new.self.undone c.in-Some.entry c.self.invariant last in
     let same = c.in-Err.ensures.handed_back in
     redo-back c.self.inside.script c.redo.new.self c.self.inside.journal.done c.self.inside.journal.undone c.take_undone.new.self.undone c.keep_undone.new.self.done c.keep_undone.new.self.undone c.in-Some.entry c.in-Err.field-0.back

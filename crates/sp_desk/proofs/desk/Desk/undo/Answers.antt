@@ -1,4 +1,4 @@
-use Rattle.std.proofs.Common.{◌≡◌, ◌∷◌, [], ◌++◌, ap, sym, ◌∙◌}
+use Rattle.std.proofs.Common.{◌≡◌, ◌∷◌, [], ◌++◌, ap, ◌∙◌}
 use Rattle.spec_wire.specs.Commands as commands
 use Rattle.spec_machine.specs.Machine.{Memory}
 use Rattle.spec_machine.specs.Answers.{step_of}
@@ -13,7 +13,7 @@ use Rattle.sp_desk.proofs.desk.Desk.undo.Goals as goal
 can : (c : goal.After-undo-arg-1) → CanTurn CanUndo undone_state c.self.inside.script c.in-Some.entry
 can c =
     can-undo c.self.inside.script c.self.inside.journal.done c.self.inside.journal.undone c.take_done.new.self.done c.in-Some.entry c.self.invariant
-    (sym (ap (λ (j : Entries EntryState). j.done) c.reserve_one.ensures.entries) ∙ c.in-Some.ensures.some)
+    c.in-Some.ensures.some
 
 pub undo-requires-clause-can : goal.undo-requires-clause-can
 undo-requires-clause-can c = (can c).can
@@ -24,9 +24,9 @@ undo-requires-clause-whole c = (can c).whole
 stepped : (c : goal.After-edited_reply) → IsStep (memory_by c.self.inside.script c.self.inside.journal.done c.self.inside.journal.undone) commands.undo c.undo.new.self c.keep_undone.new.self.done c.keep_undone.new.self.undone
 stepped c =
     let undone : c.take_done.new.self.undone ≡ c.self.inside.journal.undone =
-    ap (λ (j : Entries EntryState). j.undone) c.in-Some.ensures.some_leaves ∙ ap (λ (j : Entries EntryState). j.undone) c.reserve_one.ensures.entries in
+    ap (λ (j : Entries EntryState). j.undone) c.in-Some.ensures.some_leaves in
     undone-step c.self.inside.script c.undo.new.self c.self.inside.journal.done c.self.inside.journal.undone c.take_done.new.self.done c.keep_undone.new.self.done c.keep_undone.new.self.undone c.in-Some.entry c.in-Ok.again
-    c.self.invariant (sym (ap (λ (j : Entries EntryState). j.done) c.reserve_one.ensures.entries) ∙ c.in-Some.ensures.some)
+    c.self.invariant c.in-Some.ensures.some
     c.in-Ok.ensures.state c.in-Ok.ensures.forth c.in-Ok.ensures.range
     (ap (λ (j : Entries EntryState). j.done) c.keep_undone.ensures)
     (ap (λ (j : Entries EntryState). j.undone) c.keep_undone.ensures ∙ ap (λ es. es ++ c.in-Ok.again ∷ []) undone)
@@ -41,9 +41,9 @@ returns-in-Ok-clause-step c =
 
 back : (c : goal.After-keep_done) → IsSameDesk (memory_by c.self.inside.script c.self.inside.journal.done c.self.inside.journal.undone) c.undo.new.self c.keep_done.new.self.done c.keep_done.new.self.undone
 back c =
-    let last = sym (ap (λ (j : Entries EntryState). j.done) c.reserve_one.ensures.entries) ∙ c.in-Some.ensures.some in
+    let last = c.in-Some.ensures.some in
     let undone : c.take_done.new.self.undone ≡ c.self.inside.journal.undone =
-    ap (λ (j : Entries EntryState). j.undone) c.in-Some.ensures.some_leaves ∙ ap (λ (j : Entries EntryState). j.undone) c.reserve_one.ensures.entries in
+    ap (λ (j : Entries EntryState). j.undone) c.in-Some.ensures.some_leaves in
     let turn = can-undo c.self.inside.script c.self.inside.journal.done c.self.inside.journal.undone c.take_done.new.self.done c.in-Some.entry c.self.invariant last in
     let same = c.in-Err.ensures.handed_back in
     undo-back c.self.inside.script c.undo.new.self c.self.inside.journal.done c.self.inside.journal.undone c.take_done.new.self.done c.keep_done.new.self.done c.keep_done.new.self.undone c.in-Some.entry c.in-Err.field-0.back
