@@ -5,3 +5,4 @@ mod RefilledLaws
 mod LabelLaws
 mod SheetLaws
 mod TitleLaws
+mod FewLaws

@@ -1,15 +1,18 @@
 use Rattle.std.proofs.Common.{◌≡◌, ap, sym, subst, ◌∙◌, refl}
 use Rattle.std.specs.Prelude.{IfSome}
-use Rattle.spec_state.specs.State.{State}
+use Rattle.spec_state.specs.State.{State, text_of as state_text}
 use Rattle.spec_state.specs.Keeping.{state_of}
 use Rattle.sp_text.specs.Gap.{text_of}
+use Rattle.sp_layout.specs.LaidOut.{LayoutOf}
+use Rattle.sp_relay.specs.Changes.{CanChange, with_change}
 use Rattle.sp_relay.specs.Kept.{laid_of}
 use Rattle.sp_made_parts.specs.Firsts.{laid_in}
 use Rattle.sp_made_parts.specs.Made.{IsNumberedOf}
 use Rattle.sp_numbers.specs.Locked.{AreSheetsBefore}
 use Rattle.sp_text_entry.specs.TextEntries.{IsSameTextEntry, IsTextUndone}
-use Rattle.sp_state.specs.Entries.{EntryState, CanRedo, undone_range, redone_state}
+use Rattle.sp_state.specs.Entries.{EntryState, CanRedo, HoldsFew, undone_range, redone_state}
 use Rattle.sp_state.proofs.EntryLaws.{redo-again, leads-back}
+use Rattle.sp_state.proofs.FewLaws.{holds-few}
 use Rattle.sp_state.proofs.LabelLaws.{labels-were}
 use Rattle.sp_state.proofs.TitleLaws.{titles-were}
 use Rattle.sp_state.proofs.SheetLaws.{none-mapped, sheets-before, turned-before}
@@ -48,11 +51,17 @@ returns-in-Ok-turn_made c =
     let redone = c.in-Ok.ensures in
     let turned = c.in-Ok-turn_made.ensures in
     let it = c.in-Ok-turn_made.field-0 in
+    let entry : EntryState = record { text = c.entry.inside.text; layout = c.entry.inside.layout; pages = c.entry.inside.pages } in
+    let can : CanRedo state entry = subst (CanRedo state) (sym c.entry.view_is) c.requires.can in
     record {
       state = redone.state ∙ ap (redone_state state) c.entry.view_is;
       back = leads-back state after c.in-Ok.other it.layout it.pages (laid_of c.args.layout.now) (laid_of c.turn_made.new.layout) c.turn_made.new.pages.starts
           redone.back c.requires.laid turned.laid turned.can_change turned.layout_back turned.pages turned.can (turned.back ∙ c.requires.pages);
       range = redone.range ∙ ap undone_range c.entry.view_is;
+      few = λ held. holds-few state after entry c.in-Ok.other it.layout it.pages (laid_of c.args.layout.now) (laid_of c.turn_made.new.layout) can.text.text redone.entry.text (ap state_text redone.state)
+          (subst (λ (l : LayoutOf). CanChange l entry.layout) (sym c.requires.laid) can.layout.can)
+          (turned.laid ∙ ap laid_in redone.state ∙ sym can.layout.are ∙ ap (λ (l : LayoutOf). with_change l entry.layout) (sym c.requires.laid)) turned.places turned.can_change turned.layout_back
+          (subst (HoldsFew state) (sym c.entry.view_is) held);
       laid = turned.laid;
       numbered = turned.numbered;
       firsts = turned.firsts;
@@ -79,6 +88,7 @@ returns-in-Err-turn_made c =
       state = tt;
       back = tt;
       range = tt;
+      few = λ held. tt;
       laid = left.same_layout ∙ c.requires.laid ∙ sym (ap laid_in same);
       numbered = subst (IsNumberedOf now) (sym left.same_numbered) (subst (λ (s : State). IsNumberedOf s c.args.numbered.now) (sym same) c.requires.numbered);
       firsts = tt;
@@ -101,6 +111,7 @@ returns-in-Err c =
       state = tt;
       back = tt;
       range = tt;
+      few = λ held. tt;
       laid = c.requires.laid ∙ sym (ap laid_in left.same);
       numbered = subst (λ (s : State). IsNumberedOf s c.args.numbered.now) (sym left.same) c.requires.numbered;
       firsts = tt;

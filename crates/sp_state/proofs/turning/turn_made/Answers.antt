@@ -34,6 +34,7 @@ returns-in-Ok-turned_pages c =
     let turned = c.in-Ok-turned_pages.ensures in
     record {
       laid = changed.layout ∙ c.requires.laid;
+      places = changed.places;
       layout_back = changed.back;
       can_change = changed.can;
       pages = turned.pages;
@@ -58,6 +59,7 @@ returns-in-Err-turned_pages c =
     let same : laid_of back.new.layout ≡ laid_of c.args.layout.now = back.ensures.layout ∙ changed.back in
     record {
       laid = tt;
+      places = tt;
       layout_back = tt;
       can_change = tt;
       pages = tt;
@@ -80,6 +82,7 @@ returns-in-Err c =
     let again = same-leads layout c.in-Err.field-0.back c.args.change left.handed_back c.requires.can_change in
     record {
       laid = tt;
+      places = tt;
       layout_back = tt;
       can_change = tt;
       pages = tt;

@@ -3,7 +3,7 @@ use Rattle.std.proofs.lemmas.Result.{err_from_is_err_and}
 use Rattle.spec_state.specs.State.{State}
 use Rattle.spec_state.specs.Keeping.{IsWhole, state_of}
 use Rattle.sp_text.specs.Gap.{text_of}
-use Rattle.sp_state.specs.Entries.{CanRedo, LeadsBack, redone_state}
+use Rattle.sp_state.specs.Entries.{CanRedo, HoldsFew, LeadsBack, redone_state}
 use Rattle.sp_state.proofs.EditedScripts.{before-is}
 use Rattle.sp_state.proofs.script.Script.redo.Goals as goal
 
@@ -17,6 +17,7 @@ returns-in_err-other c =
       state = tt;
       back = tt;
       range = tt;
+      few = λ held. tt;
       same = left.same ∙ before;
       handed_back = left.handed_back;
       again = subst (λ (state : State). CanRedo state c.in_err-other.field-0.0.back) before left.again;
@@ -32,6 +33,7 @@ returns c =
       state = done.state ∙ ap (λ (state : State). redone_state state c.args.entry) before;
       back = subst (λ (state : State). LeadsBack state new c.in_ok-other.other) before done.back;
       range = done.range;
+      few = subst (λ (state : State). HoldsFew state c.args.entry → HoldsFew new c.in_ok-other.other) before done.few;
       same = tt;
       handed_back = tt;
       again = tt;

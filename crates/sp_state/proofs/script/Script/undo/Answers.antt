@@ -3,7 +3,7 @@ use Rattle.std.proofs.lemmas.Result.{err_from_is_err_and}
 use Rattle.spec_state.specs.State.{State}
 use Rattle.spec_state.specs.Keeping.{IsWhole, state_of}
 use Rattle.sp_text.specs.Gap.{text_of}
-use Rattle.sp_state.specs.Entries.{CanUndo, LeadsForth, undone_state}
+use Rattle.sp_state.specs.Entries.{CanUndo, HoldsFew, LeadsForth, undone_state}
 use Rattle.sp_state.proofs.EditedScripts.{before-is}
 use Rattle.sp_state.proofs.script.Script.undo.Goals as goal
 
@@ -17,6 +17,7 @@ returns-in_err-other c =
       state = tt;
       forth = tt;
       range = tt;
+      few = λ held. tt;
       same = left.same ∙ before;
       handed_back = left.handed_back;
       again = subst (λ (state : State). CanUndo state c.in_err-other.field-0.0.back) before left.again;
@@ -32,6 +33,7 @@ returns c =
       state = done.state ∙ ap (λ (state : State). undone_state state c.args.entry) before;
       forth = subst (λ (state : State). LeadsForth state new c.in_ok-other.other) before done.forth;
       range = done.range;
+      few = subst (λ (state : State). HoldsFew state c.args.entry → HoldsFew new c.in_ok-other.other) before done.few;
       same = tt;
       handed_back = tt;
       again = tt;
