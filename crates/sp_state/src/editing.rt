@@ -262,7 +262,7 @@ pub(crate) fn edit_made<S: Steps>(
     ensures whole { OnOk result (IsWhole (state_of (text_of lines.new) records.new)) }
     ensures back { IfOk result (LeadsBack (state_of (text_of lines.old) records.old) (state_of (text_of lines.new) records.new)) }
     ensures range { IfOk result (λ it. done_range it ≡ range_of (replacement_of lines.old.lines (edit_of edit))) }
-    ensures few { IfOk result (HoldsFew (state_of (text_of lines.new) records.new)) }
+    ensures few { IfOk result (HoldsFew (text_of lines.new)) }
     ensures laid { IsLaidOf (state_of (text_of lines.new) records.new) (laid_of layout.new) }
     ensures numbered { IsNumberedOf (state_of (text_of lines.new) records.new) numbered.new }
     ensures firsts { IfSome firsts.new (λ those. those.items ≡ first_rows (state_of (text_of lines.new) records.new)) }
@@ -343,7 +343,7 @@ pub(crate) fn undo_made(
     ensures state { OnOk result (state_of (text_of lines.new) records.new ≡ undone_state (state_of (text_of lines.old) records.old) entry) }
     ensures forth { IfOk result (LeadsForth (state_of (text_of lines.old) records.old) (state_of (text_of lines.new) records.new)) }
     ensures range { IfOk result (λ it. undone_range it ≡ done_range entry) }
-    ensures few { HoldsFew (state_of (text_of lines.old) records.old) entry → IfOk result (HoldsFew (state_of (text_of lines.new) records.new)) }
+    ensures few { HoldsFew (text_of lines.old) entry → IfOk result (HoldsFew (text_of lines.new)) }
     ensures laid { IsLaidOf (state_of (text_of lines.new) records.new) (laid_of layout.new) }
     ensures numbered { IsNumberedOf (state_of (text_of lines.new) records.new) numbered.new }
     ensures firsts { IfSome firsts.new (λ those. those.items ≡ first_rows (state_of (text_of lines.new) records.new)) }
@@ -432,7 +432,7 @@ pub(crate) fn redo_made(
     ensures state { OnOk result (state_of (text_of lines.new) records.new ≡ redone_state (state_of (text_of lines.old) records.old) entry) }
     ensures back { IfOk result (LeadsBack (state_of (text_of lines.old) records.old) (state_of (text_of lines.new) records.new)) }
     ensures range { IfOk result (λ it. done_range it ≡ undone_range entry) }
-    ensures few { HoldsFew (state_of (text_of lines.old) records.old) entry → IfOk result (HoldsFew (state_of (text_of lines.new) records.new)) }
+    ensures few { HoldsFew (text_of lines.old) entry → IfOk result (HoldsFew (text_of lines.new)) }
     ensures laid { IsLaidOf (state_of (text_of lines.new) records.new) (laid_of layout.new) }
     ensures numbered { IsNumberedOf (state_of (text_of lines.new) records.new) numbered.new }
     ensures firsts { IfSome firsts.new (λ those. those.items ≡ first_rows (state_of (text_of lines.new) records.new)) }

@@ -14,7 +14,8 @@ ghost use Rattle.sp_reflow.specs.Starts.{many_more};
 ghost use Rattle.sp_reflow.specs.Filling.{FilledAtMost};
 ghost use Rattle.sp_reflow.specs.Updates.{AreStale, CanPutBack, taken_back, taken_of, with_taken};
 ghost use Rattle.sp_relay.specs.Changes.{CanChange, with_change};
-ghost use Rattle.sp_relay.specs.Kept.{laid_of, places_back};
+ghost use Rattle.sp_relay.specs.Kept.{laid_of};
+ghost use Rattle.sp_state.specs.Entries.{StandsBack};
 ghost use Rattle.sp_numbers.specs.HeadingIds.{laid_labels};
 ghost use Rattle.sp_numbers.specs.Locked.{AreSheetsBefore};
 ghost use Rattle.sp_numbers.specs.Numbered.{AreUnmarked};
@@ -286,7 +287,7 @@ pub(crate) fn turn_made(
     requires sheets { (records.now).pages ≡ None → (records.now).round ≡ 0 → AreUnmarked numbered.old.sheets pages.old.starts }
     requires kept { IfSome known.now (λ those. IfSome (records.now).pages (λ them. AreSheetsBefore them those.items pages.old.starts numbered.old.sheets)) }
     ensures laid { OnOk result (IsLaidOf (state_of (text_of lines.now) records.now) (laid_of layout.new)) }
-    ensures places { IfOk result (λ it. it.layout.part.places ≡ places_back change.part.places (laid_of change.part.kept)) }
+    ensures places { IfOk result (λ it. StandsBack change it.layout) }
     ensures layout_back { IfOk result (λ it. with_change (laid_of layout.new) it.layout ≡ laid_of layout.old) }
     ensures can_change { IfOk result (λ it. CanChange (laid_of layout.new) it.layout) }
     ensures pages { OnOk result (pages.new.starts ≡ pages_of (state_of (text_of lines.now) records.now)) }
