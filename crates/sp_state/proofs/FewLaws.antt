@@ -15,7 +15,7 @@ use Rattle.sp_elements.specs.Bodies.{KeyedElements}
 use Rattle.sp_elements.specs.Exchanges.{moved_element, with_run}
 use Rattle.sp_reflow.specs.Starts.{Taken}
 use Rattle.sp_text_entry.specs.TextEntries.{TextEntryState}
-use Rattle.sp_state.specs.Entries.{EntryState, HoldsFew}
+use Rattle.sp_state.specs.Entries.{EntryState, HoldsFew, StandsBack}
 use Rattle.spec_text.specs.Lines.{TextState}
 
 -- How many elements there are when some stand in the place of others.
@@ -158,8 +158,8 @@ turned-few before after swapped others old new change other gives back at stands
 -- The entry that turning another one leaves holds few, too.
 pub holds-few : (state after : State) (entry : EntryState) (text : TextEntryState) (other : ChangeOf) (pages : Taken) (old new : LayoutOf) → CanRestoreText (text_of state) entry.text.lines entry.text.stanzas
     → IsTurned (text_of state) entry.text.lines entry.text.stanzas text.lines text.stanzas → text_of after ≡ text_before (text_of state) entry.text.lines
-    → CanChange old entry.layout → new ≡ with_change old entry.layout → other.part.places ≡ places_back entry.layout.part.places (laid_of entry.layout.part.kept) → CanChange new other → with_change new other ≡ old
-    → HoldsFew state entry → HoldsFew after (record { text = text; layout = other; pages = pages })
+    → CanChange old entry.layout → new ≡ with_change old entry.layout → StandsBack entry.layout other → CanChange new other → with_change new other ≡ old
+    → HoldsFew (text_of state) entry → HoldsFew (text_of after) (record { text = text; layout = other; pages = pages })
 holds-few state after entry text other pages old new can turned is can_change new_is places again leads few =
     let now = text_stanzas (text_of state) in
     let then_are = text_stanzas (text_of after) in

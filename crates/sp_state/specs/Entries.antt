@@ -1,14 +1,15 @@
 -- The entry of an edit, and the states that it leads to (docs/RULES.md, "The desk").
 use Rattle.std.specs.Prelude.{◌≡◌}
+use Rattle.spec_text.specs.Lines.{TextState}
 use Rattle.spec_text.specs.Ranges.{RangeOf}
-use Rattle.spec_state.specs.State.{State, text_of}
+use Rattle.spec_state.specs.State.{State}
 use Rattle.spec_locked_pages.specs.Segments.{pages_of}
 use Rattle.sp_reflow.specs.Starts.{Taken}
 use Rattle.sp_reflow.specs.Updates.{CanPutBack, with_taken}
 use Rattle.sp_exchange.specs.Restoring.{text_stanzas}
 use Rattle.sp_relay.specs.Changes.{CanChange, ChangeOf, with_change}
 use Rattle.sp_relay.specs.Edited.{KeepsToWindow}
-use Rattle.sp_relay.specs.Kept.{KeptOf, laid_of}
+use Rattle.sp_relay.specs.Kept.{KeptOf, laid_of, places_back}
 use Rattle.sp_made_parts.specs.Firsts.{laid_in}
 use Rattle.sp_text_entry.specs.TextEntries.{TextEntryState, CanRedoText, CanUndoText, IsSameTextEntry, done_lines, redone_text, undone_lines, undone_text}
 
@@ -57,9 +58,13 @@ pub record LeadsBack (before after : State) (entry : EntryState) : Type 0 where
   pub can : CanUndo after entry
   pub back : undone_state after entry ≡ before
 
--- The edit that led to a state laid out few elements, and its entry keeps few: at most two more than its window has and had blocks.
-abbrev pub HoldsFew : State → EntryState → Type 0
-HoldsFew state entry = KeepsToWindow (text_stanzas (text_of state)) entry.text.stanzas entry.layout
+-- The edit that led to a text laid out few elements, and its entry keeps few: at most two more than its window has and had blocks.
+abbrev pub HoldsFew : TextState → EntryState → Type 0
+HoldsFew text entry = KeepsToWindow (text_stanzas text) entry.text.stanzas entry.layout
+
+-- Where the part of a change was put in, that of the change that leads back is to be put in.
+abbrev pub StandsBack : ChangeOf → ChangeOf → Type 0
+StandsBack change other = other.part.places ≡ places_back change.part.places (laid_of change.part.kept)
 
 -- The entry that undoing left: it can be redone, and that leads forth.
 pub record LeadsForth (before after : State) (entry : EntryState) : Type 0 where

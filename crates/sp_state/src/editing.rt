@@ -261,7 +261,7 @@ pub(crate) fn edit_made<S: Steps>(
     ensures whole { OnOk result (IsWhole (state_in lines.new records.new)) }
     ensures back { IfOk result (LeadsBack (state_in lines.old records.old) (state_in lines.new records.new)) }
     ensures range { IfOk result (λ it. done_range it ≡ range_in lines.old edit) }
-    ensures few { IfOk result (HoldsFew (state_in lines.new records.new)) }
+    ensures few { IfOk result (HoldsFew (text_of lines.new)) }
     ensures laid { IsLaidOf (state_in lines.new records.new) (laid_of layout.new) }
     ensures numbered { IsNumberedOf (state_in lines.new records.new) numbered.new }
     ensures firsts { IfSome firsts.new (λ those. those.items ≡ first_rows (state_in lines.new records.new)) }
@@ -345,7 +345,7 @@ pub(crate) fn undo_made(
     ensures state { OnOk result (state_in lines.new records.new ≡ undone_state (state_in lines.old records.old) entry) }
     ensures forth { IfOk result (LeadsForth (state_in lines.old records.old) (state_in lines.new records.new)) }
     ensures range { IfOk result (λ it. undone_range it ≡ done_range entry) }
-    ensures few { HoldsFew (state_in lines.old records.old) entry → IfOk result (HoldsFew (state_in lines.new records.new)) }
+    ensures few { HoldsFew (text_of lines.old) entry → IfOk result (HoldsFew (text_of lines.new)) }
     ensures laid { IsLaidOf (state_in lines.new records.new) (laid_of layout.new) }
     ensures numbered { IsNumberedOf (state_in lines.new records.new) numbered.new }
     ensures firsts { IfSome firsts.new (λ those. those.items ≡ first_rows (state_in lines.new records.new)) }
@@ -434,7 +434,7 @@ pub(crate) fn redo_made(
     ensures state { OnOk result (state_in lines.new records.new ≡ redone_state (state_in lines.old records.old) entry) }
     ensures back { IfOk result (LeadsBack (state_in lines.old records.old) (state_in lines.new records.new)) }
     ensures range { IfOk result (λ it. done_range it ≡ undone_range entry) }
-    ensures few { HoldsFew (state_in lines.old records.old) entry → IfOk result (HoldsFew (state_in lines.new records.new)) }
+    ensures few { HoldsFew (text_of lines.old) entry → IfOk result (HoldsFew (text_of lines.new)) }
     ensures laid { IsLaidOf (state_in lines.new records.new) (laid_of layout.new) }
     ensures numbered { IsNumberedOf (state_in lines.new records.new) numbered.new }
     ensures firsts { IfSome firsts.new (λ those. those.items ≡ first_rows (state_in lines.new records.new)) }

@@ -234,7 +234,7 @@ impl Script {
         ensures state { OnOk result (self.new ≡ edited_by self.old edit) }
         ensures back { IfOk result (LeadsBack self.old self.new) }
         ensures range { IfOk result (λ it. done_range it ≡ range_of (replacement_of self.old.lines (edit_of edit))) }
-        ensures few { IfOk result (HoldsFew self.new) }
+        ensures few { IfOk result (HoldsFew (state_text self.new)) }
         ensures same { OnErr result (self.new ≡ self.old) }
         ensures reads { OnOk result (ReadsEdit self.old edit (S.reads steps.old) (S.reads steps.new)) }
         ensures at_most { ReadsEditAtMost self.old edit (S.reads steps.old) (S.reads steps.new) }
@@ -268,7 +268,7 @@ impl Script {
         ensures state { OnOk result (self.new ≡ undone_state self.old entry) }
         ensures forth { IfOk result (LeadsForth self.old self.new) }
         ensures range { IfOk result (λ it. undone_range it ≡ done_range entry) }
-        ensures few { HoldsFew self.old entry → IfOk result (HoldsFew self.new) }
+        ensures few { HoldsFew (state_text self.old) entry → IfOk result (HoldsFew (state_text self.new)) }
         ensures same { OnErr result (self.new ≡ self.old) }
         ensures handed_back { IfErr result (λ error. IsSameEntry error.back entry) }
         ensures again { IfErr result (λ error. CanUndo self.old error.back) }
@@ -298,7 +298,7 @@ impl Script {
         ensures state { OnOk result (self.new ≡ redone_state self.old entry) }
         ensures back { IfOk result (LeadsBack self.old self.new) }
         ensures range { IfOk result (λ it. done_range it ≡ undone_range entry) }
-        ensures few { HoldsFew self.old entry → IfOk result (HoldsFew self.new) }
+        ensures few { HoldsFew (state_text self.old) entry → IfOk result (HoldsFew (state_text self.new)) }
         ensures same { OnErr result (self.new ≡ self.old) }
         ensures handed_back { IfErr result (λ error. IsSameEntry error.back entry) }
         ensures again { IfErr result (λ error. CanRedo self.old error.back) }

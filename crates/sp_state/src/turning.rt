@@ -8,7 +8,8 @@ ghost use Rattle.sp_text.specs.Gap.{text_of};
 ghost use Rattle.sp_exchange.specs.Restoring.{text_stanzas};
 ghost use Rattle.sp_reflow.specs.Updates.{CanPutBack, taken_back, taken_of, with_taken};
 ghost use Rattle.sp_relay.specs.Changes.{CanChange, with_change};
-ghost use Rattle.sp_relay.specs.Kept.{laid_of, places_back};
+ghost use Rattle.sp_relay.specs.Kept.{laid_of};
+ghost use Rattle.sp_state.specs.Entries.{StandsBack};
 ghost use Rattle.sp_numbers.specs.HeadingIds.{laid_labels};
 ghost use Rattle.sp_made_parts.specs.Firsts.{IsLaidOf, first_rows};
 ghost use Rattle.sp_made_parts.specs.Made.{IsNumberedOf};
@@ -287,7 +288,7 @@ pub(crate) fn turn_made(
     requires kept { IfSome known.now (λ those.
         WerePageSheets records.now those.items pages.old.starts numbered.old.sheets) }
     ensures laid { OnOk result (IsLaidOf (state_in lines.now records.now) (laid_of layout.new)) }
-    ensures places { IfOk result (λ it. it.layout.part.places ≡ places_back change.part.places (laid_of change.part.kept)) }
+    ensures places { IfOk result (λ it. StandsBack change it.layout) }
     ensures layout_back { IfOk result (λ it. with_change (laid_of layout.new) it.layout ≡ laid_of layout.old) }
     ensures can_change { IfOk result (λ it. CanChange (laid_of layout.new) it.layout) }
     ensures pages { OnOk result (pages.new.starts ≡ pages_of (state_in lines.now records.now)) }

@@ -61,7 +61,7 @@ returns-in-Ok-turn_made c =
       few = λ held. holds-few state after entry c.in-Ok.other it.layout it.pages (laid_of c.args.layout.now) (laid_of c.turn_made.new.layout) can.text.text redone.entry.text (ap state_text redone.state)
           (subst (λ (l : LayoutOf). CanChange l entry.layout) (sym c.requires.laid) can.layout.can)
           (turned.laid ∙ ap laid_in redone.state ∙ sym can.layout.are ∙ ap (λ (l : LayoutOf). with_change l entry.layout) (sym c.requires.laid)) turned.places turned.can_change turned.layout_back
-          (subst (HoldsFew state) (sym c.entry.view_is) held);
+          (subst (HoldsFew (text_of c.args.lines.now)) (sym c.entry.view_is) held);
       laid = turned.laid;
       numbered = turned.numbered;
       firsts = turned.firsts;

@@ -1,6 +1,6 @@
 use Rattle.std.proofs.Common.{ap, ◌∙◌, subst}
 use Rattle.std.proofs.lemmas.Result.{err_from_is_err_and}
-use Rattle.spec_state.specs.State.{State}
+use Rattle.spec_state.specs.State.{State, text_of as state_text}
 use Rattle.spec_state.specs.Keeping.{IsWhole, state_of}
 use Rattle.sp_text.specs.Gap.{text_of}
 use Rattle.sp_state.specs.Entries.{CanUndo, HoldsFew, LeadsForth, undone_state}
@@ -33,7 +33,7 @@ returns c =
       state = done.state ∙ ap (λ (state : State). undone_state state c.args.entry) before;
       forth = subst (λ (state : State). LeadsForth state new c.in_ok-other.other) before done.forth;
       range = done.range;
-      few = subst (λ (state : State). HoldsFew state c.args.entry → HoldsFew new c.in_ok-other.other) before done.few;
+      few = subst (λ (state : State). HoldsFew (state_text state) c.args.entry → HoldsFew (state_text new) c.in_ok-other.other) before done.few;
       same = tt;
       handed_back = tt;
       again = tt;
