@@ -23,7 +23,6 @@ WITHOUT_EDITS = (
     "sp_reread",
     "sp_columns",
     "sp_print",
-    "sp_wire",
     "sp_record_file",
     "sp_made_parts",
     "sp_text_entry",
