@@ -18,8 +18,8 @@ USES = """\
 //! What is lent, and edits.
 #![tactic(auto)]
 
-use sp_block_values::PlacedBlock;
-use sp_commands::Command;
+use sp_blocks::PlacedBlock;
+use sp_wire::Command;
 use sp_desk::Desk;
 use sp_kit::Counter;
 use sp_print::PageView;
@@ -27,7 +27,7 @@ use sp_records::Records;
 use sp_reread::{Stanzas, Swapped, placed_blocks};
 use sp_state::{Entry, Script};
 use sp_text::{Displaced, Edit, Lines};
-use sp_views::{CellText, RowView, SheetLabel};
+use sp_print::{CellText, RowView, SheetLabel};
 use std::alloc::{AllocError, Global};
 
 fn rows(page: &Option<PageView<'_>>) -> usize {

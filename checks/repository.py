@@ -16,20 +16,20 @@ CRATES = TOP / "crates"
 MOST_LINES = 800
 # How many edits that must fail a crate of the program has at least; not those that are tests alone, or types without a function.
 LEAST_EDITS = 3
-NO_EDITS = ("sp_case", "sp_cases", "sp_commands")
+NO_EDITS = ("sp_case", "sp_cases", "sp_wire")
 # Crates of the program that have none: for all but two, what theirs would try is a call of a smaller crate below (docs/DECISIONS.md).
 WITHOUT_EDITS = (
-    "sp_block_values",
+    "sp_blocks",
     "sp_reread",
     "sp_columns",
     "sp_print",
-    "sp_record_file",
-    "sp_made_parts",
+    "sp_records",
+    "sp_sheets",
     "sp_text_entry",
-    "sp_locking",
+    "sp_sheets",
     "sp_state",
     "sp_room",
-    "sp_sample",
+    "sp_run",
 )
 # The calls that make steps; all others count what they read and fill by those of their caller.
 COUNTING = ("fountain_cli/src/main.rt", "sp_case/src/ran.rt")

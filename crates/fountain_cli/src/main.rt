@@ -6,7 +6,7 @@ ghost use Rattle.std.specs.declared.result.Result.{Result};
 ghost use Rattle.std.specs.Process.{exit_status};
 ghost use Rattle.sp_kit.specs.Outside.{Writes};
 ghost use Rattle.sp_kit.specs.declared.outside.Failed.{Failed};
-ghost use Rattle.sp_words.specs.Statuses.{code_of, line_of};
+ghost use Rattle.sp_run.specs.Statuses.{code_of, line_of};
 
 use sp_kit::{Counter, Sink};
 use sp_run::{Status, fault_line, run};

@@ -2,11 +2,11 @@
 ghost use Rattle.std.specs.Prelude.{◌≡◌, ◌∷◌, [], IfOk};
 ghost use Rattle.spec_script.specs.Blocks.{left_blocks};
 
+use crate::Block;
 use crate::divisions::division;
 use crate::left::LeftLine;
 use crate::speeches::{is_speech, speech};
 use crate::titles::title_page;
-use sp_block_values::Block;
 use sp_title::is_title_page;
 use std::alloc::{AllocError, Global};
 

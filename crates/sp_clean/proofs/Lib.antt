@@ -1,2 +1,4 @@
+pub mod Copies
+pub mod FormLaws
 pub mod YardWalk
 pub mod NoteWalk

@@ -7,8 +7,8 @@ ghost use Rattle.spec_script.specs.Boneyards.{yard_turns, sort_by, scanned};
 ghost use Rattle.spec_script.specs.Trim.{is_space};
 ghost use Rattle.spec_script.specs.Spans.{runs_left, is_touched, text_in};
 
-use sp_forms::parts::{part_of, push_part};
-use sp_forms::spaces::all_spaces;
+use crate::parts::{part_of, push_part};
+use crate::spaces::all_spaces;
 use spec_script::Sort;
 use spec_text::Span;
 use std::alloc::{AllocError, Global};

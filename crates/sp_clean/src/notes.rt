@@ -6,7 +6,7 @@ ghost use Rattle.spec_script.specs.Marked.{covered, inside_after, open_at, turns
 ghost use Rattle.spec_script.specs.Notes.{note_turns, note_scanned};
 ghost use Rattle.spec_script.specs.Spans.{span_len, runs_left, cut_spans};
 
-use sp_forms::parts::{LINE_LIMIT, joined_text, place_of, push_part};
+use crate::parts::{LINE_LIMIT, joined_text, place_of, push_part};
 use spec_text::Span;
 use std::alloc::{AllocError, Global};
 use std::marker::Model;

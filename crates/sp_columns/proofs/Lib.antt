@@ -1,1 +1,2 @@
+pub mod SentenceLaws
 pub mod SpeakerLaws

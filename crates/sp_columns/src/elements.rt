@@ -7,8 +7,8 @@ ghost use Rattle.spec_pages.specs.Rows.{block_alone, blocks_beside, dual_rows, i
 use crate::columns::{first_lead, has_rows};
 use crate::lines::block_rows;
 use crate::speakers::tell_speakers;
-use sp_block_values::{Block, plain_runs};
-use sp_rows::{Cell, Row, join_rows, shape_rows, title_rows};
+use crate::{Cell, Row, join_rows, shape_rows, title_rows};
+use sp_blocks::{Block, plain_runs};
 use sp_text::Lines;
 use spec_pages::{NUMBER_BEFORE, NUMBER_BEHIND, Side};
 use spec_script::Kind;

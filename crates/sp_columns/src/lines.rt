@@ -8,9 +8,9 @@ ghost use Rattle.spec_pages.specs.Pages.{is_dialogue};
 ghost use Rattle.spec_pages.specs.Rows.{block_rows, line_context, line_row, own_lead, text_rows};
 
 use crate::columns::{column_of, row_kind, width_of};
-use sp_block_values::{Block, BlockLine};
+use crate::{Cell, Row, ends_sentence};
+use sp_blocks::{Block, BlockLine};
 use sp_measure::{WrapRow, wrap};
-use sp_rows::{Cell, Row, ends_sentence};
 use sp_text::Lines;
 use spec_pages::{RowKind, Shape, Side};
 use spec_script::Kind;

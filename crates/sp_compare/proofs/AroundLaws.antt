@@ -4,13 +4,13 @@ use Rattle.std.proofs.lemmas.List.{drop-drop, drop-take, take-take, length-map, 
 use Rattle.std.specs.Prelude.{IfSome, min}
 use Rattle.spec_text.specs.Lines.{LineState}
 use Rattle.spec_pages.specs.Rows.{Row, ElementOf}
-use Rattle.spec_layout.specs.Layout.{placed_in}
+use Rattle.spec_sheets.specs.Layout.{placed_in}
 use Rattle.spec_state.specs.SameRows.{BareRow}
-use Rattle.sp_elements.specs.Bodies.{KeyedElements, row_count}
-use Rattle.sp_elements.specs.Exchanges.{moved_element, rows_at, with_rows_at}
-use Rattle.sp_elements.proofs.BodyExchanges.{count-moved}
-use Rattle.sp_elements.proofs.BodyLaws.{placed_in-append}
-use Rattle.sp_elements.proofs.RowSwaps.{drop-rows, length-alike, moved-rows, rows_at-drop, rows_at-moved, take-rows}
+use Rattle.sp_layout.specs.Bodies.{KeyedElements, row_count}
+use Rattle.sp_layout.specs.Exchanges.{moved_element, rows_at, with_rows_at}
+use Rattle.sp_layout.proofs.BodyExchanges.{count-moved}
+use Rattle.sp_layout.proofs.BodyLaws.{placed_in-append}
+use Rattle.sp_layout.proofs.RowSwaps.{drop-rows, length-alike, moved-rows, rows_at-drop, rows_at-moved, take-rows}
 use Rattle.sp_compare.specs.declared.old_rows.RunPlaces.{RunPlaces}
 use Rattle.sp_compare.specs.BareRows.{AreSameAround, AreSameRun, StayOutside, bare_row, bare_rows}
 use Rattle.sp_compare.specs.OldElements.{AreOtherRows, OtherRowsOf, old_elements, others_from, others_to, with_others}

@@ -3,7 +3,7 @@ use Rattle.std.proofs.Common.{◌≡◌, ◌≢◌, ℕ, zero, suc, ◌+◌, ◌
 use Rattle.std.specs.Prelude.{not, nat_eq, ◌&&◌, All}
 use Rattle.std.proofs.lemmas.List.{drop_more, drop_all, get_or-map, length-map}
 use Rattle.spec_pages.specs.Rows.{Cell, shifted_cell}
-use Rattle.spec_layout.specs.Cells.{ShownCell, ShownPart, shown_cell, without_numbers}
+use Rattle.spec_sheets.specs.Cells.{ShownCell, ShownPart, shown_cell, without_numbers}
 use Rattle.spec_state.specs.SameRows.{same_cells, same_part, same_parts}
 use Rattle.sp_compare.specs.BareRows.{bare_cells}
 

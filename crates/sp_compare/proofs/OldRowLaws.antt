@@ -5,13 +5,13 @@ use Rattle.std.proofs.lemmas.List.{drop-take, take-take, get_or_default, get_or-
 use Rattle.std.specs.Prelude.{All, IfSome}
 use Rattle.spec_pages.specs.Rows.{Row, ElementOf, shifted_row}
 use Rattle.spec_labels.specs.declared.RowKey.{RowKey}
-use Rattle.spec_layout.specs.Layout.{placed_in}
-use Rattle.sp_runs.specs.Runs.{exchanged}
-use Rattle.sp_splice.specs.Moves.{shifted}
-use Rattle.sp_elements.specs.Bodies.{KeyedElements, StandsIn, row_count}
-use Rattle.sp_elements.specs.Exchanges.{CanMove, moved_element, rows_at, with_run}
-use Rattle.sp_elements.proofs.BodyExchanges.{count-append, count-moved}
-use Rattle.sp_elements.proofs.BodyLaws.{placed_in-append}
+use Rattle.spec_sheets.specs.Layout.{placed_in}
+use Rattle.sp_gap.specs.Runs.{exchanged}
+use Rattle.sp_gap.specs.Moves.{shifted}
+use Rattle.sp_layout.specs.Bodies.{KeyedElements, StandsIn, row_count}
+use Rattle.sp_layout.specs.Exchanges.{CanMove, moved_element, rows_at, with_run}
+use Rattle.sp_layout.proofs.BodyExchanges.{count-append, count-moved}
+use Rattle.sp_layout.proofs.BodyLaws.{placed_in-append}
 use Rattle.sp_compare.specs.declared.old_rows.RunPlaces.{RunPlaces}
 use Rattle.sp_compare.specs.OldElements.{AreOtherRows, OtherRowsOf, old_elements, with_others}
 use Rattle.sp_compare.proofs.OtherRowLaws.{others-all, others-at, others-count, others-front, others-size}

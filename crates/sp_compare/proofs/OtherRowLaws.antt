@@ -3,10 +3,10 @@ use Rattle.std.proofs.Common.{◌≡◌, ◌≢◌, ℕ, zero, suc, ◌<◌, ◌
 use Rattle.std.specs.Prelude.{IfSome}
 use Rattle.std.proofs.lemmas.List.{length-map}
 use Rattle.spec_pages.specs.Rows.{Row, ElementOf, placed_rows, shifted_row}
-use Rattle.spec_layout.specs.Layout.{placed_in}
-use Rattle.sp_elements.specs.Bodies.{KeyedElements, row_count}
-use Rattle.sp_elements.specs.Exchanges.{rows_at, with_rows_at}
-use Rattle.sp_elements.proofs.RowSwaps.{count-alike, length-alike, length-rows, take-rows}
+use Rattle.spec_sheets.specs.Layout.{placed_in}
+use Rattle.sp_layout.specs.Bodies.{KeyedElements, row_count}
+use Rattle.sp_layout.specs.Exchanges.{rows_at, with_rows_at}
+use Rattle.sp_layout.proofs.RowSwaps.{count-alike, length-alike, length-rows, take-rows}
 use Rattle.sp_compare.specs.OldElements.{AreOtherRows, OtherRowsOf, with_others}
 
 -- ---- the rows of an element exchanged

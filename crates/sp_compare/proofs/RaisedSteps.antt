@@ -4,7 +4,7 @@ use Rattle.std.specs.Prelude.{slice_index, slice_index_or, slice_range}
 use Rattle.std.proofs.lemmas.List.{drop_more, get_or-drop}
 use Rattle.spec_labels.specs.declared.Moved.{Moved}
 use Rattle.spec_labels.specs.PageRecords.{PageRecordOf, moved_of}
-use Rattle.spec_layout.specs.Shown.{Shown}
+use Rattle.spec_sheets.specs.Shown.{Shown}
 use Rattle.spec_state.specs.Changes.{raised, segment_rows}
 use Rattle.spec_state.specs.SameRows.{same_rows}
 use Rattle.sp_compare.specs.Raised.{raises}

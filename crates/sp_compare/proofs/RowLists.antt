@@ -9,13 +9,13 @@ use Rattle.spec_text.specs.Lines.{LineState, line_texts}
 use Rattle.spec_pages.specs.Rows.{Row, ElementOf, placed_rows, shifted_row}
 use Rattle.spec_labels.specs.declared.RowKey.{RowKey}
 use Rattle.spec_labels.specs.Labels.{LabelOf}
-use Rattle.spec_layout.specs.Cells.{ShownCell}
-use Rattle.spec_layout.specs.Layout.{placed_in}
-use Rattle.spec_layout.specs.Shown.{element_cue, heading_label, labels_behind, row_key, shown_of, shown_rows}
+use Rattle.spec_sheets.specs.Cells.{ShownCell}
+use Rattle.spec_sheets.specs.Layout.{placed_in}
+use Rattle.spec_sheets.specs.Shown.{element_cue, heading_label, labels_behind, row_key, shown_of, shown_rows}
 use Rattle.spec_state.specs.SameRows.{BareRow, bare_of, same_cells, same_key, same_list, same_row, same_shape}
 use Rattle.spec_state.proofs.SameLaws.{list-itself}
-use Rattle.sp_runs.proofs.RunLaws.{slice-parts}
-use Rattle.sp_elements.specs.Bodies.{KeyedElements, row_count}
+use Rattle.sp_gap.proofs.RunLaws.{slice-parts}
+use Rattle.sp_layout.specs.Bodies.{KeyedElements, row_count}
 use Rattle.sp_compare.specs.BareRows.{AreLaid, bare_cells, bare_row, bare_rows}
 
 -- ---- rows, as an edit sees them

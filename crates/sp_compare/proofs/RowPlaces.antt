@@ -3,9 +3,9 @@ use Rattle.std.proofs.Common.{◌≡◌, ℕ, ◌+◌, ◌-◌, ◌<◌, List, [
 use Rattle.std.proofs.lemmas.List.{get_or-map, length-map, take_more}
 use Rattle.std.proofs.lemmas.List.Concat.{get_or-flat_map}
 use Rattle.spec_pages.specs.Rows.{Row, ElementOf, placed_rows, shifted_row}
-use Rattle.spec_layout.specs.Layout.{placed_in}
-use Rattle.sp_elements.specs.Bodies.{StandsIn, row_count}
-use Rattle.sp_elements.proofs.BodyLaws.{placed_in-push}
+use Rattle.spec_sheets.specs.Layout.{placed_in}
+use Rattle.sp_layout.specs.Bodies.{StandsIn, row_count}
+use Rattle.sp_layout.proofs.BodyLaws.{placed_in-push}
 
 -- An element that was read from a list, by its fields.
 pub element-read : (elements all : List ElementOf) (place : ℕ) (read element : ElementOf) → element ≡ read → read ≡ get_or all place read → all ≡ elements → element ≡ get_or elements place element

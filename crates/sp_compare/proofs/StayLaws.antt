@@ -4,15 +4,15 @@ use Rattle.std.proofs.lemmas.List.{map-append}
 use Rattle.std.proofs.lemmas.List.Elements.{All-head, All-tail}
 use Rattle.spec_text.specs.Lines.{LineState}
 use Rattle.spec_pages.specs.Rows.{Cell, Row, ElementOf, line_state, placed_rows}
-use Rattle.spec_layout.specs.Layout.{placed_in}
-use Rattle.spec_layout.specs.Shown.{Shown}
+use Rattle.spec_sheets.specs.Layout.{placed_in}
+use Rattle.spec_sheets.specs.Shown.{Shown}
 use Rattle.spec_state.specs.SameRows.{BareRow}
-use Rattle.spec_relayout.specs.RowLines.{RowAt}
-use Rattle.spec_relayout.proofs.RowMoves.{cell_to, row_to}
-use Rattle.spec_relayout.proofs.ItemMoves.{shown-moved}
-use Rattle.spec_relay.proofs.RowShifts.{rows-moved}
-use Rattle.sp_splice.specs.Moves.{shifted}
-use Rattle.sp_elements.specs.Exchanges.{CanMove, moved_element}
+use Rattle.spec_edit.specs.RowLines.{RowAt}
+use Rattle.spec_edit.proofs.RowMoves.{cell_to, row_to}
+use Rattle.spec_edit.proofs.ItemMoves.{shown-moved}
+use Rattle.spec_edit.proofs.RowShifts.{rows-moved}
+use Rattle.sp_gap.specs.Moves.{shifted}
+use Rattle.sp_layout.specs.Exchanges.{CanMove, moved_element}
 use Rattle.sp_compare.specs.BareRows.{StayOutside, bare_row}
 
 -- The line at a place of the one text, moved, is that at the place of the other.

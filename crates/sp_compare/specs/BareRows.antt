@@ -4,12 +4,12 @@ use Rattle.spec_text.specs.Lines.{LineState, line_texts}
 use Rattle.spec_script.specs.declared.Run.{Run}
 use Rattle.spec_pages.specs.Rows.{Cell, Row, ElementOf, shifted_cell}
 use Rattle.spec_labels.specs.Labels.{LabelOf}
-use Rattle.spec_layout.specs.Cells.{RowShows, ShownCell, continued, shown_cell, text_at, without_numbers}
-use Rattle.spec_layout.specs.Layout.{placed_in}
-use Rattle.spec_layout.specs.Shown.{no_row, row_key, shown_rows}
+use Rattle.spec_sheets.specs.Cells.{RowShows, ShownCell, continued, shown_cell, text_at, without_numbers}
+use Rattle.spec_sheets.specs.Layout.{placed_in}
+use Rattle.spec_sheets.specs.Shown.{no_row, row_key, shown_rows}
 use Rattle.spec_state.specs.SameRows.{BareRow, same_rows}
-use Rattle.sp_elements.specs.Bodies.{KeyedElements, row_count}
-use Rattle.sp_elements.specs.Exchanges.{moved_element}
+use Rattle.sp_layout.specs.Bodies.{KeyedElements, row_count}
+use Rattle.sp_layout.specs.Exchanges.{moved_element}
 
 -- Cells of an element that begins at a line, without a written number.
 abbrev pub bare_cells : List (List ℕ) → ℕ → List Cell → List ShownCell

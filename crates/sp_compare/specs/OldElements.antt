@@ -1,9 +1,9 @@
 -- The elements of a text before a change, by those after it (docs/RULES.md, "Edits and records").
 use Rattle.std.specs.Prelude.{ℕ, ◌+◌, ◌<◌, ◌≤◌, List, length, map, take, drop, Option, None, Some}
 use Rattle.spec_pages.specs.Rows.{Row, ElementOf}
-use Rattle.spec_layout.specs.Layout.{placed_in}
-use Rattle.sp_elements.specs.Bodies.{KeyedElements, row_count, BodyOf, keyed_elements}
-use Rattle.sp_elements.specs.Exchanges.{AreRowsAlike, moved_element, rows_at, with_rows, with_run}
+use Rattle.spec_sheets.specs.Layout.{placed_in}
+use Rattle.sp_layout.specs.Bodies.{KeyedElements, row_count, BodyOf, keyed_elements}
+use Rattle.sp_layout.specs.Exchanges.{AreRowsAlike, moved_element, rows_at, with_rows, with_run}
 use Rattle.sp_compare.specs.declared.old_rows.RunPlaces.{RunPlaces}
 
 -- Rows that the element at a place had before a change.

@@ -3,10 +3,10 @@ use Rattle.std.specs.Prelude.{◌≡◌, ℕ, ◌+◌, ◌≤◌, false, if◌th
 use Rattle.spec_labels.specs.declared.Moved.{Moved}
 use Rattle.spec_labels.specs.PageRecords.{PageRecordOf, moved_of}
 use Rattle.spec_labels.specs.Labels.{LabelOf}
-use Rattle.spec_layout.specs.Shown.{Shown, shown_rows}
+use Rattle.spec_sheets.specs.Shown.{Shown, shown_rows}
 use Rattle.spec_state.specs.SameRows.{same_rows}
 use Rattle.spec_state.specs.Changes.{raised, segment_rows}
-use Rattle.sp_elements.specs.Bodies.{row_count}
+use Rattle.sp_layout.specs.Bodies.{row_count}
 use Rattle.sp_compare.specs.BareRows.{Both, TellsSameRows}
 
 -- Starts of so many segments in so many rows.

@@ -1,15 +1,15 @@
 //! A text laid out before a change of its lines and after it.
 ghost use Rattle.std.specs.Prelude.{◌≡◌, ◌+◌, ◌<◌, ◌≤◌, All, IfSome, drop, length};
 ghost use Rattle.spec_state.specs.SameRows.{same_list, same_row};
-ghost use Rattle.sp_elements.specs.Bodies.{keyed_elements, row_count};
-ghost use Rattle.sp_elements.specs.Exchanges.{CanMove};
+ghost use Rattle.sp_layout.specs.Bodies.{keyed_elements, row_count};
+ghost use Rattle.sp_layout.specs.Exchanges.{CanMove};
 ghost use Rattle.sp_compare.specs.BareRows.{AreLaid, AreSameRows, StayOutside, TellsSameRows, both_of, new_rows, old_rows, row_is, row_was};
 ghost use Rattle.sp_compare.specs.OldElements.{AreOtherRows, old_body, HasFewRows};
 
 use crate::cells::same_cells;
 use crate::old_rows::{OldRows, OtherRows, RunPlaces, row_at, rows_of_others};
 use crate::shapes::{same_key, same_shape};
-use sp_elements::Body;
+use sp_layout::Body;
 use sp_text::{Lines, OldLines};
 use std::marker::Model;
 
@@ -29,7 +29,7 @@ pub struct BothTexts<'a> {
 }
 
 impl<'a> Model for BothTexts<'a> {
-    ghost use Rattle.sp_elements.specs.Bodies.{keyed_elements};
+    ghost use Rattle.sp_layout.specs.Bodies.{keyed_elements};
     ghost use Rattle.sp_compare.specs.BareRows.{AreLaid, AreSameAround, Both};
 
     ghost Value = { Both };

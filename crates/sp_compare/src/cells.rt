@@ -4,11 +4,11 @@ ghost use Rattle.spec_text.specs.Lines.{line_texts};
 ghost use Rattle.spec_text.specs.Parts.{Lies};
 ghost use Rattle.spec_script.specs.Runs.{RunParts, span_of};
 ghost use Rattle.spec_pages.specs.Rows.{shifted_cell};
-ghost use Rattle.spec_layout.specs.Cells.{ShowsParts, shown_part, slice_of, without_numbers};
+ghost use Rattle.spec_sheets.specs.Cells.{ShowsParts, shown_part, slice_of, without_numbers};
 ghost use Rattle.spec_state.specs.SameRows.{same_cell, same_cells, same_part, same_parts};
 ghost use Rattle.sp_compare.specs.BareRows.{own_runs, own_text, cell_in, cells_in};
 
-use sp_elements::Cell;
+use sp_layout::Cell;
 use sp_text::{Lines, OldLines};
 use spec_script::Run;
 

@@ -1,13 +1,13 @@
 //! The rows of a text before a change.
 ghost use Rattle.std.specs.Prelude.{◌≡◌, ◌+◌, ◌<◌, ◌≤◌, All, IfSome, drop, length, take};
-ghost use Rattle.spec_layout.specs.Layout.{placed_in};
+ghost use Rattle.spec_sheets.specs.Layout.{placed_in};
 ghost use Rattle.spec_pages.specs.Rows.{shifted_row};
-ghost use Rattle.sp_elements.specs.Bodies.{keyed_elements, row_count};
-ghost use Rattle.sp_elements.specs.Exchanges.{CanMove, rows_at};
+ghost use Rattle.sp_layout.specs.Bodies.{keyed_elements, row_count};
+ghost use Rattle.sp_layout.specs.Exchanges.{CanMove, rows_at};
 ghost use Rattle.sp_compare.specs.OldElements.{AreOtherRows, others_from, others_to, with_others, old_body, HasFewRows, rows_behind};
 ghost use Rattle.sp_compare.specs.BareRows.{StandsAt};
 
-use sp_elements::{Body, Row};
+use sp_layout::{Body, Row};
 use spec_labels::RowKey;
 use std::marker::Model;
 
@@ -138,8 +138,8 @@ pub struct OldRows<'a> {
 
 impl<'a> Model for OldRows<'a> {
     ghost use Rattle.std.specs.Prelude.{◌≤◌, All, IfSome, drop, length};
-    ghost use Rattle.sp_elements.specs.Bodies.{KeyedElements};
-    ghost use Rattle.sp_elements.specs.Exchanges.{CanMove};
+    ghost use Rattle.sp_layout.specs.Bodies.{KeyedElements};
+    ghost use Rattle.sp_layout.specs.Exchanges.{CanMove};
     ghost use Rattle.sp_compare.specs.OldElements.{AreOtherRows, HasFewRows, old_body};
 
     ghost Value = { KeyedElements };

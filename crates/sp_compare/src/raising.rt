@@ -1,6 +1,6 @@
 //! The page records whose rows an edit changed.
 ghost use Rattle.std.specs.Prelude.{◌≡◌, ◌+◌, ◌<◌, IfOk, length, slice_index_or};
-ghost use Rattle.sp_elements.specs.Bodies.{row_count};
+ghost use Rattle.sp_layout.specs.Bodies.{row_count};
 ghost use Rattle.sp_compare.specs.Raised.{AreSegments, TellsSameSegment, AreRaises};
 
 use crate::both::BothTexts;

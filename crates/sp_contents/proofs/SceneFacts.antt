@@ -6,7 +6,7 @@ use Rattle.spec_text.specs.Lines.{TextState, IsText, line_texts}
 use Rattle.spec_script.specs.Stanzas.{PlacedBlock, blocks_of}
 use Rattle.spec_script.specs.Elements.{PlacedLies}
 use Rattle.spec_script.proofs.BlockPlaces.{blocks_of-lie}
-use Rattle.spec_layout.proofs.RowLaws.{IsText-texts}
+use Rattle.spec_sheets.proofs.RowLaws.{IsText-texts}
 use Rattle.spec_labels.specs.Labels.{Below}
 use Rattle.spec_labels.specs.Scenes.{SceneRecordOf, AreSceneRecords}
 use Rattle.spec_state.specs.State.{State}
@@ -14,7 +14,7 @@ use Rattle.spec_state.specs.Headings.{headings_of, heading_of, is_heading_block}
 use Rattle.spec_state.specs.Keeping.{IsWhole}
 use Rattle.spec_state.proofs.StateLaws.{state-AreSceneRecords}
 use Rattle.spec_machine.specs.Outlines.{scenes_of}
-use Rattle.sp_entries.proofs.Counts.{label-count, gone-rising}
+use Rattle.sp_contents.proofs.Counts.{label-count, gone-rising}
 
 scenes-are : (state : State) (o : Option (List SceneRecordOf)) → IsWhole state → state.scenes ≡ o → IfSome o AreSceneRecords
 scenes-are state None whole is = tt

@@ -2,18 +2,18 @@
 ghost use Rattle.std.specs.Prelude.{◌≡◌, string_bytes, IfOk};
 ghost use Rattle.spec_text.specs.Lines.{line_texts};
 ghost use Rattle.spec_script.specs.Stanzas.{blocks_of};
-ghost use Rattle.spec_outline.specs.Outline.{cast_of};
+ghost use Rattle.spec_machine.specs.Outline.{cast_of};
 ghost use Rattle.spec_machine.specs.Outlines.{names_of, outline_of};
 ghost use Rattle.spec_wire.specs.Replies as replies;
-ghost use Rattle.sp_commands.specs.Values.{reply_of};
+ghost use Rattle.sp_wire.specs.Values.{reply_of};
 
 use crate::scenes::scenes_of;
-use sp_block_values::PlacedBlock;
-use sp_commands::Reply;
-use sp_entries::{entries_of, speaker_names};
-use sp_made_parts::StateView;
+use crate::{entries_of, speaker_names};
+use sp_blocks::PlacedBlock;
 use sp_outline::{CastLine, cast};
 use sp_reread::placed_blocks;
+use sp_sheets::StateView;
+use sp_wire::Reply;
 use std::alloc::{AllocError, Global};
 
 /// The cast of a script with these blocks.

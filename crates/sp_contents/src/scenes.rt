@@ -5,11 +5,10 @@ ghost use Rattle.spec_script.specs.Stanzas.{blocks_of};
 ghost use Rattle.spec_state.specs.Headings.{headings_of};
 ghost use Rattle.spec_machine.specs.Outlines.{scenes_of};
 
-use sp_block_values::PlacedBlock;
-use sp_entries::{Scenes, are_locked, gone_labels, heading_rows, labels_of, sheet_texts};
-use sp_made_parts::StateView;
-use sp_numbers::headings_among;
+use crate::{Scenes, are_locked, gone_labels, heading_rows, labels_of, sheet_texts};
+use sp_blocks::PlacedBlock;
 use sp_scenes::{HeadingAt, SceneRecord};
+use sp_sheets::{StateView, headings_among};
 use std::alloc::{AllocError, Global};
 
 /// The scene records of a script.

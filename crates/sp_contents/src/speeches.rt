@@ -1,15 +1,15 @@
 //! The speeches of a script, each with its scene and its sheet.
 ghost use Rattle.std.specs.Prelude.{◌≡◌, IfOk, map};
-ghost use Rattle.spec_layout.specs.Shown.{shape_of};
+ghost use Rattle.spec_sheets.specs.Shown.{shape_of};
 ghost use Rattle.spec_state.specs.StateSheets.{body_sheets, rows_in};
 ghost use Rattle.spec_cast.specs.Said.{said_of, speech_sheets};
 
 use crate::scenes::scenes_of;
+use crate::{said_among, speech_sheets};
 use sp_cast::Said;
-use sp_entries::{said_among, speech_sheets};
 use sp_labels::Label;
-use sp_made_parts::StateView;
 use sp_reread::placed_blocks;
+use sp_sheets::StateView;
 use std::alloc::{AllocError, Global};
 
 /// The speeches of a script, in order: the name of each, the label of the last heading before it, and the first label of the

@@ -13,7 +13,7 @@ use Rattle.spec_state.specs.Changes.{text_after, edited_state}
 use Rattle.spec_state.specs.Openings.{scenes_locked, pages_locked, round_begun}
 use Rattle.spec_state.specs.Keeping.{IsWhole}
 use Rattle.spec_state.specs.StateSheets.{sheets_of_state}
-use Rattle.spec_print.specs.Sheets.{Sheet}
+use Rattle.spec_sheets.specs.Sheets.{Sheet}
 use Rattle.spec_wire.specs.Commands.{CommandOf, edit, undo, redo, lock_scenes, lock_pages, next_round, sheet}
 use Rattle.spec_wire.specs.Replies as replies
 use Rattle.spec_wire.specs.Replies.{RefusalOf, refused, nothing_to_undo, nothing_to_redo, no_sheet}
@@ -29,15 +29,15 @@ use Rattle.spec_locked_pages.proofs.ChainLaws.{step-linked}
 use Rattle.spec_locked_pages.proofs.PageLaws.{command-keeps, unchanged-keeps}
 use Rattle.spec_machine.proofs.RefusalLaws.{free-scenes, free-pages, free-round}
 use Rattle.sp_state.specs.Entries.{EntryState, undone_state, redone_state, done_range, undone_range, CanUndo, CanRedo, LeadsBack, LeadsForth}
-use Rattle.sp_commands.specs.declared.reply.Reply.{Reply}
-use Rattle.sp_commands.specs.Values.{reply_of}
-use Rattle.sp_commands.specs.Values as values
+use Rattle.sp_wire.specs.declared.reply.Reply.{Reply}
+use Rattle.sp_wire.specs.Values.{reply_of}
+use Rattle.sp_wire.specs.Values as values
 use Rattle.sp_desk.specs.declared.fault.DeskFault.{DeskFault}
 use Rattle.sp_desk.specs.declared.fault.DeskFault.TheVariants.{Refused, NoMemory}
 use Rattle.sp_desk.specs.Memories.{entries_by, CanTurnAll, memory_by, IsDesk}
 use Rattle.sp_records.specs.declared.opening_fault.OpeningFault.{OpeningFault}
 use Rattle.sp_records.specs.declared.opening_fault.OpeningFault.TheVariants as faults
-use Rattle.sp_locking.specs.Openings.{IsReason}
+use Rattle.sp_sheets.specs.Openings.{IsReason}
 use Rattle.sp_desk.specs.Answers.{IsAnswer, opening_fault_of, step_to}
 use Rattle.sp_desk.proofs.EntryLaws.{last-more, front-more, entries-more, can-more, can-last, can-front, entries-same, can-same}
 

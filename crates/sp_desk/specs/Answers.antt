@@ -10,9 +10,9 @@ use Rattle.sp_records.specs.declared.opening_fault.OpeningFault.{OpeningFault}
 use Rattle.sp_records.specs.declared.opening_fault.OpeningFault.TheVariants as openings
 use Rattle.sp_text.specs.declared.fault.EditFault.{EditFault}
 use Rattle.sp_text.specs.declared.fault.EditFault.TheVariants as faults
-use Rattle.sp_commands.specs.declared.reply.Refusal.TheVariants as refusals
-use Rattle.sp_commands.specs.declared.reply.Reply.{Reply}
-use Rattle.sp_commands.specs.Values.{reply_of, refusal_of}
+use Rattle.sp_wire.specs.declared.reply.Refusal.TheVariants as refusals
+use Rattle.sp_wire.specs.declared.reply.Reply.{Reply}
+use Rattle.sp_wire.specs.Values.{reply_of, refusal_of}
 use Rattle.sp_desk.specs.declared.fault.DeskFault.{DeskFault}
 use Rattle.sp_desk.specs.declared.fault.DeskFault.TheVariants.{Refused, NoMemory}
 

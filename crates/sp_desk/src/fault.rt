@@ -1,6 +1,6 @@
-use sp_commands::Refusal;
 use sp_records::OpeningFault;
 use sp_text::EditFault;
+use sp_wire::Refusal;
 use std::alloc::AllocError;
 
 /// Why a desk changed nothing.

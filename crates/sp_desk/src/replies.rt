@@ -4,12 +4,12 @@ ghost use Rattle.spec_text.specs.Lines.{IsText};
 ghost use Rattle.spec_state.specs.State.{text_of};
 ghost use Rattle.spec_state.specs.StateSheets.{sheets_of_state};
 ghost use Rattle.spec_machine.specs.Answers.{edited_reply, label_of_sheet, record_count};
-ghost use Rattle.sp_commands.specs.Values.{reply_of};
+ghost use Rattle.sp_wire.specs.Values.{reply_of};
 
-use sp_answers::sheet_label;
-use sp_commands::Reply;
+use sp_contents::sheet_label;
 use sp_records::Records;
 use sp_state::Script;
+use sp_wire::Reply;
 use std::alloc::{AllocError, Global};
 
 /// What is answered to an edit, an undo or a redo that led to this script.

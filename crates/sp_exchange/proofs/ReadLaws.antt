@@ -6,10 +6,10 @@ use Rattle.spec_text.specs.Ranges.{RangeOf, range_of}
 use Rattle.spec_text.proofs.ExchangeLaws.{length-stretch}
 use Rattle.spec_text.proofs.TakenEdits.{taken-inside}
 use Rattle.spec_script.specs.BlockValues.{StanzaOf}
-use Rattle.spec_reread.specs.Windows.{CountsWindow, IsBefore, IsEdited, stanzas_between}
-use Rattle.spec_reread.proofs.DisplacedWindow.{displaces-window}
-use Rattle.spec_reread.proofs.Edits.{edited-back, edited-lines}
-use Rattle.spec_reread.proofs.Resync.{window-one}
+use Rattle.spec_edit.specs.Windows.{CountsWindow, IsBefore, IsEdited, stanzas_between}
+use Rattle.spec_edit.proofs.DisplacedWindow.{displaces-window}
+use Rattle.spec_edit.proofs.Edits.{edited-back, edited-lines}
+use Rattle.spec_edit.proofs.Resync.{window-one}
 use Rattle.sp_reread.specs.Cache.{GivesBack, ReadsWithin, SwappedState, counted_on}
 use Rattle.sp_exchange.specs.Reads.{ReadsAtMost, ReadsWindow, WindowHas, WindowHasAtLeast}
 use Rattle.sp_exchange.specs.Restoring.{AreDisplaced, text_stanzas}

@@ -5,9 +5,9 @@ use Rattle.spec_text.specs.Lines.{LineState, TextState, IsText, line_texts}
 use Rattle.spec_text.specs.Edits.{Displacement, displaced_again, restored}
 use Rattle.spec_text.proofs.ExchangeLaws.{length-exchanged, length-stretch, stretch-exchanged}
 use Rattle.spec_script.specs.BlockValues.{StanzaOf}
-use Rattle.spec_reread.specs.Windows.{WasList, stanza_lines_in}
-use Rattle.spec_reread.proofs.Counts.{count-from}
-use Rattle.spec_reread.proofs.Edits.{edited-back, edited-lines}
+use Rattle.spec_edit.specs.Windows.{WasList, stanza_lines_in}
+use Rattle.spec_edit.proofs.Counts.{count-from}
+use Rattle.spec_edit.proofs.Edits.{edited-back, edited-lines}
 use Rattle.sp_text.specs.DisplacedLines.{DisplacedState, displaced_of}
 use Rattle.sp_text.specs.Gap.{LinesState, text_of}
 use Rattle.sp_reread.specs.Cache.{GivesBack, StanzasState, SwappedState, exchanged}

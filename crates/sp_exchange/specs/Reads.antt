@@ -2,7 +2,7 @@
 use Rattle.std.specs.Prelude.{◌≡◌, ℕ, ◌≤◌, List, length, Option, Some, None}
 use Rattle.spec_text.specs.Edits.{Refusal}
 use Rattle.spec_text.specs.Ranges.{RangeOf}
-use Rattle.spec_reread.specs.Windows.{IsWindow, stanzas_between}
+use Rattle.spec_edit.specs.Windows.{IsWindow, stanzas_between}
 use Rattle.spec_script.specs.BlockValues.{StanzaOf}
 use Rattle.spec_text.specs.Lines.{line_texts}
 use Rattle.sp_text.specs.declared.edit.Edit.{Edit}

@@ -5,8 +5,8 @@ use Rattle.spec_text.specs.Edits.{Refusal, Replacement, changed, displaced_again
 use Rattle.spec_text.specs.Ranges.{RangeOf, range_of}
 use Rattle.spec_script.specs.BlockValues.{StanzaOf}
 use Rattle.spec_script.specs.Stanzas.{stanzas_of}
-use Rattle.spec_reread.specs.Displaced.{DisplacesWindow}
-use Rattle.spec_reread.specs.Windows.{WasList}
+use Rattle.spec_edit.specs.Displaced.{DisplacesWindow}
+use Rattle.spec_edit.specs.Windows.{WasList}
 use Rattle.sp_text.specs.declared.edit.Edit.{Edit}
 use Rattle.sp_text.specs.Changing.{edit_of}
 use Rattle.sp_text.specs.Gap.{LinesState, text_of}

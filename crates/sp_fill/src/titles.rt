@@ -4,7 +4,7 @@ ghost use Rattle.spec_pages.specs.Pages.{page_starts};
 ghost use Rattle.spec_pages.specs.Rows.{title_shape};
 
 use crate::Shape;
-use sp_splice::GapList;
+use sp_gap::GapList;
 use std::alloc::{AllocError, Global};
 
 /// The first rows of the sheets of a title page, of which each ends as late as its height allows: the rows on it, with the leads of all

@@ -5,7 +5,7 @@ use Rattle.std.specs.List.{position_or_len}
 use Rattle.std.proofs.lemmas.Bool.{cases_Bool, ltb-true, ltb-false}
 use Rattle.std.proofs.lemmas.Grind.{flat_map-append}
 use Rattle.std.proofs.lemmas.Option.{cond_some}
-use Rattle.spec_print.specs.RowBytes.{spaces, untabbed}
+use Rattle.spec_sheets.specs.RowBytes.{spaces, untabbed}
 use Rattle.spec_html.specs.HtmlSheets.{escape, escaped}
 use Rattle.sp_html.specs.Written.{is_changed, written}
 

@@ -1,8 +1,8 @@
 -- Rows with marks are the HTML of the rows of a sheet.
 use Rattle.std.proofs.Common.{◌≡◌, ℕ, cond, List, [], ◌∷◌, ◌++◌, refl, ap, ap₂}
 use Rattle.std.specs.List.{flat_map}
-use Rattle.spec_layout.specs.Cells.{ShownPart, ShownCell}
-use Rattle.spec_print.specs.RowBytes.{ShownRow, is_blank, spaces, gap, columns_behind, star_cells}
+use Rattle.spec_sheets.specs.Cells.{ShownPart, ShownCell}
+use Rattle.spec_sheets.specs.RowBytes.{ShownRow, is_blank, spaces, gap, columns_behind, star_cells}
 use Rattle.spec_html.specs.HtmlSheets.{part_html, cells_html, row_html_line}
 use Rattle.sp_print.specs.Writing.{part_written, cells_written, line_written}
 use Rattle.sp_html.specs.Written.{marked_part}

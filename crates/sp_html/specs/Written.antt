@@ -1,6 +1,6 @@
 -- What is written of bytes and of parts (docs/RULES.md, "HTML pages").
 use Rattle.std.specs.Prelude.{ℕ, ◌==◌, ◌||◌, Bool, List, [], ◌∷◌}
-use Rattle.spec_print.specs.RowBytes.{untabbed}
+use Rattle.spec_sheets.specs.RowBytes.{untabbed}
 use Rattle.spec_html.specs.HtmlSheets.{escaped, marked}
 use Rattle.spec_html.specs.Marks.{marks_of}
 

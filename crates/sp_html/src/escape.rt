@@ -1,7 +1,7 @@
 //! Text with escapes in place of the three bytes that HTML gives a meaning, and spaces in place of tabs.
 ghost use Rattle.std.specs.Prelude.{◌≡◌, ◌<◌, ◌^◌, true, position, IfSome};
 ghost use Rattle.sp_kit.specs.Outside.{Writes};
-ghost use Rattle.spec_print.specs.RowBytes.{untabbed};
+ghost use Rattle.spec_sheets.specs.RowBytes.{untabbed};
 ghost use Rattle.spec_html.specs.HtmlSheets.{escaped};
 ghost use Rattle.sp_html.specs.Written.{is_changed, written};
 

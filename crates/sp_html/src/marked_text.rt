@@ -1,16 +1,15 @@
 //! Parts between the marks of their styles.
 ghost use Rattle.sp_kit.specs.Outside.{Writes};
-ghost use Rattle.spec_layout.specs.Cells.{shown_bytes};
-ghost use Rattle.spec_print.specs.RowBytes.{untabbed};
+ghost use Rattle.spec_sheets.specs.Cells.{shown_bytes};
+ghost use Rattle.spec_sheets.specs.RowBytes.{untabbed};
 ghost use Rattle.spec_html.specs.HtmlSheets.{escaped};
-ghost use Rattle.sp_views.specs.Views.{text_of};
+ghost use Rattle.sp_print.specs.Views.{text_of};
 ghost use Rattle.sp_html.specs.Written.{marked_part};
 
 use crate::escape::write_escaped;
 use crate::marks::{write_closing, write_opening};
 use sp_kit::{Failed, Sink};
-use sp_print::PartWriter;
-use sp_views::CellText;
+use sp_print::{CellText, PartWriter};
 
 /// Writes each part between the marks of its style.
 #[derive(Drop)]

@@ -1,7 +1,7 @@
 ghost use Rattle.std.specs.Prelude.{◌≡◌, ◌∷◌, ◌++◌, []};
 ghost use Rattle.std.specs.List.{flat_map};
 ghost use Rattle.sp_kit.specs.Outside.{Writes};
-ghost use Rattle.spec_print.specs.Sheets.{sheet_bytes};
+ghost use Rattle.spec_sheets.specs.Sheets.{sheet_bytes};
 ghost use Rattle.spec_html.specs.HtmlReading.{plain_text, styled_text};
 ghost use Rattle.spec_html.specs.HtmlSheets.{row_html_line, sheet_html};
 ghost use Rattle.spec_html.specs.StyledSheets.{sheet_styled};

@@ -8,9 +8,9 @@ use Rattle.spec_text.specs.Lines.{LineState}
 use Rattle.spec_script.specs.declared.Kind.{Kind}
 use Rattle.spec_script.specs.LongestRuns.{Group}
 use Rattle.spec_pages.specs.Rows.{ElementOf, is_title}
-use Rattle.spec_layout.specs.Speakers.{Spoken}
-use Rattle.spec_layout.specs.Layout.{laid_out, kind_of, in_body, is_page_break, rows_behind, breaks_from, layout_in}
-use Rattle.sp_elements.specs.Bodies.{row_count}
+use Rattle.spec_sheets.specs.Speakers.{Spoken}
+use Rattle.spec_sheets.specs.Layout.{laid_out, kind_of, in_body, is_page_break, rows_behind, breaks_from, layout_in}
+use Rattle.sp_layout.specs.Bodies.{row_count}
 use Rattle.sp_layout.specs.LaidOut.{break_places, places_behind, rows_before}
 use Rattle.sp_layout.proofs.LayoutAhead.{row_count-push, title-break}
 

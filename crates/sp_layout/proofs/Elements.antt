@@ -8,8 +8,8 @@ use Rattle.spec_script.specs.Stanzas.{PlacedBlock}
 use Rattle.spec_script.specs.Elements.{is_dual}
 use Rattle.spec_pages.specs.declared.Side.{Side}
 use Rattle.spec_pages.specs.declared.Side.TheVariants as sides
-use Rattle.spec_layout.specs.Speakers.{Spoken, named_block, settled, speaker_after, spoken_elements}
-use Rattle.spec_layout.proofs.SpokenLaws.{spoken_elements-alone, spoken_elements-pair, spoken_elements-off}
+use Rattle.spec_sheets.specs.Speakers.{Spoken, named_block, settled, speaker_after, spoken_elements}
+use Rattle.spec_sheets.proofs.SpokenLaws.{spoken_elements-alone, spoken_elements-pair, spoken_elements-off}
 use Rattle.sp_layout.specs.Speaking.{SpeakersOf, speakers_behind}
 use Rattle.sp_layout.specs.LaidOut.{spoken_block, spoken_beside}
 

@@ -3,8 +3,8 @@ use Rattle.std.proofs.Common.{◌≡◌, ℕ, ◌-◌, List, [], ◌∷◌, leng
 use Rattle.std.specs.List.{ends_with}
 use Rattle.spec_script.specs.LongestRuns.{last_of}
 use Rattle.spec_pages.specs.Wrapping.{WrappedRow}
-use Rattle.spec_layout.specs.Cells.{continued}
-use Rattle.spec_layout.specs.Speakers.{shown_text, last_row_continued}
+use Rattle.spec_sheets.specs.Cells.{continued}
+use Rattle.spec_sheets.specs.Speakers.{shown_text, last_row_continued}
 
 last_of-get : (row : WrappedRow) (later : List WrappedRow) → slice_get (row ∷ later) (length later) ≡ Some (last_of row later)
 last_of-get row [] = refl

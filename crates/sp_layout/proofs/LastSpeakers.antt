@@ -4,7 +4,7 @@ use Rattle.std.proofs.lemmas.List.{at_drop_more}
 use Rattle.spec_script.specs.declared.Kind.{Kind}
 use Rattle.spec_script.specs.declared.Kind.TheVariants as kinds
 use Rattle.spec_script.specs.Stanzas.{PlacedBlock}
-use Rattle.spec_layout.specs.Speakers.{cue_text, name_in, speaker_after, speaker_by}
+use Rattle.spec_sheets.specs.Speakers.{cue_text, name_in, speaker_after, speaker_by}
 use Rattle.sp_layout.specs.Speaking.{last_speaker}
 
 -- Behind these blocks the last speaker is the one before them.

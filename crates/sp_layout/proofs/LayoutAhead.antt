@@ -7,12 +7,12 @@ use Rattle.spec_script.specs.declared.Kind.TheVariants as kinds
 use Rattle.spec_script.specs.LongestRuns.{Group}
 use Rattle.spec_pages.specs.Rows.{Row, ElementOf, is_title, shifted_row, placed_rows}
 use Rattle.spec_labels.specs.declared.RowKey.{RowKey}
-use Rattle.spec_layout.specs.Speakers.{Spoken}
-use Rattle.spec_layout.specs.Layout.{laid_out, kind_of, is_title_element, in_body, is_page_break, layout_in, placed_in}
-use Rattle.spec_layout.specs.Shown.{row_key}
-use Rattle.sp_elements.specs.Bodies.{KeyedElements, with_element, row_count}
+use Rattle.spec_sheets.specs.Speakers.{Spoken}
+use Rattle.spec_sheets.specs.Layout.{laid_out, kind_of, is_title_element, in_body, is_page_break, layout_in, placed_in}
+use Rattle.spec_sheets.specs.Shown.{row_key}
+use Rattle.sp_layout.specs.Bodies.{KeyedElements, with_element, row_count}
 use Rattle.sp_layout.specs.LaidOut.{LayoutOf, break_places, with_laid}
-use Rattle.sp_elements.proofs.BodyLaws.{placed_in-push}
+use Rattle.sp_layout.proofs.BodyLaws.{placed_in-push}
 
 -- A body, with elements behind it.
 abbrev pub with_elements : List LineState → KeyedElements → List ElementOf → KeyedElements

@@ -2,11 +2,11 @@
 use Rattle.std.proofs.Common.{◌≡◌, ◌+◌, ◌≤◌, Bool, filter, length, refl, sym, subst, arith}
 use Rattle.std.proofs.lemmas.List.{length-map}
 use Rattle.spec_text.specs.Lines.{TextState, IsText}
-use Rattle.spec_layout.specs.Speakers.{text_elements}
-use Rattle.spec_layout.specs.Layout.{in_body, laid_out, layout_of}
-use Rattle.spec_layout.proofs.JoinLaws.{layout-joined}
-use Rattle.spec_layout.proofs.LayoutLaws.{layout_of-show}
-use Rattle.spec_layout.proofs.RowCounts.{layout_of-few}
+use Rattle.spec_sheets.specs.Speakers.{text_elements}
+use Rattle.spec_sheets.specs.Layout.{in_body, laid_out, layout_of}
+use Rattle.spec_sheets.proofs.JoinLaws.{layout-joined}
+use Rattle.spec_sheets.proofs.LayoutLaws.{layout_of-show}
+use Rattle.spec_sheets.proofs.RowCounts.{layout_of-few}
 use Rattle.sp_layout.specs.LaidOut.{LayoutOf, IsLayoutOf, keyed}
 use Rattle.sp_layout.proofs.BreakPlaces.{bodies_in, break_places-lie, break-rows}
 

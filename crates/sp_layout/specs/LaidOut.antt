@@ -5,10 +5,10 @@ use Rattle.spec_text.specs.Lines.{LineState, line_texts}
 use Rattle.spec_script.specs.LongestRuns.{Group}
 use Rattle.spec_script.specs.Stanzas.{PlacedBlock}
 use Rattle.spec_pages.specs.Rows.{ElementOf}
-use Rattle.spec_layout.specs.Cells.{RowShows}
-use Rattle.spec_layout.specs.Speakers.{Spoken, spoken_elements, text_elements}
-use Rattle.spec_layout.specs.Layout.{kind_of, is_page_break, is_title_element, in_body, AreJoined, laid_out, layout_in, layout_of, placed_in}
-use Rattle.sp_elements.specs.Bodies.{KeyedElements, body_of, with_element, row_count}
+use Rattle.spec_sheets.specs.Cells.{RowShows}
+use Rattle.spec_sheets.specs.Speakers.{Spoken, spoken_elements, text_elements}
+use Rattle.spec_sheets.specs.Layout.{kind_of, is_page_break, is_title_element, in_body, AreJoined, laid_out, layout_in, layout_of, placed_in}
+use Rattle.sp_layout.specs.Bodies.{KeyedElements, body_of, with_element, row_count}
 use Rattle.sp_layout.specs.Speaking.{SpeakersOf}
 
 -- Its title page, its body, and which elements of the body are page breaks.

@@ -1,2 +1,13 @@
+pub mod Places
+pub mod Bodies
+pub mod Exchanges
 pub mod Speaking
 pub mod LaidOut
+pub mod Runs
+pub mod Kept
+pub mod Changes
+pub mod Relaid
+pub mod Outside
+pub mod Edges
+pub mod Speeches
+pub mod Edited

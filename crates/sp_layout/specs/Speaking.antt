@@ -1,7 +1,7 @@
 -- Who spoke last (docs/RULES.md, "Elements").
 use Rattle.std.specs.Prelude.{◌≡◌, ℕ, ◌<◌, Bool, if◌then◌else◌, List, length, fold, slice_index_or, Option, Some, None}
 use Rattle.spec_script.specs.Stanzas.{PlacedBlock}
-use Rattle.spec_layout.specs.Speakers.{cue_text, name_in, speaker_after}
+use Rattle.spec_sheets.specs.Speakers.{cue_text, name_in, speaker_after}
 
 -- Whether speakers who go on are told, and who spoke last.
 pub record SpeakersOf : Type 0 where

@@ -4,15 +4,15 @@ ghost use Rattle.spec_text.specs.Lines.{IsText, line_texts};
 ghost use Rattle.spec_script.specs.Elements.{is_dual, is_speech_kind, PlacedLies, PlacesRise};
 ghost use Rattle.spec_script.specs.Stanzas.{blocks_of};
 ghost use Rattle.spec_pages.specs.Rows.{is_title};
-ghost use Rattle.spec_layout.specs.Layout.{is_page_break};
+ghost use Rattle.spec_sheets.specs.Layout.{is_page_break};
 ghost use Rattle.sp_text.specs.Gap.{text_of};
 ghost use Rattle.sp_layout.specs.LaidOut.{AddsElement, IsLayoutOf, layout_behind, spoken_beside, spoken_block, with_laid};
 ghost use Rattle.sp_layout.specs.Speaking.{speakers_before};
 
 use crate::speakers::Speakers;
-use sp_block_values::PlacedBlock;
+use crate::{Body, Element};
+use sp_blocks::PlacedBlock;
 use sp_columns::{dual_rows, single_rows};
-use sp_elements::{Body, Element};
 use sp_text::Lines;
 use spec_pages::Side;
 use spec_script::Kind;
@@ -29,7 +29,7 @@ pub struct Layout {
 }
 
 impl Model for Layout {
-    ghost use Rattle.sp_elements.specs.Bodies.{keyed_elements};
+    ghost use Rattle.sp_layout.specs.Bodies.{keyed_elements};
     ghost use Rattle.sp_layout.specs.LaidOut.{LayoutOf};
 
     ghost Value = { LayoutOf };

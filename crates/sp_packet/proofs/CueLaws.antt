@@ -9,7 +9,7 @@ use Rattle.std.proofs.lemmas.Option.{slice_get-map}
 use Rattle.spec_pages.specs.declared.Shape.{Shape}
 use Rattle.spec_pages.specs.Pages.{continues_speech}
 use Rattle.spec_labels.specs.PageRecords.{PageRecordOf, SegmentOf, segments}
-use Rattle.spec_layout.specs.Shown.{Shown, shape_of}
+use Rattle.spec_sheets.specs.Shown.{Shown, shape_of}
 use Rattle.spec_state.specs.SameRows.{BareRow, bare_of}
 use Rattle.spec_packet.specs.Packets.{LaidOf, is_cue_row, cue_reach, speech_start, goes_on_at, cue_end}
 use Rattle.spec_packet.specs.SheetFacts.{PlacesOf, ends_behind, starts_by, places_between, cue_places}

@@ -8,9 +8,9 @@ use Rattle.std.proofs.lemmas.List.Elements.{All-nil, All-cons, All-append}
 use Rattle.std.proofs.lemmas.List.Folds.{length-prefix_len}
 use Rattle.std.proofs.lemmas.List.Sums.{prefix_len-le-length}
 use Rattle.spec_labels.specs.PageRecords.{PageRecordOf, SegmentOf, SheetOf, AreStarts, is_empty, omitted_sheet, owner_of, page_sheets, record_starts, run_sheets, runs_of, segment_pages, segments}
-use Rattle.spec_layout.specs.Shown.{shape_of}
+use Rattle.spec_sheets.specs.Shown.{shape_of}
 use Rattle.spec_pages.specs.declared.Shape.{Shape}
-use Rattle.spec_collation.specs.SheetLists.{IsIn}
+use Rattle.spec_packet.specs.SheetLists.{IsIn}
 use Rattle.spec_state.specs.State.{State}
 use Rattle.spec_state.specs.Keeping.{IsWhole}
 use Rattle.spec_state.specs.StateSheets.{body_sheets, keys_in, rows_in}

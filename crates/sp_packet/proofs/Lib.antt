@@ -1,3 +1,6 @@
+pub mod CutLaws
+pub mod AddLaws
+pub mod MergeLaws
 mod FreshLaws
 mod CueLaws
 mod RunLaws

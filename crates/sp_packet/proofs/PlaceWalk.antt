@@ -3,8 +3,8 @@ use Rattle.std.proofs.Common.{◌≡◌, ℕ, ◌+◌, ◌-◌, ◌<◌, ◌≤�
 use Rattle.std.specs.Prelude.{All, is_some}
 use Rattle.std.proofs.lemmas.List.{drop_more, length-map}
 use Rattle.spec_labels.specs.PageRecords.{PageRecordOf, segments}
-use Rattle.spec_print.specs.Sheets.{Sheet}
-use Rattle.spec_collation.specs.Collations.{is_handed, sheet_of}
+use Rattle.spec_sheets.specs.Sheets.{Sheet}
+use Rattle.spec_packet.specs.Collations.{is_handed, sheet_of}
 use Rattle.spec_state.specs.State.{State}
 use Rattle.spec_state.specs.Keeping.{IsWhole}
 use Rattle.spec_state.specs.StateSheets.{body_sheets, rows_in, sheets_of_state, shown_sheet, title_sheets, title_starts, titles_in}

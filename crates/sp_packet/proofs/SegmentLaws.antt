@@ -8,8 +8,8 @@ use Rattle.std.proofs.lemmas.List.Elements.{All-cons, All-head, All-tail}
 use Rattle.spec_text.proofs.ListLaws.{pairs-head, pairs-tail}
 use Rattle.spec_labels.specs.PageRecords.{PageRecordOf, SegmentOf, SheetOf, AreStarts, first_label, is_empty, omitted_sheet, owner_of, page_sheets, segment_pages, segments, run_sheets, runs_of}
 use Rattle.spec_labels.proofs.SheetLaws.{runs_of-all}
-use Rattle.spec_collation.specs.SheetLists.{IsIn, InOrder}
-use Rattle.spec_collation.proofs.Lists.{filter-in}
+use Rattle.spec_packet.specs.SheetLists.{IsIn, InOrder}
+use Rattle.spec_packet.proofs.Lists.{filter-in}
 use Rattle.spec_packet.proofs.ChoiceLaws.{flat-in, in-flat}
 use Rattle.spec_packet.proofs.FactLaws.{NotFalling, BeginsAtZero}
 use Rattle.sp_locks.proofs.SheetRuns.{drop-segments}

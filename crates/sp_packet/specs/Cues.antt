@@ -3,7 +3,7 @@ use Rattle.std.specs.Prelude.{ℕ, ◌+◌, ◌-◌, min, max, Bool, false, nat_
 use Rattle.std.specs.List.{prefix_len}
 use Rattle.spec_pages.specs.declared.Shape.{Shape}
 use Rattle.spec_pages.specs.Pages.{continues_speech}
-use Rattle.spec_layout.specs.Shown.{is_cue}
+use Rattle.spec_sheets.specs.Shown.{is_cue}
 use Rattle.spec_packet.specs.SheetFacts.{PlacesOf}
 
 abbrev pub is_cue_shape : Shape → Bool

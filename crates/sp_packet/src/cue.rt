@@ -5,7 +5,7 @@ ghost use Rattle.sp_packet.specs.Cues.{is_cue_shape, place_with, places_by, reac
 
 use crate::facts::Places;
 use sp_fill::continues_speech;
-use sp_splice::GapList;
+use sp_gap::GapList;
 use spec_pages::{RowKind, Shape};
 
 /// Whether the row is a cue's.

@@ -9,9 +9,9 @@ ghost use Rattle.spec_packet.specs.StatePackets.{laid_of};
 ghost use Rattle.sp_packet.specs.Runs.{LieWithin, empty_run, facts_by, starts_before};
 
 use crate::cue::cue_places;
+use sp_gap::GapList;
 use sp_locks::Sheet;
-use sp_made_parts::StateView;
-use sp_splice::GapList;
+use sp_sheets::StateView;
 use sp_state::Script;
 use spec_pages::Shape;
 use std::alloc::{AllocError, Global};

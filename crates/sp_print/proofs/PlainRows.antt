@@ -3,8 +3,8 @@ use Rattle.std.proofs.Common.{◌≡◌, ℕ, ◌==◌, Bool, true, false, cond,
 use Rattle.std.specs.List.{flat_map}
 use Rattle.std.proofs.lemmas.Bool.{eqb-true}
 use Rattle.std.proofs.lemmas.List.{nil_from_length}
-use Rattle.spec_layout.specs.Cells.{ShownPart, ShownCell, part_text}
-use Rattle.spec_print.specs.RowBytes.{ShownRow, part_bytes, is_blank, spaces, gap, columns_behind, star_cells, cells_bytes, row_line, untabbed}
+use Rattle.spec_sheets.specs.Cells.{ShownPart, ShownCell, part_text}
+use Rattle.spec_sheets.specs.RowBytes.{ShownRow, part_bytes, is_blank, spaces, gap, columns_behind, star_cells, cells_bytes, row_line, untabbed}
 use Rattle.sp_print.specs.Writing.{plain_part, part_written, cells_written, line_written}
 
 part-if : (text : List ℕ) (t : Bool) → (length text == 0) ≡ t → cond t [] (untabbed text) ≡ untabbed text

@@ -5,8 +5,8 @@ use Rattle.std.proofs.lemmas.List.Sums.{sum_by-cons}
 use Rattle.spec_script.specs.LongestRuns.{last_of}
 use Rattle.spec_pages.specs.declared.Shape.{Shape}
 use Rattle.spec_pages.specs.Pages.{goes_on}
-use Rattle.spec_layout.specs.Shown.{Shown, shape_of}
-use Rattle.spec_print.specs.PageRows.{lead_of, height_above, page_height}
+use Rattle.spec_sheets.specs.Shown.{Shown, shape_of}
+use Rattle.spec_sheets.specs.PageRows.{lead_of, height_above, page_height}
 use Rattle.sp_print.proofs.Places.{drop-none, drop-step}
 
 -- The shape of the last row.

@@ -3,9 +3,9 @@ use Rattle.std.specs.Prelude.{ℕ, ◌≤◌, Option, Some, None, List, [], ◌�
 use Rattle.std.specs.List.{flat_map}
 use Rattle.std.specs.Option.{option_to_list}
 use Rattle.spec_script.specs.LongestRuns.{last_of}
-use Rattle.spec_layout.specs.Shown.{Shown}
-use Rattle.spec_print.specs.RowBytes.{ShownRow}
-use Rattle.spec_print.specs.PageRows.{empty_row, starred, led, more_below, page_body, omitted_rows}
+use Rattle.spec_sheets.specs.Shown.{Shown}
+use Rattle.spec_sheets.specs.RowBytes.{ShownRow}
+use Rattle.spec_sheets.specs.PageRows.{empty_row, starred, led, more_below, page_body, omitted_rows}
 
 -- The rows of a page from one of its rows on, and what stands below them.
 abbrev pub rows_from : ℕ → Option Shown → List Shown → List ShownRow

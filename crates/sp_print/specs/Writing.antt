@@ -2,9 +2,9 @@
 use Rattle.std.specs.Prelude.{ℕ, ◌+◌, ◌==◌, ◌&&◌, not, Bool, true, if◌then◌else◌, Option, Some, None, List, [], ◌∷◌, ◌++◌, length}
 use Rattle.std.specs.List.{flat_map}
 use Rattle.spec_pages.specs.Clusters.{columns_of}
-use Rattle.spec_layout.specs.Cells.{ShownPart, ShownCell, part_text, shown_bytes}
-use Rattle.spec_print.specs.RowBytes.{ShownRow, spaces, gap, columns_behind, is_blank, star_cells, untabbed}
-use Rattle.sp_views.specs.Views.{ViewOf, cells_views}
+use Rattle.spec_sheets.specs.Cells.{ShownPart, ShownCell, part_text, shown_bytes}
+use Rattle.spec_sheets.specs.RowBytes.{ShownRow, spaces, gap, columns_behind, is_blank, star_cells, untabbed}
+use Rattle.sp_print.specs.Views.{ViewOf, cells_views}
 use Rattle.sp_print.specs.declared.write_row.Progress.{Progress}
 
 -- The part has no text.

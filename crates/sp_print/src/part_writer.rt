@@ -1,10 +1,10 @@
 ghost use Rattle.std.specs.Prelude.{ℕ, List};
 ghost use Rattle.sp_kit.specs.Outside.{Writes};
-ghost use Rattle.spec_layout.specs.Cells.{shown_bytes};
-ghost use Rattle.sp_views.specs.Views.{text_of};
+ghost use Rattle.spec_sheets.specs.Cells.{shown_bytes};
+ghost use Rattle.sp_print.specs.Views.{text_of};
 
+use crate::CellText;
 use sp_kit::{Failed, Sink};
-use sp_views::CellText;
 
 /// What writes the text of a part of a cell, which `write_rows` puts at its column. What can be told of it is the bytes that
 /// it writes of a text with a style, the sum of 1 for italic, 2 for bold and 4 for underlined.

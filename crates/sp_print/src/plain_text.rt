@@ -1,13 +1,13 @@
 //! Parts without marks.
 ghost use Rattle.sp_kit.specs.Outside.{Writes};
-ghost use Rattle.spec_layout.specs.Cells.{shown_bytes};
-ghost use Rattle.spec_print.specs.RowBytes.{untabbed};
-ghost use Rattle.sp_views.specs.Views.{text_of};
+ghost use Rattle.spec_sheets.specs.Cells.{shown_bytes};
+ghost use Rattle.spec_sheets.specs.RowBytes.{untabbed};
+ghost use Rattle.sp_print.specs.Views.{text_of};
 
+use crate::CellText;
 use crate::part_writer::PartWriter;
 use crate::spaces::write_untabbed;
 use sp_kit::{Failed, Sink};
-use sp_views::CellText;
 
 /// Writes each part as it is, with four spaces for a tab, whatever its style.
 #[derive(Drop)]

@@ -2,14 +2,14 @@
 ghost use Rattle.std.specs.Prelude.{◌≡◌, ◌≤◌, ◌∷◌, [], All, MatchOption, slice_range};
 ghost use Rattle.std.specs.Option.{option_copied};
 ghost use Rattle.spec_text.specs.Lines.{line_texts};
-ghost use Rattle.spec_layout.specs.Cells.{RowShows};
-ghost use Rattle.spec_layout.specs.Layout.{placed_in};
-ghost use Rattle.spec_layout.specs.Shown.{heading_label, labels_behind, shown_rows};
+ghost use Rattle.spec_sheets.specs.Cells.{RowShows};
+ghost use Rattle.spec_sheets.specs.Layout.{placed_in};
+ghost use Rattle.spec_sheets.specs.Shown.{heading_label, labels_behind, shown_rows};
 
-use sp_elements::{Element, is_heading_element};
+use crate::TextRow;
 use sp_labels::Label;
+use sp_layout::{Element, is_heading_element};
 use sp_text::Lines;
-use sp_views::TextRow;
 use std::marker::Model;
 
 /// The next rows of elements: `left` of them, behind the first `skip`. `numbers` are the labels of the headings.
@@ -26,9 +26,9 @@ impl<'a> Model for RowCursor<'a> {
     ghost use Rattle.std.specs.Prelude.{List, All, drop, take};
     ghost use Rattle.std.specs.Option.{option_copied};
     ghost use Rattle.spec_text.specs.Lines.{line_texts};
-    ghost use Rattle.spec_layout.specs.Cells.{RowShows};
-    ghost use Rattle.spec_layout.specs.Layout.{placed_in};
-    ghost use Rattle.spec_layout.specs.Shown.{Shown, shown_rows};
+    ghost use Rattle.spec_sheets.specs.Cells.{RowShows};
+    ghost use Rattle.spec_sheets.specs.Layout.{placed_in};
+    ghost use Rattle.spec_sheets.specs.Shown.{Shown, shown_rows};
 
     ghost Value = { List Shown };
 

@@ -1,10 +1,10 @@
 //! The rows of a page below its header.
 ghost use Rattle.std.specs.Prelude.{◌≡◌, ◌<◌, ◌≤◌, ◌∷◌, [], length, slice_get, MatchOption};
-ghost use Rattle.spec_print.specs.PageRows.{height_above, page_body, page_height};
+ghost use Rattle.spec_sheets.specs.PageRows.{height_above, page_body, page_height};
 
 use crate::row_cursor::RowCursor;
+use crate::{RowView, TextRow, empty_row, more_row};
 use sp_fill::{continues_speech, goes_on};
-use sp_views::{RowView, TextRow, empty_row, more_row};
 use std::marker::Model;
 
 /// The rows of a page that come next: one that stands by itself, so many empty rows, and a row of an element with those
@@ -20,7 +20,7 @@ pub(crate) struct Slots<'a> {
 
 impl<'a> Model for Slots<'a> {
     ghost use Rattle.std.specs.Prelude.{List};
-    ghost use Rattle.spec_print.specs.RowBytes.{ShownRow};
+    ghost use Rattle.spec_sheets.specs.RowBytes.{ShownRow};
     ghost use Rattle.sp_print.specs.Slots.{slots};
 
     ghost Value = { List ShownRow };

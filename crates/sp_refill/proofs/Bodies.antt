@@ -12,15 +12,15 @@ use Rattle.spec_script.specs.LongestRuns.{Group}
 use Rattle.spec_script.specs.Stanzas.{PlacedBlock}
 use Rattle.spec_script.specs.Elements.{is_speech_kind}
 use Rattle.spec_pages.specs.Rows.{ElementOf, is_title}
-use Rattle.spec_layout.specs.Speakers.{Spoken}
-use Rattle.spec_layout.specs.Layout.{laid_beside, laid_out, in_body}
-use Rattle.spec_layout.proofs.LaidRows.{body_rows as spoken_rows, layout-body}
-use Rattle.spec_relayout.specs.TextItems.{Script, spoken_by, spoken_group, text_rows}
+use Rattle.spec_sheets.specs.Speakers.{Spoken}
+use Rattle.spec_sheets.specs.Layout.{laid_beside, laid_out, in_body}
+use Rattle.spec_sheets.proofs.LaidRows.{body_rows as spoken_rows, layout-body}
+use Rattle.spec_edit.specs.TextItems.{Script, spoken_by, spoken_group, text_rows}
 use Rattle.spec_refill.specs.Exchanges.{body_rows, count_rows}
 use Rattle.spec_refill.proofs.ElementMarks.{row_mark, rows-marks}
-use Rattle.sp_elements.specs.Bodies.{row_count}
-use Rattle.sp_elements.specs.Places.{CountsBefore}
-use Rattle.sp_elements.proofs.ElementCounts.{counts-one, counts-parts}
+use Rattle.sp_layout.specs.Bodies.{row_count}
+use Rattle.sp_layout.specs.Places.{CountsBefore}
+use Rattle.sp_layout.proofs.ElementCounts.{counts-one, counts-parts}
 use Rattle.sp_refill.specs.Counts.{HasFront, HasRest, RowsBefore, RowsUpTo, one_if}
 use Rattle.sp_refill.proofs.Groups.{Begins}
 

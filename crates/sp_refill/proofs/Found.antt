@@ -11,21 +11,21 @@ use Rattle.spec_script.specs.LongestRuns.{Group}
 use Rattle.spec_script.specs.Stanzas.{stanzas_of, stanzas_from}
 use Rattle.spec_script.specs.Elements.{elements_in}
 use Rattle.spec_pages.specs.Rows.{ElementOf}
-use Rattle.spec_layout.specs.Speakers.{Spoken}
-use Rattle.spec_layout.specs.Layout.{in_body, laid_out}
+use Rattle.spec_sheets.specs.Speakers.{Spoken}
+use Rattle.spec_sheets.specs.Layout.{in_body, laid_out}
 use Rattle.spec_state.specs.State.{State, text_of}
 use Rattle.spec_state.specs.Keeping.{IsWhole}
 use Rattle.spec_state.specs.StateSheets.{layout_in, rows_in}
 use Rattle.spec_state.specs.Changes.{CanEdit, edited_state}
-use Rattle.spec_reread.specs.Windows.{IsEdited, stanza_lines_in, stanzas_between}
-use Rattle.spec_reread.specs.Displaced.{AreOfWindow, DisplacesWindow}
-use Rattle.spec_reread.specs.Touched.{WindowBlocks, first_block, front_relaid, old_relaid, new_relaid}
-use Rattle.spec_reread.proofs.Counts.{count-between}
-use Rattle.spec_reread.proofs.Edits.{edited-lines}
-use Rattle.spec_reread.proofs.Resync.{window-cuts, old-cuts}
-use Rattle.spec_reflow.specs.Windows.{Exchange}
-use Rattle.spec_relayout.specs.Touched.{EditBlocks}
-use Rattle.spec_relayout.proofs.WindowExists.{window-exists}
+use Rattle.spec_edit.specs.Windows.{IsEdited, stanza_lines_in, stanzas_between}
+use Rattle.spec_edit.specs.Displaced.{AreOfWindow, DisplacesWindow}
+use Rattle.spec_edit.specs.WindowBlocks.{WindowBlocks, first_block, front_relaid, old_relaid, new_relaid}
+use Rattle.spec_edit.proofs.Counts.{count-between}
+use Rattle.spec_edit.proofs.Edits.{edited-lines}
+use Rattle.spec_edit.proofs.Resync.{window-cuts, old-cuts}
+use Rattle.spec_edit.specs.PageWindows.{Exchange}
+use Rattle.spec_edit.specs.Touched.{EditBlocks}
+use Rattle.spec_edit.proofs.WindowExists.{window-exists}
 use Rattle.spec_locked_pages.specs.LockedPages.{IsWindowOf, edit_blocks}
 use Rattle.spec_locked_pages.proofs.StateScripts.{script_of, blocks_in, elements-scripted}
 use Rattle.spec_locked_pages.proofs.EditedStates.{new-whole, lines-moved}
@@ -33,7 +33,7 @@ use Rattle.spec_refill.specs.Exchanges.{count_rows, blocks_round, elements_befor
 use Rattle.spec_refill.proofs.ElementMarks.{count-marks}
 use Rattle.spec_refill.proofs.EditExchange.{state-rows, around, olds-are, news-are, sound, rows-parted}
 use Rattle.sp_reread.specs.Cache.{SwappedState}
-use Rattle.sp_elements.specs.Bodies.{row_count}
+use Rattle.sp_layout.specs.Bodies.{row_count}
 use Rattle.sp_refill.specs.Edits.{AreAhead, IsBehindSomeEdit, IsOfEdit, IsOfSomeEdit, RowsAheadOf}
 use Rattle.sp_refill.specs.Neighbours.{nearer, first_in, last_in, relays_front, parts_rest, relays_before, parts_behind}
 use Rattle.sp_refill.specs.Counts.{RowsBefore, RowsUpTo}

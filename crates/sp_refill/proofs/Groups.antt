@@ -6,7 +6,7 @@ use Rattle.std.proofs.lemmas.List.Elements.{All-nil, All-cons, All-head, All-tai
 use Rattle.spec_script.specs.LongestRuns.{Group, members, in_front}
 use Rattle.spec_script.specs.Stanzas.{PlacedBlock}
 use Rattle.spec_script.specs.Elements.{is_dual, alone, elements_in}
-use Rattle.spec_reread.specs.Touched.{joins}
+use Rattle.spec_edit.specs.WindowBlocks.{joins}
 
 -- The element begins with a block of this kind.
 abbrev pub Begins : (PlacedBlock → Type 0) → Group PlacedBlock → Type 0

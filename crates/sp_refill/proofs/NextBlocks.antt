@@ -5,8 +5,8 @@ use Rattle.std.proofs.lemmas.List.{append-nil, drop_more, take_more, take_rest}
 use Rattle.spec_script.specs.BlockValues.{BlockOf, StanzaOf}
 use Rattle.spec_script.specs.Stanzas.{PlacedBlock, blocks_from}
 use Rattle.spec_script.specs.Elements.{placed_at}
-use Rattle.spec_reread.specs.Touched.{WindowBlocks, is_nil, joined_by, last_block, first_block, joins, front_relaid}
-use Rattle.spec_reread.proofs.RelaidElements.{last-behind}
+use Rattle.spec_edit.specs.WindowBlocks.{WindowBlocks, is_nil, joined_by, last_block, first_block, joins, front_relaid}
+use Rattle.spec_edit.proofs.RelaidElements.{last-behind}
 use Rattle.sp_refill.specs.Neighbours.{is_pair, is_there, nearer, first_one, last_one, first_in, last_in, relays_front, parts_rest, relays_before}
 
 abbrev pub block_by : Option PlacedBlock → Option BlockOf

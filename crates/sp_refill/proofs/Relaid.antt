@@ -14,24 +14,24 @@ use Rattle.spec_script.specs.LongestRuns.{Group}
 use Rattle.spec_script.specs.Stanzas.{PlacedBlock}
 use Rattle.spec_script.specs.Elements.{line_of_block, is_speech_kind, is_dual, alone, elements_in}
 use Rattle.spec_script.proofs.RunSteps.{longest_runs-map}
-use Rattle.spec_layout.proofs.ElementPlaces.{placed_from, placed_to}
-use Rattle.spec_reread.specs.Touched.{pushed, WindowBlocks, old_blocks, new_blocks, is_nil, joined_by, last_block, first_block, joins, front_relaid, rest_relaid, but_last, only_last, front_kept, front_half, rest_kept, rest_half, old_relaid, new_relaid}
-use Rattle.spec_reread.proofs.WindowElements.{pushed_group, elements-apart, elements-pushed}
-use Rattle.spec_reread.proofs.RelaidElements.{last-parts, last-only, IsSome, relaid-old, relaid-new}
-use Rattle.spec_relayout.specs.Touched.{EditBlocks}
-use Rattle.spec_relayout.specs.TextItems.{Script}
-use Rattle.spec_relayout.proofs.ItemMoves.{LinesMoved}
-use Rattle.spec_relayout.proofs.ElementMoves.{after-front, after-behind, block_after, element_after}
-use Rattle.spec_relayout.proofs.WindowSides.{EndsBy}
-use Rattle.spec_relayout.proofs.FairElements.{ElementSound, AllIn, elements-all}
-use Rattle.spec_relayout.proofs.AsideBlocks.{IsAside, front-aside, pushed-aside, kept-aside, fronts-same, rests-same, fronts-moved, front-before, kept-before}
-use Rattle.spec_relayout.proofs.WindowPartners.{Around}
+use Rattle.spec_sheets.proofs.ElementPlaces.{placed_from, placed_to}
+use Rattle.spec_edit.specs.WindowBlocks.{pushed, WindowBlocks, old_blocks, new_blocks, is_nil, joined_by, last_block, first_block, joins, front_relaid, rest_relaid, but_last, only_last, front_kept, front_half, rest_kept, rest_half, old_relaid, new_relaid}
+use Rattle.spec_edit.proofs.WindowElements.{pushed_group, elements-apart, elements-pushed}
+use Rattle.spec_edit.proofs.RelaidElements.{last-parts, last-only, IsSome, relaid-old, relaid-new}
+use Rattle.spec_edit.specs.Touched.{EditBlocks}
+use Rattle.spec_edit.specs.TextItems.{Script}
+use Rattle.spec_edit.proofs.ItemMoves.{LinesMoved}
+use Rattle.spec_edit.proofs.ElementMoves.{after-front, after-behind, block_after, element_after}
+use Rattle.spec_edit.proofs.WindowSides.{EndsBy}
+use Rattle.spec_edit.proofs.FairElements.{ElementSound, AllIn, elements-all}
+use Rattle.spec_edit.proofs.AsideBlocks.{IsAside, front-aside, pushed-aside, kept-aside, fronts-same, rests-same, fronts-moved, front-before, kept-before}
+use Rattle.spec_edit.proofs.WindowPartners.{Around}
 use Rattle.spec_refill.specs.Exchanges.{body_rows, count_rows, begins_before, relays_none, elements_before}
 use Rattle.spec_refill.proofs.Marks.{rows, shapes-moved}
 use Rattle.spec_refill.proofs.ElementMarks.{marks_of, count-marks}
 use Rattle.spec_refill.proofs.MovedMarks.{all-moved}
-use Rattle.sp_elements.specs.Bodies.{row_count}
-use Rattle.sp_elements.specs.Places.{CountsBefore}
+use Rattle.sp_layout.specs.Bodies.{row_count}
+use Rattle.sp_layout.specs.Places.{CountsBefore}
 use Rattle.sp_refill.specs.Counts.{RowsBefore, RowsUpTo}
 use Rattle.sp_refill.proofs.NextBlocks.{block_by, last-there, last-append, joins-pair, rest_parted}
 use Rattle.sp_refill.proofs.Groups.{Begins, all-begin, PartedElements, parted-elements, first-element, joined-last}

@@ -1,8 +1,8 @@
 -- How many rows stand before the elements that begin from a line on (docs/RULES.md, "Windows").
 use Rattle.std.specs.Prelude.{◌≡◌, ℕ, ◌+◌, ◌-◌, ◌≤◌, Bool, true, false, List, length, take}
 use Rattle.spec_pages.specs.Rows.{ElementOf}
-use Rattle.sp_elements.specs.Bodies.{row_count}
-use Rattle.sp_elements.specs.Places.{CountsBefore}
+use Rattle.sp_layout.specs.Bodies.{row_count}
+use Rattle.sp_layout.specs.Places.{CountsBefore}
 
 abbrev pub one_if : Bool → ℕ
 one_if true = 1

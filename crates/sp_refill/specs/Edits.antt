@@ -9,10 +9,10 @@ use Rattle.spec_state.specs.State.{State}
 use Rattle.spec_state.specs.Keeping.{IsWhole}
 use Rattle.spec_state.specs.StateSheets.{layout_in}
 use Rattle.spec_state.specs.Changes.{CanEdit, edited_state}
-use Rattle.spec_reread.specs.Windows.{stanza_lines_in}
-use Rattle.spec_reread.specs.Displaced.{DisplacesWindow}
+use Rattle.spec_edit.specs.Windows.{stanza_lines_in}
+use Rattle.spec_edit.specs.Displaced.{DisplacesWindow}
 use Rattle.sp_reread.specs.Cache.{SwappedState}
-use Rattle.sp_elements.specs.Bodies.{row_count}
+use Rattle.sp_layout.specs.Bodies.{row_count}
 use Rattle.sp_refill.specs.Neighbours.{relays_before}
 use Rattle.sp_refill.specs.Counts.{RowsBefore}
 

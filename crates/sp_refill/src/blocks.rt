@@ -3,7 +3,7 @@ ghost use Rattle.std.specs.Prelude.{◌≡◌, ◌+◌, ◌-◌, ◌≤◌, ◌&
 ghost use Rattle.spec_script.specs.Elements.{is_speech_kind};
 ghost use Rattle.sp_refill.specs.Neighbours.{first_in, first_one, is_pair, is_there, last_in, last_one, nearer, parts_behind, parts_rest, relays_before, relays_front};
 
-use sp_block_values::{Block, Kind, Stanza};
+use sp_blocks::{Block, Kind, Stanza};
 use sp_reread::{Stanzas, Swapped};
 
 fn is_speech(block: &Block) -> bool

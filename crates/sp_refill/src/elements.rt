@@ -1,7 +1,7 @@
 //! The rows of the elements that begin before a line.
 ghost use Rattle.sp_refill.specs.Counts.{HasFront, HasRest, RowsBefore, RowsUpTo};
 
-use sp_elements::{Body, elements_before};
+use sp_layout::{Body, elements_before};
 
 /// How many rows stand before the elements that begin from a line on, or where the element before these is relaid, before
 /// that one.

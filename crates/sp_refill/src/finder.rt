@@ -11,7 +11,7 @@ ghost use Rattle.sp_refill.specs.Edits.{AreAhead, IsBehindSomeEdit, IsOfEdit, Is
 
 use crate::blocks::{parts_behind, relays_before};
 use crate::elements::{rows_before, rows_up_to};
-use sp_elements::Body;
+use sp_layout::Body;
 use sp_reread::{Stanzas, Swapped};
 use sp_text::Lines;
 use std::marker::Model;
@@ -40,7 +40,7 @@ pub struct ExchangedRows {
 }
 
 impl Model for ExchangedRows {
-    ghost use Rattle.spec_reflow.specs.Windows.{Exchange};
+    ghost use Rattle.spec_edit.specs.PageWindows.{Exchange};
 
     ghost Value = { Exchange };
 

@@ -1,7 +1,7 @@
 -- An exchange that moves no later start.
 use Rattle.std.proofs.Common.{◌≡◌, ℕ, suc, ◌+◌, List, [], ◌∷◌, ◌++◌, take, drop, map, All, refl, sym, ap, ap₂, ◌∙◌, drop-drop, take-append-drop, arith}
 use Rattle.sp_reflow.specs.Starts.{exchanged, CanExchange}
-use Rattle.sp_splice.specs.Moves.{shifted, CanShift}
+use Rattle.sp_gap.specs.Moves.{shifted, CanShift}
 
 -- Starts that get as much off as on stay.
 pub map-still : (less more : ℕ) (xs : List ℕ) → less ≡ more → All (CanShift less more) xs → map (shifted less more) xs ≡ xs

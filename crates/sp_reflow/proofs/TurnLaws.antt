@@ -2,7 +2,7 @@
 use Rattle.std.proofs.Common.{◌≡◌, ℕ, ◌+◌, ◌-◌, List, ◌++◌, length, map, take, drop, refl, ap, ap₂, ◌∙◌, arith, length-take-le, length-drop, drop_at, take_at}
 use Rattle.std.specs.Prelude.{slice_range}
 use Rattle.sp_reflow.specs.Starts.{Taken}
-use Rattle.sp_splice.specs.Moves.{shifted}
+use Rattle.sp_gap.specs.Moves.{shifted}
 use Rattle.sp_reflow.specs.Updates.{with_taken, CanPutBack, TakenStarts, taken_of, taken_back}
 
 abbrev made : ℕ → ℕ → List ℕ → ℕ → ℕ → TakenStarts

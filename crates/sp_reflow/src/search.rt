@@ -2,7 +2,7 @@
 ghost use Rattle.std.specs.Prelude.{◌≡◌, true, false, ◌+◌, ◌-◌, ◌<◌, ◌≤◌, length, AllPairs, IfSome, IfNone, nat_lt, get_or};
 ghost use Rattle.std.specs.List.{prefix_len};
 ghost use Rattle.spec_pages.specs.Heights.{next_stop};
-ghost use Rattle.spec_reflow.specs.Windows.{AreStops, is_settled, came_from};
+ghost use Rattle.spec_edit.specs.PageWindows.{AreStops, is_settled, came_from};
 
 /// How many of the places are below the bound.
 pub fn count_below(places: &[usize], bound: usize) -> usize

@@ -6,7 +6,7 @@ use Rattle.std.proofs.lemmas.Option.{slice_get_within, get_or_from_slice_get}
 use Rattle.spec_script.specs.BlockValues.{StanzaOf}
 use Rattle.spec_script.specs.Elements.{placed_at}
 use Rattle.spec_script.specs.Stanzas.{PlacedBlock, blocks_from}
-use Rattle.spec_reread.specs.Windows.{stanza_lines_in}
+use Rattle.spec_edit.specs.Windows.{stanza_lines_in}
 
 -- The next stanza's blocks, and those of the stanzas behind it, up to a place.
 pub blocks_from-next : (placed : List PlacedBlock) (stanzas : List StanzaOf) (i to : ℕ) (stanza : StanzaOf) → slice_get stanzas i ≡ Some stanza → i < to

@@ -2,11 +2,11 @@
 ghost use Rattle.std.specs.Prelude.{◌≡◌, ◌≤◌, ◌+◌, ◌++◌, length, map, IfOk, OnOk};
 ghost use Rattle.spec_script.specs.Elements.{placed_at};
 ghost use Rattle.spec_script.specs.Stanzas.{blocks_from};
-ghost use Rattle.spec_reread.specs.Windows.{stanza_lines_in};
+ghost use Rattle.spec_edit.specs.Windows.{stanza_lines_in};
 ghost use Rattle.sp_reread.specs.Cache.{blocks_between};
 
 use crate::Stanzas;
-use sp_block_values::{PlacedBlock, Stanza};
+use sp_blocks::{PlacedBlock, Stanza};
 use std::alloc::{AllocError, Global};
 
 /// Adds the blocks of the stanza that begins at a place.

@@ -21,17 +21,17 @@ use Rattle.spec_room.proofs.MachineSteps as machine
 use Rattle.spec_room.proofs.RoomLaws.{holds_after, last_of-put, but_last-put}
 use Rattle.spec_room.proofs.CommandLaws.{unrefused-step, taken_step}
 use Rattle.spec_room.proofs.StepLaws.{unrefused-taken, refused-same, taken-seen, taken-stands}
-use Rattle.sp_commands.specs.declared.reply.Reply.{Reply}
-use Rattle.sp_commands.specs.Values.{reply_of, refusal_of}
+use Rattle.sp_wire.specs.declared.reply.Reply.{Reply}
+use Rattle.sp_wire.specs.Values.{reply_of, refusal_of}
 use Rattle.sp_desk.specs.declared.fault.DeskFault.{DeskFault}
 use Rattle.sp_desk.specs.declared.fault.DeskFault.TheVariants.{Refused, NoMemory}
 use Rattle.sp_desk.specs.Answers.{step_to, IsAnswer}
-use Rattle.sp_changes.specs.Changes.{range_of, ranges}
+use Rattle.sp_room.specs.Changes.{range_of, ranges}
 use Rattle.sp_room.specs.Owners.{OwnerOf, Own, MovesLast, seats_of}
-use Rattle.sp_changes.specs.Asking.{MakesNoChange, is_forgetting}
+use Rattle.sp_room.specs.Asking.{MakesNoChange, is_forgetting}
 use Rattle.sp_room.specs.Answers.{line_of, IsRoomAnswer}
 use Rattle.sp_room.specs.Inside.{Keeps, room_of}
-use Rattle.sp_changes.specs.declared.change.Change.{Change}
+use Rattle.sp_room.specs.declared.change.Change.{Change}
 use Rattle.sp_room.proofs.OwnerLaws.{own_edit, own_undo, own_redo, own_forgets, own_looks, seats-put, change_of-undoes, change_of-redoes}
 
 -- ---- the parts of a room after a command that its desk took

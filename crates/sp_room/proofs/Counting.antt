@@ -7,7 +7,7 @@ use Rattle.spec_wire.specs.Commands.{CommandOf, edit}
 use Rattle.spec_wire.specs.Replies.{RefusalOf}
 use Rattle.spec_room.specs.Kinds.{Kind, edits, undoes, redoes, forgets, looks, edit_range, edit_moved, kind_of, command_at}
 use Rattle.spec_room.specs.Rooms.{RoomState, asked_edit, asked_of}
-use Rattle.sp_changes.specs.Asking.{MakesNoChange}
+use Rattle.sp_room.specs.Asking.{MakesNoChange}
 use Rattle.sp_room.specs.Counts.{OfAsked}
 use Rattle.sp_room.proofs.Answering.{same-command}
 

@@ -1,3 +1,4 @@
+pub mod Walks
 pub mod OwnerLaws
 pub mod Answering
 pub mod Counting

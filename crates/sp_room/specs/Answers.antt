@@ -8,8 +8,8 @@ use Rattle.spec_room.specs.Changes.{Text}
 use Rattle.spec_room.specs.Kinds.{kind_of}
 use Rattle.spec_room.specs.Standing.{StandsFor, KeepsSeen, texts_after}
 use Rattle.spec_room.specs.Rooms.{RoomState, room_step_to, room_step_of}
-use Rattle.sp_commands.specs.declared.reply.Reply.{Reply}
-use Rattle.sp_commands.specs.Values.{reply_of, refusal_of}
+use Rattle.sp_wire.specs.declared.reply.Reply.{Reply}
+use Rattle.sp_wire.specs.Values.{reply_of, refusal_of}
 use Rattle.sp_desk.specs.declared.fault.DeskFault.{DeskFault}
 use Rattle.sp_desk.specs.declared.fault.DeskFault.TheVariants.{Refused, NoMemory}
 

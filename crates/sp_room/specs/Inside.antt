@@ -3,9 +3,9 @@ use Rattle.std.specs.Prelude.{ℕ, List}
 use Rattle.spec_machine.specs.Machine.{Memory}
 use Rattle.spec_room.specs.Rooms.{RoomState}
 use Rattle.spec_room.specs.Holding.{Holds}
-use Rattle.sp_changes.specs.Changes.{ranges}
+use Rattle.sp_room.specs.Changes.{ranges}
 use Rattle.sp_room.specs.Owners.{OwnerOf, Own, seats_of}
-use Rattle.sp_changes.specs.declared.change.Change.{Change}
+use Rattle.sp_room.specs.declared.change.Change.{Change}
 
 -- A room of these parts.
 abbrev pub room_of : Memory → ℕ → List Change → List OwnerOf → List OwnerOf → RoomState

@@ -1,3 +1,5 @@
+pub mod Changes
+pub mod Asking
 pub mod Owners
 pub mod Answers
 pub mod Counts

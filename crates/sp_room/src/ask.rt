@@ -1,14 +1,14 @@
 //! What a room asks of its desk.
 ghost use Rattle.std.specs.Prelude.{◌≡◌, false, IfOk, OnErr};
 ghost use Rattle.spec_wire.specs.Replies.{is_refused};
-ghost use Rattle.sp_commands.specs.Values.{command_of, reply_of};
+ghost use Rattle.sp_wire.specs.Values.{command_of, reply_of};
 ghost use Rattle.sp_desk.specs.Answers.{IsAnswer};
 ghost use Rattle.sp_desk.specs.Reads.{CommandReads};
 ghost use Rattle.sp_desk.specs.Fills.{CommandFills};
 
-use sp_commands::{Command, Reply};
 use sp_desk::{Desk, DeskFault};
 use sp_kit::Steps;
+use sp_wire::{Command, Reply};
 use std::alloc::Global;
 
 /// Asks a command of the desk. A refusal and want of memory leave it as it was.

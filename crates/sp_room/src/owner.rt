@@ -3,7 +3,7 @@ ghost use Rattle.std.specs.Prelude.{◌≡◌, ◌<◌, length, vec_len, vec_cap
 ghost use Rattle.std.specs.VecDeque.{deque_len, deque_capacity};
 ghost use Rattle.sp_room.specs.Owners.{IsLast, MovesLast};
 
-use sp_changes::Change;
+use crate::Change;
 use std::alloc::AllocError;
 use std::collections::VecDeque;
 use std::marker::Model;
@@ -17,7 +17,7 @@ pub struct Owner {
 
 impl Model for Owner {
     ghost use Rattle.std.specs.Prelude.{string_bytes};
-    ghost use Rattle.sp_changes.specs.Changes.{range_of};
+    ghost use Rattle.sp_room.specs.Changes.{range_of};
     ghost use Rattle.sp_room.specs.Owners.{OwnerOf};
 
     ghost Value = { OwnerOf };

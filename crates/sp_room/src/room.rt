@@ -5,20 +5,20 @@ ghost use Rattle.spec_room.specs.Kinds.{kind_of, looks};
 ghost use Rattle.spec_room.specs.Rooms.{opened_room};
 ghost use Rattle.spec_room.specs.Standing.{StandsFor};
 ghost use Rattle.sp_text.specs.Changing.{edit_of};
-ghost use Rattle.sp_commands.specs.Values.{command_of, reply_of};
-ghost use Rattle.sp_changes.specs.Asking.{MakesNoChange};
+ghost use Rattle.sp_wire.specs.Values.{command_of, reply_of};
+ghost use Rattle.sp_room.specs.Asking.{MakesNoChange};
 ghost use Rattle.sp_room.specs.Answers.{line_of, IsRoomAnswer, KeepsSeenLines, KeepsTexts};
 ghost use Rattle.sp_room.specs.Counts.{RoomReads, RoomFills};
 
 use crate::ask::ask;
 use crate::owner::{Owner, last_owner, make_room, move_last};
-use sp_changes::{
+use crate::{
     Change, change_at, edit_change, is_forgetting, moved_to, present_place, remember, turned,
 };
-use sp_commands::{Command, Refusal, Reply};
 use sp_desk::{Desk, DeskFault};
 use sp_kit::Steps;
 use sp_text::Edit;
+use sp_wire::{Command, Refusal, Reply};
 use std::alloc::Global;
 use std::collections::VecDeque;
 use std::marker::Model;

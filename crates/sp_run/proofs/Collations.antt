@@ -4,20 +4,20 @@ use Rattle.std.specs.Prelude.{IfSome, IsSomeAnd, nat_lt, string_bytes}
 use Rattle.std.proofs.KnownBytes.{Keeps-refl}
 use Rattle.std.proofs.lemmas.Bool.{lt-ltb, le-ltb}
 use Rattle.std.proofs.lemmas.List.{length-replicate}
-use Rattle.spec_collation.specs.BytesCollated.{Collating, bad_sheets, collating}
-use Rattle.sp_collation.specs.Collating.{IsNotCollated}
-use Rattle.sp_collation.specs.declared.fault.CollateFault.{CollateFault}
-use Rattle.sp_collation.specs.declared.fault.CollateFault.TheVariants as sheets_faults
+use Rattle.spec_packet.specs.BytesCollated.{Collating, bad_sheets, collating}
+use Rattle.sp_packet.specs.Collating.{IsNotCollated}
+use Rattle.sp_packet.specs.declared.fault.CollateFault.{CollateFault}
+use Rattle.sp_packet.specs.declared.fault.CollateFault.TheVariants as sheets_faults
 use Rattle.sp_kit.specs.Causes.{Rose}
 use Rattle.sp_kit.specs.Files.{Files, ShelfState}
 use Rattle.sp_kit.specs.Outside.{SinkState}
 use Rattle.sp_text.specs.declared.fault.TextFault.TheVariants as faults
-use Rattle.sp_words.specs.declared.status.Status.{Status}
-use Rattle.sp_words.specs.declared.status.Status.TheVariants as statuses
-use Rattle.sp_words.specs.Statuses.{status_of_sheets}
-use Rattle.sp_opening.specs.Opening.{SameShelf}
+use Rattle.sp_run.specs.declared.status.Status.{Status}
+use Rattle.sp_run.specs.declared.status.Status.TheVariants as statuses
+use Rattle.sp_run.specs.Statuses.{status_of_sheets}
+use Rattle.sp_run.specs.Opening.{SameShelf}
 use Rattle.sp_run.specs.Collating.{sheets_limit, Fate, lacks, passes_limit, spoils, gives, fate_by, second_fate, fate_of, Comes, FetchedSheets, NoSheets, NotCollated, TookNothing, CollateEnds, AnswersFate}
-use Rattle.sp_opening.proofs.Held.{not-risen}
+use Rattle.sp_run.proofs.Held.{not-risen}
 
 -- What stands under a name, as far as it is known.
 held_in : Option Files → List ℕ → Option (List ℕ)

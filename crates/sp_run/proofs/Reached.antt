@@ -14,7 +14,7 @@ use Rattle.spec_session.specs.Runs.{Answered, AtShelf, Runs}
 use Rattle.spec_room.specs.Changes.{Text}
 use Rattle.spec_room.specs.Kinds.{command_at}
 use Rattle.spec_room.specs.Rooms.{RoomState}
-use Rattle.sp_desk_session.specs.DeskLines.{AnswersLine, NamedDesk, RepliesTo, desk_itself, is_packet, is_save, line_step_by, memories_of, other_step, packet_step, saved_step}
+use Rattle.sp_run.specs.DeskLines.{AnswersLine, NamedDesk, RepliesTo, desk_itself, is_packet, is_save, line_step_by, memories_of, other_step, packet_step, saved_step}
 use Rattle.sp_run.specs.RoomLines.{NamedRoom, desk_in}
 use Rattle.sp_run.specs.Seats.{AreTakenSeen, IsTakenSeen}
 

@@ -7,10 +7,10 @@ use Rattle.spec_state.specs.State.{State}
 use Rattle.spec_state.specs.Keeping.{IsWhole}
 use Rattle.spec_state.specs.SavedStates.{state_of_file}
 use Rattle.sp_kit.specs.Files.{Files, ShelfState}
-use Rattle.sp_opening.specs.Opening.{HasState}
-use Rattle.sp_opening.specs.Records.{OpensAs, OpensLines, records_name}
-use Rattle.sp_opening.specs.Saving.{Changes, PutBoth, SavesState, files_of}
-use Rattle.sp_opening.proofs.SavedTexts.{saved-opens-again}
+use Rattle.sp_run.specs.Opening.{HasState}
+use Rattle.sp_run.specs.Records.{OpensAs, OpensLines, records_name}
+use Rattle.sp_run.specs.Saving.{Changes, PutBoth, SavesState, files_of}
+use Rattle.sp_run.proofs.SavedTexts.{saved-opens-again}
 use Rattle.sp_run.specs.Reopening.{HasSaved}
 
 some-one : {X : Type 0} (one other : X) → Some one ≡ Some other → one ≡ other

@@ -26,22 +26,22 @@ use Rattle.spec_room.specs.Changes.{Text}
 use Rattle.spec_room.specs.Rooms.{RoomState, RoomStep, opened_room}
 use Rattle.spec_room.specs.Sessions.{Session, opens}
 use Rattle.sp_kit.specs.Files.{ShelfState, Files}
-use Rattle.sp_opening.specs.Records.{records_name}
-use Rattle.sp_opening.specs.Saving.{Changes, KeepsAllBut}
-use Rattle.sp_opening.specs.Counted.{OpeningCounts}
-use Rattle.sp_desk_session.specs.DeskLines.{asks_save}
+use Rattle.sp_run.specs.Records.{records_name}
+use Rattle.sp_run.specs.Saving.{Changes, KeepsAllBut}
+use Rattle.sp_run.specs.Counted.{OpeningCounts}
+use Rattle.sp_run.specs.DeskLines.{asks_save}
 use Rattle.sp_run.specs.RoomLines.{NamedRoom, AnswersRoomLine, SeatReplies, StopsAtRoomLine, answered_room_line, answered_room_lines, desk_in, desk_of_room, other_room, room_at, room_line_step_by, saved_room, seat_saves, seatless, step_line}
 use Rattle.sp_run.specs.Seats.{AreTakenSeen}
-use Rattle.sp_opening.specs.Unopened.{Outside}
+use Rattle.sp_run.specs.Unopened.{Outside}
 use Rattle.sp_run.specs.RoomEnding.{RoomAnsweredAll, RoomAnsweredCalmly, HeldRoom}
-use Rattle.sp_desk_session.specs.DeskEnding.{CountsUnsaved, OpensDesk, AnswersDesk}
-use Rattle.sp_opening.proofs.Held.{not-risen}
-use Rattle.sp_desk_session.proofs.DeskAnswers.{session-answers}
-use Rattle.sp_desk_session.proofs.DeskSessions.{same-shelf}
+use Rattle.sp_run.specs.DeskEnding.{CountsUnsaved, OpensDesk, AnswersDesk}
+use Rattle.sp_run.proofs.Held.{not-risen}
+use Rattle.sp_run.proofs.DeskAnswers.{session-answers}
+use Rattle.sp_run.proofs.DeskSessions.{same-shelf}
 use Rattle.sp_run.proofs.Seats.{Goes, goes-on, stays-on}
-use Rattle.sp_desk_session.proofs.Touches.{Touches, Halts, Way, unsaved_line, other-line, session-counted, runs-promised, runs-last, runs-calm, session-others}
+use Rattle.sp_run.proofs.Touches.{Touches, Halts, Way, unsaved_line, other-line, session-counted, runs-promised, runs-last, runs-calm, session-others}
 use Rattle.spec_session.proofs.EndLaws.{ends-settle}
-use Rattle.sp_words.specs.Statuses.{status_of_end}
+use Rattle.sp_run.specs.Statuses.{status_of_end}
 
 -- ---- what an answer of a room does
 

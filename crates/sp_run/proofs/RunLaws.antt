@@ -14,17 +14,17 @@ use Rattle.spec_state.specs.Keeping.{IsWhole}
 use Rattle.spec_state.specs.Printing.{printing_of}
 use Rattle.spec_text.specs.Limits.{raw_limit}
 use Rattle.sp_kit.specs.Files.{Files}
-use Rattle.sp_words.specs.declared.form.View.{View}
-use Rattle.sp_words.specs.declared.status.Status.{Status}
-use Rattle.sp_words.specs.declared.status.Status.TheVariants as statuses
-use Rattle.sp_words.specs.Forms.{OriginOf, from_source, from_file, Asked, show, print, desk, room, sample, collate}
-use Rattle.sp_opening.specs.Records.{records_name}
-use Rattle.sp_opening.specs.Saving.{Changes, KeepsAllBut}
-use Rattle.sp_opening.specs.Unopened.{Outside, ReadFailed, FetchFailed, ReadsUpTo}
-use Rattle.sp_show.specs.Showing.{Shown, PartShown, Answers, AnswersFile}
-use Rattle.sp_show.specs.ShowCounted.{ShowCounts}
-use Rattle.sp_desk_session.specs.DeskEnding.{AnsweredAll, AnsweredCalmly, AnswersDesk, HeldSession}
-use Rattle.sp_desk_session.specs.DeskLines.{desk_at, desk_itself, memories_of}
+use Rattle.sp_run.specs.declared.form.View.{View}
+use Rattle.sp_run.specs.declared.status.Status.{Status}
+use Rattle.sp_run.specs.declared.status.Status.TheVariants as statuses
+use Rattle.sp_run.specs.Forms.{OriginOf, from_source, from_file, Asked, show, print, desk, room, sample, collate}
+use Rattle.sp_run.specs.Records.{records_name}
+use Rattle.sp_run.specs.Saving.{Changes, KeepsAllBut}
+use Rattle.sp_run.specs.Unopened.{Outside, ReadFailed, FetchFailed, ReadsUpTo}
+use Rattle.sp_run.specs.Showing.{Shown, PartShown, Answers, AnswersFile}
+use Rattle.sp_run.specs.ShowCounted.{ShowCounts}
+use Rattle.sp_run.specs.DeskEnding.{AnsweredAll, AnsweredCalmly, AnswersDesk, HeldSession}
+use Rattle.sp_run.specs.DeskLines.{desk_at, desk_itself, memories_of}
 use Rattle.sp_run.specs.RoomLines.{AnswersRoomLine, desk_in, room_at}
 use Rattle.sp_run.specs.RoomEnding.{HeldRoom, RoomAnsweredAll, RoomAnsweredCalmly}
 use Rattle.sp_run.specs.Answering.{AnswersWords, asked_in}
@@ -33,10 +33,10 @@ use Rattle.sp_run.specs.Ending.{AnswersSample, Ends, SampleEnds, ToldSample}
 use Rattle.sp_run.specs.Reopening.{HasSaved}
 use Rattle.sp_run.specs.World.{World}
 use Rattle.spec_machine.proofs.SessionLaws.{reopened-leads}
-use Rattle.sp_opening.proofs.Held.{not-risen}
-use Rattle.sp_show.proofs.Answering.{answers-ends, answers-file}
-use Rattle.sp_desk_session.proofs.DeskAnswers.{commands-answer, desk-settles}
-use Rattle.sp_desk_session.proofs.DeskSessions.{answered-calmly, held-answered}
+use Rattle.sp_run.proofs.Held.{not-risen}
+use Rattle.sp_run.proofs.ShownStatus.{answers-ends, answers-file}
+use Rattle.sp_run.proofs.DeskAnswers.{commands-answer, desk-settles}
+use Rattle.sp_run.proofs.DeskSessions.{answered-calmly, held-answered}
 use Rattle.sp_run.proofs.Reached.{desk-leads, room-leads, runs-few}
 use Rattle.sp_run.proofs.Reopened.{saved-reopened}
 use Rattle.sp_run.proofs.RoomSessions.{room-answered, room-calmly, room-settles}

@@ -9,9 +9,9 @@ use Rattle.sp_desk.specs.Reads.{CommandReads}
 use Rattle.sp_desk.specs.Fills.{CommandFills}
 use Rattle.sp_room.specs.Counts.{OfAsked, RoomReads, RoomFills}
 use Rattle.sp_room.proofs.Counting.{of-any}
-use Rattle.sp_desk_session.specs.Counted.{CommandCounts, CommandCountsAtMost}
-use Rattle.sp_desk_session.specs.DeskLines.{is_save, is_packet}
-use Rattle.sp_desk_session.proofs.CountLaws.{counts-at-most, lacking-counts, none-counts, refused-counts, taken-counts}
+use Rattle.sp_run.specs.CountedLines.{CommandCounts, CommandCountsAtMost}
+use Rattle.sp_run.specs.DeskLines.{is_save, is_packet}
+use Rattle.sp_run.proofs.CountLaws.{counts-at-most, lacking-counts, none-counts, refused-counts, taken-counts}
 use Rattle.sp_run.specs.SeatCounted.{SeatCounts, SeatCountsAtMost}
 
 -- Where neither count rose they are the same.

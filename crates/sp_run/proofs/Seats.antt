@@ -23,16 +23,16 @@ use Rattle.spec_room.specs.Rooms.{RoomState, RoomStep, asked_of, room_after, roo
 use Rattle.spec_room.specs.Sessions.{Session, Takes, goes, versions_after}
 use Rattle.spec_room.proofs.SessionLaws.{session_seen}
 use Rattle.spec_session.specs.Runs.{AtShelf}
-use Rattle.sp_commands.specs.declared.reply.Reply.{Reply}
-use Rattle.sp_commands.specs.Values.{reply_of}
+use Rattle.sp_wire.specs.declared.reply.Reply.{Reply}
+use Rattle.sp_wire.specs.Values.{reply_of}
 use Rattle.sp_desk.specs.declared.fault.DeskFault.{DeskFault}
 use Rattle.sp_room.specs.Answers.{IsRoomAnswer}
-use Rattle.sp_desk_session.specs.DeskLines.{Leaves, Stores, asks_save, is_packet, is_save}
+use Rattle.sp_run.specs.DeskLines.{Leaves, Stores, asks_save, is_packet, is_save}
 use Rattle.sp_run.specs.RoomLines.{NamedRoom, SeatReplies, SeatStops, desk_of_room, other_room, packet_room, room_line_step_by, saved_room, seatless}
 use Rattle.sp_wire.specs.Done.{TellsPlainly, is_done}
-use Rattle.sp_desk_session.proofs.Plain.{plain-digest}
-use Rattle.sp_desk_session.proofs.Replies.{none-left, packet-plain, step-plain}
-use Rattle.sp_desk_session.specs.Promises.{Follows}
+use Rattle.sp_run.proofs.Plain.{plain-digest}
+use Rattle.sp_run.proofs.Replies.{none-left, packet-plain, step-plain}
+use Rattle.sp_run.specs.Promises.{Follows}
 use Rattle.sp_run.specs.Seats.{IsSeen, IsTakenSeen}
 
 -- ---- one step

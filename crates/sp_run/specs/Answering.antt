@@ -4,13 +4,13 @@ use Rattle.std.specs.declared.option.Option.{Option}
 use Rattle.std.specs.declared.alloc.Global.{Global}
 use Rattle.std.specs.declared.string.String.{String}
 use Rattle.spec_text.specs.Limits.{raw_limit}
-use Rattle.sp_words.specs.declared.status.Status.{Status}
-use Rattle.sp_words.specs.declared.status.Status.TheVariants as statuses
-use Rattle.sp_words.specs.Forms.{OriginOf, Asked, show, desk, room, sample, collate, asked_by}
-use Rattle.sp_opening.specs.Opening.{LeavesSource, LeavesShelf}
-use Rattle.sp_opening.specs.Records.{records_name}
-use Rattle.sp_opening.specs.Saving.{Changes, KeepsAllBut}
-use Rattle.sp_opening.specs.Unopened.{ReadsUpTo}
+use Rattle.sp_run.specs.declared.status.Status.{Status}
+use Rattle.sp_run.specs.declared.status.Status.TheVariants as statuses
+use Rattle.sp_run.specs.Forms.{OriginOf, Asked, show, desk, room, sample, collate, asked_by}
+use Rattle.sp_run.specs.Opening.{LeavesSource, LeavesShelf}
+use Rattle.sp_run.specs.Records.{records_name}
+use Rattle.sp_run.specs.Saving.{Changes, KeepsAllBut}
+use Rattle.sp_run.specs.Unopened.{ReadsUpTo}
 use Rattle.sp_run.specs.Ending.{Ends}
 use Rattle.sp_run.specs.World.{World}
 

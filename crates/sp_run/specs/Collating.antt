@@ -2,16 +2,16 @@
 use Rattle.std.specs.Prelude.{◌≡◌, ℕ, ◌<◌, ◌≤◌, nat_lt, if◌then◌else◌, List, length, string_bytes, Some, None, IsSomeAnd}
 use Rattle.std.specs.declared.option.Option.{Option}
 use Rattle.std.specs.Io.KnownBytes.{Keeps}
-use Rattle.spec_collation.specs.BytesCollated.{Collating, collated_bytes, bad_sheets, collating}
+use Rattle.spec_packet.specs.BytesCollated.{Collating, collated_bytes, bad_sheets, collating}
 use Rattle.sp_kit.specs.Causes.{Rose}
 use Rattle.sp_kit.specs.Files.{ShelfState}
 use Rattle.sp_kit.specs.Outside.{SinkState}
 use Rattle.sp_text.specs.declared.fault.TextFault.TheVariants as faults
-use Rattle.sp_words.specs.declared.status.Status.{Status}
-use Rattle.sp_words.specs.declared.status.Status.TheVariants as statuses
-use Rattle.sp_opening.specs.Fetching.{FetchFinds}
-use Rattle.sp_opening.specs.Opening.{Holds, SameShelf}
-use Rattle.sp_words.specs.Written.{WroteAll, WrotePart}
+use Rattle.sp_run.specs.declared.status.Status.{Status}
+use Rattle.sp_run.specs.declared.status.Status.TheVariants as statuses
+use Rattle.sp_run.specs.Fetching.{FetchFinds}
+use Rattle.sp_run.specs.Opening.{Holds, SameShelf}
+use Rattle.sp_run.specs.Written.{WroteAll, WrotePart}
 
 -- The most bytes of a file of sheets.
 abbrev pub sheets_limit : ℕ

@@ -4,17 +4,17 @@ use Rattle.std.specs.declared.result.Result.{Result}
 use Rattle.std.specs.Io.KnownBytes.{Keeps}
 use Rattle.spec_session.specs.Runs.{Counts}
 use Rattle.sp_kit.specs.Outside.{SinkState}
-use Rattle.sp_words.specs.declared.status.Status.{Status}
-use Rattle.sp_words.specs.declared.status.Status.TheVariants as statuses
-use Rattle.sp_words.specs.Forms.{Asked, show, desk, room, sample, collate}
-use Rattle.sp_words.specs.Written.{WroteAll, WrotePart}
+use Rattle.sp_run.specs.declared.status.Status.{Status}
+use Rattle.sp_run.specs.declared.status.Status.TheVariants as statuses
+use Rattle.sp_run.specs.Forms.{Asked, show, desk, room, sample, collate}
+use Rattle.sp_run.specs.Written.{WroteAll, WrotePart}
 use Rattle.spec_sample.specs.Sample.{sample_output}
 use Rattle.sp_run.specs.Collating.{CollateEnds}
-use Rattle.sp_opening.specs.Unopened.{Outside, WroteNothing}
-use Rattle.sp_show.specs.Showing.{ShowEnds}
-use Rattle.sp_show.specs.ShowCounted.{ShowCounts}
-use Rattle.sp_desk_session.specs.DeskEnding.{DeskEnds}
-use Rattle.sp_sample.specs.SampleCounts.{SampleFills, SampleFillsAtMost, SampleReads, SampleReadsAtMost}
+use Rattle.sp_run.specs.Unopened.{Outside, WroteNothing}
+use Rattle.sp_run.specs.Showing.{ShowEnds}
+use Rattle.sp_run.specs.ShowCounted.{ShowCounts}
+use Rattle.sp_run.specs.DeskEnding.{DeskEnds}
+use Rattle.sp_run.specs.SampleCounts.{SampleFills, SampleFillsAtMost, SampleReads, SampleReadsAtMost}
 use Rattle.sp_run.specs.RoomEnding.{RoomEnds}
 
 -- What the making of a sample counts: its opening and each of its commands. Where there is no memory, no more than that.

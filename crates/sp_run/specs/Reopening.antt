@@ -2,8 +2,8 @@
 use Rattle.std.specs.Prelude.{◌≡◌, ℕ, List, Some}
 use Rattle.spec_state.specs.State.{State}
 use Rattle.sp_kit.specs.Files.{Files, ShelfState}
-use Rattle.sp_opening.specs.Records.{records_name}
-use Rattle.sp_opening.specs.Saving.{files_of}
+use Rattle.sp_run.specs.Records.{records_name}
+use Rattle.sp_run.specs.Saving.{files_of}
 
 -- The shelf tells its files, and has under the name and beside it what a save of this state stores.
 pub record HasSaved (shelf : ShelfState) (name : List ℕ) (state : State) : Type 0 where

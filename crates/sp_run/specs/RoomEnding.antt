@@ -7,16 +7,16 @@ use Rattle.spec_session.specs.CommandLines.{command_lines}
 use Rattle.spec_session.specs.Runs.{Answered, AtShelf, Counts, Runs, left_by, output_of}
 use Rattle.spec_session.specs.Sessions.{SessionEnds, streams}
 use Rattle.spec_session.specs.declared.SessionEnd.{SessionEnd}
-use Rattle.sp_words.specs.declared.status.Status.{Status}
+use Rattle.sp_run.specs.declared.status.Status.{Status}
 use Rattle.spec_room.specs.Rooms.{opened_room}
-use Rattle.sp_opening.specs.Counted.{OpeningCounts}
-use Rattle.sp_desk_session.specs.DeskLines.{memories_of, shelf_behind}
+use Rattle.sp_run.specs.Counted.{OpeningCounts}
+use Rattle.sp_run.specs.DeskLines.{memories_of, shelf_behind}
 use Rattle.sp_run.specs.RoomLines.{AnswersRoomLine, NamedRoom, StopsAtRoomLine, answered_room_lines, desk_in, room_at, seat_saves}
 use Rattle.sp_run.specs.Seats.{AreTakenSeen}
-use Rattle.sp_desk_session.specs.Promises.{ArePromised}
-use Rattle.sp_opening.specs.Opening.{HasState}
-use Rattle.sp_opening.specs.Unopened.{Outside}
-use Rattle.sp_desk_session.specs.DeskEnding.{CommandsEnd, CountsUnsaved}
+use Rattle.sp_run.specs.Promises.{ArePromised}
+use Rattle.sp_run.specs.Opening.{HasState}
+use Rattle.sp_run.specs.Unopened.{Outside}
+use Rattle.sp_run.specs.DeskEnding.{CommandsEnd, CountsUnsaved}
 
 -- The same of a room round a desk that was opened so: its desk keeps what is promised, and each edit that the room took took away or
 -- changed just the lines that its seat saw.

@@ -10,9 +10,9 @@ use Rattle.spec_session.specs.Runs.{Answered, AtShelf, Counts, at_shelf}
 use Rattle.spec_room.specs.Rooms.{RoomState, RoomStep, room_step_to, room_step_of}
 use Rattle.sp_kit.specs.Files.{ShelfState}
 use Rattle.sp_run.specs.SeatCounted.{SeatCounts, SeatCountsAtMost}
-use Rattle.sp_desk_session.specs.DeskLines.{NamedDesk, Leaves, Stores, asks_save, is_packet, is_save, packet_reply}
-use Rattle.sp_desk_session.specs.Promises.{Follows}
-use Rattle.sp_opening.specs.Saving.{StoreFailed, files_of}
+use Rattle.sp_run.specs.DeskLines.{NamedDesk, Leaves, Stores, asks_save, is_packet, is_save, packet_reply}
+use Rattle.sp_run.specs.Promises.{Follows}
+use Rattle.sp_run.specs.Saving.{StoreFailed, files_of}
 
 -- A room of the script that has this name.
 pub record NamedRoom : Type 0 where

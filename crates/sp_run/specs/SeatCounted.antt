@@ -7,7 +7,7 @@ use Rattle.spec_room.specs.Kinds.{kind_of}
 use Rattle.spec_room.specs.Rooms.{RoomState, asked_of}
 use Rattle.spec_session.specs.Runs.{Counts}
 use Rattle.sp_room.specs.Counts.{OfAsked}
-use Rattle.sp_desk_session.specs.Counted.{CommandCounts, CommandCountsAtMost}
+use Rattle.sp_run.specs.CountedLines.{CommandCounts, CommandCountsAtMost}
 
 -- What its desk does for the command at its present place, and none where the room refuses the command itself.
 abbrev pub SeatCounts : RoomState → Result RoomLineOf FaultOf → Counts → Counts → Type 0

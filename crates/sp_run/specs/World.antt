@@ -3,7 +3,7 @@ use Rattle.std.specs.Prelude.{ℕ}
 use Rattle.spec_session.specs.Runs.{Counts, counts_of}
 use Rattle.sp_kit.specs.Files.{ShelfState}
 use Rattle.sp_kit.specs.Outside.{SourceState, SinkState}
-use Rattle.sp_opening.specs.Unopened.{Outside, outside}
+use Rattle.sp_run.specs.Unopened.{Outside, outside}
 
 -- What a run is lent, what can be told of it, and what its steps counted.
 pub record World (I O F S : Type 0) : Type 0 where

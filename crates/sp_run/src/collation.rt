@@ -2,10 +2,10 @@
 ghost use Rattle.std.specs.Prelude.{◌≡◌, IfOk, IfErr};
 ghost use Rattle.sp_run.specs.Collating.{FetchedSheets, NoSheets, Comes, NotCollated, CollateEnds, gives};
 
-use sp_collation::collate;
+use crate::Status;
 use sp_kit::{Fetched, Shelf, ShelfFault, Sink, write_whole};
+use sp_packet::collate;
 use sp_text::TextFault;
-use sp_words::Status;
 use std::alloc::Global;
 
 /// The most bytes of a file of sheets.

@@ -2,23 +2,23 @@
 ghost use Rattle.std.specs.Prelude.{◌≡◌, ◌+◌, ◌-◌, ◌^◌, ◌<◌, ◌≤◌, false, IfOk, OnOk, OnErr};
 ghost use Rattle.std.specs.declared.result.Result.TheVariants.{Ok};
 ghost use Rattle.spec_wire.specs.Lines.{room_line_of_line};
-ghost use Rattle.sp_commands.specs.Values.{room_line_of, reply_of};
+ghost use Rattle.sp_wire.specs.Values.{room_line_of, reply_of};
 ghost use Rattle.sp_wire.specs.Done.{is_done};
 ghost use Rattle.sp_room.specs.Answers.{IsRoomAnswer};
 ghost use Rattle.spec_session.specs.Runs.{counts_of};
 ghost use Rattle.sp_room.specs.Counts.{RoomReads, RoomFills};
 ghost use Rattle.sp_run.specs.SeatCounted.{SeatCounts, SeatCountsAtMost};
-ghost use Rattle.sp_desk_session.specs.Promises.{Follows};
+ghost use Rattle.sp_run.specs.Promises.{Follows};
 ghost use Rattle.sp_run.specs.RoomLines.{SeatReplies, SeatStops, room_at};
 
-use sp_commands::{Refusal, Reply, RoomLine};
+use crate::{is_packet, is_save, packet_reply, save_desk};
 use sp_desk::DeskFault;
-use sp_desk_session::{is_packet, is_save, packet_reply, save_desk};
-use sp_fields::WireFault;
 use sp_kit::{Shelf, Steps};
 use sp_room::Room;
 use sp_session::Responder;
-use sp_wire::{read_room_command, reply_room, write_room_reply};
+use sp_wire::{
+    Refusal, Reply, RoomLine, WireFault, read_room_command, reply_room, write_room_reply,
+};
 use std::alloc::{AllocError, Global};
 use std::marker::Model;
 

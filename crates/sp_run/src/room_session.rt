@@ -1,15 +1,14 @@
 //! A session of a room (docs/RULES.md, "The program" and "Sessions").
-ghost use Rattle.sp_opening.specs.Records.{records_name};
-ghost use Rattle.sp_opening.specs.Saving.{Changes, KeepsAllBut};
+ghost use Rattle.sp_run.specs.Records.{records_name};
+ghost use Rattle.sp_run.specs.Saving.{Changes, KeepsAllBut};
 ghost use Rattle.sp_run.specs.RoomEnding.{RoomEnds};
 ghost use Rattle.sp_run.specs.World.{world};
 
 use crate::room_lines::RoomLines;
-use sp_desk_session::open_desk;
+use crate::{Status, open_desk};
 use sp_kit::{Shelf, Sink, Source, Steps};
 use sp_room::Room;
 use sp_session::session;
-use sp_words::Status;
 use std::alloc::Global;
 use std::mem;
 

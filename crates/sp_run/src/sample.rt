@@ -1,12 +1,11 @@
 //! The large sample (docs/RULES.md, "The program" and "The sample").
 ghost use Rattle.std.specs.Prelude.{◌≤◌};
 ghost use Rattle.spec_session.specs.Runs.{counts_of};
-ghost use Rattle.sp_words.specs.Forms.{most_rooms};
+ghost use Rattle.sp_run.specs.Forms.{most_rooms};
 ghost use Rattle.sp_run.specs.Ending.{SampleEndsAs};
 
+use crate::{Status, run_sample};
 use sp_kit::{Sink, Steps, write_whole};
-use sp_sample::run_sample;
-use sp_words::Status;
 use std::alloc::Global;
 
 /// Writes the line that tells of the sample of so many rooms, which is made whole first.

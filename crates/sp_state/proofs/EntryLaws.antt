@@ -5,10 +5,10 @@ use Rattle.spec_locked_pages.specs.Segments.{pages_of}
 use Rattle.sp_reflow.specs.Starts.{Taken, CanExchange, exchanged}
 use Rattle.sp_reflow.specs.Updates.{CanPutBack, TakenStarts, taken_of, with_taken}
 use Rattle.sp_layout.specs.LaidOut.{LayoutOf}
-use Rattle.sp_relay.specs.declared.kept.PartPlaces.{PartPlaces}
-use Rattle.sp_relay.specs.Changes.{CanChange, CanSpeak, ChangeOf, IsSameChange, SpeechOf, with_change, with_speech}
-use Rattle.sp_relay.specs.Kept.{CanSwap, laid_of, with_part}
-use Rattle.sp_made_parts.specs.Firsts.{IsLaidOf, laid_in}
+use Rattle.sp_layout.specs.declared.kept.PartPlaces.{PartPlaces}
+use Rattle.sp_layout.specs.Changes.{CanChange, CanSpeak, ChangeOf, IsSameChange, SpeechOf, with_change, with_speech}
+use Rattle.sp_layout.specs.Kept.{CanSwap, laid_of, with_part}
+use Rattle.sp_sheets.specs.Firsts.{IsLaidOf, laid_in}
 use Rattle.sp_text_entry.specs.TextEntries.{TextEntryState, LeadsTextBack, LeadsTextForth, redone_text, undone_text}
 use Rattle.sp_state.specs.Entries.{EntryState, CanRedo, CanUndo, IsSameEntry, LayoutLeads, LeadsBack, LeadsForth, PagesLead, done_range, redone_state, undone_range, undone_state}
 use Rattle.sp_text_entry.proofs.TextEntryLaws.{same-CanRedoText, same-CanUndoText, same-done_lines, same-redone_text, same-undone_lines, same-undone_text}

@@ -2,17 +2,17 @@
 use Rattle.std.proofs.Common.{◌≡◌, ℕ, ◌+◌, ◌-◌, ◌≤◌, List, ◌++◌, length, map, take, drop, slice_range, Option, Some, None, refl, sym, ap, ap₂, subst, ◌∙◌, arith, length-append, length-take, length-drop, take_at, drop_at}
 use Rattle.std.proofs.lemmas.List.{length-map}
 use Rattle.spec_script.specs.BlockValues.{StanzaOf}
-use Rattle.sp_elements.proofs.RowSwaps.{length-rows}
+use Rattle.sp_layout.proofs.RowSwaps.{length-rows}
 use Rattle.sp_layout.specs.LaidOut.{LayoutOf}
 use Rattle.sp_reread.specs.Cache.{GivesBack, SwappedState}
-use Rattle.sp_relay.specs.declared.kept.PartPlaces.{PartPlaces}
-use Rattle.sp_relay.specs.Changes.{CanChange, ChangeOf, SpeechOf, with_change, with_speech}
-use Rattle.sp_relay.specs.Edited.{KeepsToWindow, blocks_in, elements_at, elements_kept}
-use Rattle.sp_relay.specs.Kept.{laid_of, places_back}
+use Rattle.sp_layout.specs.declared.kept.PartPlaces.{PartPlaces}
+use Rattle.sp_layout.specs.Changes.{CanChange, ChangeOf, SpeechOf, with_change, with_speech}
+use Rattle.sp_layout.specs.Edited.{KeepsToWindow, blocks_in, elements_at, elements_kept}
+use Rattle.sp_layout.specs.Kept.{laid_of, places_back}
 use Rattle.spec_state.specs.State.{State, text_of}
 use Rattle.sp_exchange.specs.Restoring.{CanRestoreText, IsTurned, text_before, text_stanzas}
-use Rattle.sp_elements.specs.Bodies.{KeyedElements}
-use Rattle.sp_elements.specs.Exchanges.{moved_element, with_run}
+use Rattle.sp_layout.specs.Bodies.{KeyedElements}
+use Rattle.sp_layout.specs.Exchanges.{moved_element, with_run}
 use Rattle.sp_reflow.specs.Starts.{Taken}
 use Rattle.sp_text_entry.specs.TextEntries.{TextEntryState}
 use Rattle.sp_state.specs.Entries.{EntryState, HoldsFew, StandsBack}

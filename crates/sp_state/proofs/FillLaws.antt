@@ -5,7 +5,7 @@ use Rattle.spec_text.specs.Ranges.{RangeOf, range_of}
 use Rattle.spec_pages.specs.Pages.{rows_on}
 use Rattle.spec_state.specs.State.{State}
 use Rattle.spec_state.specs.Changes.{edited_state}
-use Rattle.spec_reflow.specs.Windows.{Exchange, page_window}
+use Rattle.spec_edit.specs.PageWindows.{Exchange, page_window}
 use Rattle.spec_locked_pages.specs.LockedPages.{IsWindowOf}
 use Rattle.spec_locked_pages.specs.Segments.{pages_of}
 use Rattle.spec_refill.specs.Exchanges.{edit_exchange, filled_pages}

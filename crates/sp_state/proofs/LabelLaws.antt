@@ -8,9 +8,9 @@ use Rattle.spec_state.specs.Keeping.{IsWhole}
 use Rattle.spec_text.specs.Lines.{IsText}
 use Rattle.spec_state.specs.State.{text_of as state_text}
 use Rattle.sp_layout.specs.LaidOut.{LayoutOf}
-use Rattle.sp_made_parts.specs.Firsts.{laid_in}
-use Rattle.sp_numbers.specs.HeadingIds.{laid_headings, laid_labels}
-use Rattle.sp_made.proofs.LaidHeadings.{labels-laid, labels-stay}
+use Rattle.sp_sheets.specs.Firsts.{laid_in}
+use Rattle.sp_sheets.specs.HeadingIds.{laid_headings, laid_labels}
+use Rattle.sp_sheets.proofs.LaidHeadings.{labels-laid, labels-stay}
 
 -- The labels of a state are those of its layout.
 pub labels-were : (state : State) (layout : LayoutOf) (labels : Option (List LabelOf)) (scenes : Option (List SceneRecordOf)) → IsText (state_text state) → layout ≡ laid_in state → scenes ≡ state.scenes → labels ≡ heading_labels state.lines state.scenes

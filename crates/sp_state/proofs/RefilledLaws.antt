@@ -6,20 +6,20 @@ use Rattle.spec_text.specs.Lines.{TextState, IsText, line_texts}
 use Rattle.spec_text.proofs.TakenEdits.{taken-inside}
 use Rattle.spec_pages.specs.declared.Shape.{Shape}
 use Rattle.spec_pages.specs.Pages.{rows_on}
-use Rattle.spec_layout.specs.Shown.{shape_of}
+use Rattle.spec_sheets.specs.Shown.{shape_of}
 use Rattle.spec_records.specs.Kept.{RecordsOf}
 use Rattle.spec_state.specs.State.{State, text_of as state_text}
 use Rattle.spec_state.specs.Changes.{CanEdit, edited_state}
 use Rattle.spec_state.specs.Keeping.{IsWhole, state_of}
 use Rattle.spec_state.specs.StateSheets.{rows_in}
 use Rattle.spec_machine.proofs.WholeStates.{speakers-whole}
-use Rattle.spec_reflow.specs.Windows.{AreExchanged, AreStops, Exchange, page_window}
-use Rattle.spec_relayout.proofs.WindowExists.{window-exists}
+use Rattle.spec_edit.specs.PageWindows.{AreExchanged, AreStops, Exchange, page_window}
+use Rattle.spec_edit.proofs.WindowExists.{window-exists}
 use Rattle.spec_locked_pages.specs.Segments.{pages_of}
 use Rattle.spec_refill.proofs.EditExchange.{edit-exchanged, speakers-starts}
 use Rattle.sp_reflow.specs.Updates.{AreStale}
-use Rattle.sp_made.specs.Pages.{AreStopsOf}
-use Rattle.sp_made.proofs.StopsMade.{starts-of, stops-in_order}
+use Rattle.sp_sheets.specs.Pages.{AreStopsOf}
+use Rattle.sp_sheets.proofs.StopsMade.{starts-of, stops-in_order}
 use Rattle.sp_text_entry.specs.Relaid.{IsExchangeOf}
 
 pub stale-same : (edit : Exchange) (olds : List ℕ) (limit body : ℕ) (those shapes : List Shape) (items stops : List ℕ) → body ≡ limit → shapes ≡ those → stops ≡ items

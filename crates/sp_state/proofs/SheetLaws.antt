@@ -18,10 +18,10 @@ use Rattle.spec_pages.specs.Pages.{rows_on}
 use Rattle.spec_state.proofs.EditKeeps.{raised-labels}
 use Rattle.spec_state.proofs.StateLaws.{state-AreKeptPages, state-AreStarts, state-ArePages}
 use Rattle.spec_locked_pages.specs.Segments.{pages_of}
-use Rattle.sp_made_parts.specs.Firsts.{first_rows, key_starts}
-use Rattle.sp_numbers.specs.Locked.{AreSheetsBefore}
-use Rattle.sp_numbers.specs.Numbered.{AreUnmarked}
-use Rattle.sp_numbers.proofs.UnmarkedLaws.{body-unmarked}
+use Rattle.sp_sheets.specs.Firsts.{first_rows, key_starts}
+use Rattle.sp_sheets.specs.Locked.{AreSheetsBefore}
+use Rattle.sp_sheets.specs.Numbered.{AreUnmarked}
+use Rattle.sp_sheets.proofs.UnmarkedLaws.{body-unmarked}
 
 -- An edit locks no pages.
 pub edited-unlocked : (state : State) (it : Replacement) → (edited_state state it).pages ≡ None → state.pages ≡ None

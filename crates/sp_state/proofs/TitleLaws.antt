@@ -7,11 +7,11 @@ use Rattle.spec_state.specs.State.{State}
 use Rattle.spec_state.specs.Keeping.{state_of}
 use Rattle.spec_state.specs.StateSheets.{title_starts}
 use Rattle.sp_layout.specs.LaidOut.{LayoutOf}
-use Rattle.sp_relay.specs.Changes.{ChangeOf, with_change}
-use Rattle.sp_relay.specs.Kept.{laid_of}
-use Rattle.sp_made_parts.specs.Firsts.{IsLaidOf}
-use Rattle.sp_made.specs.Titles.{LeavesTitles, laid_titles}
-use Rattle.sp_made.proofs.TitleLaws.{titles-kept, titles-laid, titles-spoken}
+use Rattle.sp_layout.specs.Changes.{ChangeOf, with_change}
+use Rattle.sp_layout.specs.Kept.{laid_of}
+use Rattle.sp_sheets.specs.Firsts.{IsLaidOf}
+use Rattle.sp_sheets.specs.Titles.{LeavesTitles, laid_titles}
+use Rattle.sp_sheets.proofs.TitleLaws.{titles-kept, titles-laid, titles-spoken}
 
 -- Those of a state are those of its layout.
 pub titles-were : (state : State) (layout : LayoutOf) (paper : Paper) (starts : List ℕ) → IsLaidOf state layout → paper ≡ state.paper → starts ≡ title_starts state → starts ≡ laid_titles layout paper

@@ -7,10 +7,10 @@ use Rattle.spec_locked_pages.specs.Segments.{pages_of}
 use Rattle.sp_reflow.specs.Starts.{Taken}
 use Rattle.sp_reflow.specs.Updates.{CanPutBack, with_taken}
 use Rattle.sp_exchange.specs.Restoring.{text_stanzas}
-use Rattle.sp_relay.specs.Changes.{CanChange, ChangeOf, with_change}
-use Rattle.sp_relay.specs.Edited.{KeepsToWindow}
-use Rattle.sp_relay.specs.Kept.{KeptOf, laid_of, places_back}
-use Rattle.sp_made_parts.specs.Firsts.{laid_in}
+use Rattle.sp_layout.specs.Changes.{CanChange, ChangeOf, with_change}
+use Rattle.sp_layout.specs.Edited.{KeepsToWindow}
+use Rattle.sp_layout.specs.Kept.{KeptOf, laid_of, places_back}
+use Rattle.sp_sheets.specs.Firsts.{laid_in}
 use Rattle.sp_text_entry.specs.TextEntries.{TextEntryState, CanRedoText, CanUndoText, IsSameTextEntry, done_lines, redone_text, undone_lines, undone_text}
 
 -- What an edit displaced of the text and of the page records, of the layout, and first rows of pages.

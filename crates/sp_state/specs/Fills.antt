@@ -3,11 +3,11 @@ use Rattle.std.specs.Prelude.{◌≡◌, ℕ, List, length, map}
 use Rattle.spec_text.specs.Edits.{Replacement, replacement_of}
 use Rattle.spec_text.specs.Ranges.{RangeOf, range_of}
 use Rattle.spec_pages.specs.Pages.{rows_on}
-use Rattle.spec_layout.specs.Shown.{shape_of}
+use Rattle.spec_sheets.specs.Shown.{shape_of}
 use Rattle.spec_state.specs.State.{State}
 use Rattle.spec_state.specs.StateSheets.{rows_in}
 use Rattle.spec_state.specs.Changes.{edited_state}
-use Rattle.spec_reflow.specs.Windows.{Exchange, page_window}
+use Rattle.spec_edit.specs.PageWindows.{Exchange, page_window}
 use Rattle.spec_locked_pages.specs.Segments.{pages_of}
 use Rattle.spec_locked_pages.specs.LockedPages.{IsWindowOf}
 use Rattle.spec_refill.specs.Exchanges.{filled_pages}
@@ -16,7 +16,7 @@ use Rattle.sp_text.specs.Changing.{edit_of}
 use Rattle.sp_reflow.specs.Filling.{FilledAtMost}
 use Rattle.sp_reflow.specs.Starts.{many_more}
 use Rattle.sp_reflow.specs.Updates.{AreStale}
-use Rattle.sp_made.specs.Pages.{AreStopsOf}
+use Rattle.sp_sheets.specs.Pages.{AreStopsOf}
 
 -- Each page of the page window was filled once, and no other.
 pub record FillsWindow (old new : State) (range : RangeOf) (fills fills' : ℕ) : Type 0 where

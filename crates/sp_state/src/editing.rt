@@ -7,26 +7,25 @@ ghost use Rattle.sp_text.specs.Changing.{Refuses};
 ghost use Rattle.sp_text.specs.Gap.{text_of};
 ghost use Rattle.sp_exchange.specs.Reads.{IsRefused};
 ghost use Rattle.sp_exchange.specs.Restoring.{text_stanzas, range_in, refusal_in};
-ghost use Rattle.sp_relay.specs.Changes.{CanChange, HasChangeRoom, with_change};
-ghost use Rattle.sp_relay.specs.Kept.{laid_of};
-ghost use Rattle.sp_made_parts.specs.Firsts.{IsLaidOf, first_rows};
-ghost use Rattle.sp_made_parts.specs.Made.{IsMadeOf, IsNumberedOf};
+ghost use Rattle.sp_layout.specs.Changes.{CanChange, HasChangeRoom, with_change};
+ghost use Rattle.sp_layout.specs.Kept.{laid_of};
+ghost use Rattle.sp_sheets.specs.Firsts.{IsLaidOf, first_rows};
+ghost use Rattle.sp_sheets.specs.Made.{IsMadeOf, IsNumberedOf};
 ghost use Rattle.sp_text_entry.specs.TextEntries.{CanRedoText, CanUndoText, HasTextRoom, IsTextRedone, IsTextUndone, redone_text, undone_text, edited_by};
 ghost use Rattle.sp_state.specs.Entries.{CanRedo, CanUndo, HoldsFew, IsSameEntry, LeadsBack, LeadsForth, done_range, redone_state, undone_range, undone_state};
 ghost use Rattle.sp_text_entry.specs.Reads.{ReadsEdit, ReadsEditAtMost};
 ghost use Rattle.sp_state.specs.Fills.{FillsEdit, FillsEditAtMost};
-ghost use Rattle.sp_made_parts.specs.States.{state_in};
-ghost use Rattle.sp_made.specs.Pages.{FillsAll, FillsAtMostAll};
+ghost use Rattle.sp_sheets.specs.States.{state_in};
+ghost use Rattle.sp_sheets.specs.Pages.{FillsAll, FillsAtMostAll};
 
 use crate::entry::{Entry, Unturned};
 use crate::turning::{Turned, UnturnedPages, refilled, turn_made};
 use sp_kit::Steps;
-use sp_made::{keeps_headings, lay, leaves_titles, make, number};
-use sp_made_parts::{Made, Numbered, laid_firsts};
+use sp_layout::{KeptLayout, LayoutChange};
 use sp_records::Records;
 use sp_reflow::Pages;
-use sp_relay::{KeptLayout, LayoutChange};
 use sp_reread::Stanzas;
+use sp_sheets::{Made, Numbered, keeps_headings, laid_firsts, lay, leaves_titles, make, number};
 use sp_text::{Edit, EditFault, Lines};
 use sp_text_entry::{
     EditedText, TextEntry, UnturnedText, change_in_room, edit_entry, redo_entry, undo_entry,

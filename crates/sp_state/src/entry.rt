@@ -1,6 +1,6 @@
 //! The entry of an edit.
+use sp_layout::LayoutChange;
 use sp_reflow::SwappedPages;
-use sp_relay::LayoutChange;
 use sp_text_entry::TextEntry;
 use std::marker::Model;
 

@@ -14,26 +14,27 @@ ghost use Rattle.spec_state.specs.StateSheets.{body_sheets, sheets_of_state};
 ghost use Rattle.sp_reread.specs.Cache.{texts_in, ReadsAtMostAll, ReadsAll};
 ghost use Rattle.sp_exchange.specs.Reads.{IsRefused};
 ghost use Rattle.sp_exchange.specs.Restoring.{text_stanzas};
-ghost use Rattle.sp_made_parts.specs.Made.{IsMadeOf};
-ghost use Rattle.sp_locking.specs.Openings.{IsOpening};
+ghost use Rattle.sp_sheets.specs.Made.{IsMadeOf};
+ghost use Rattle.sp_sheets.specs.Openings.{IsOpening};
 ghost use Rattle.sp_text_entry.specs.Reads.{ReadsEdit, ReadsEditAtMost};
 ghost use Rattle.sp_state.specs.Fills.{FillsEdit, FillsEditAtMost};
 ghost use Rattle.sp_state.specs.Entries.{CanRedo, CanUndo, HoldsFew, IsSameEntry, LeadsBack, LeadsForth, done_range, redone_state, undone_range, undone_state};
-ghost use Rattle.sp_made_parts.specs.States.{state_in};
-ghost use Rattle.sp_made.specs.Pages.{FillsAll, FillsAtMostAll, locked_starts_in};
+ghost use Rattle.sp_sheets.specs.States.{state_in};
+ghost use Rattle.sp_sheets.specs.Pages.{FillsAll, FillsAtMostAll, locked_starts_in};
 ghost use Rattle.sp_text_entry.specs.TextEntries.{edited_by, refusal_at};
 
 use crate::editing::{edit_made, made_on, made_with_speakers, put_made, redo_made, undo_made};
 use crate::entry::{Entry, Unturned};
 use sp_kit::Steps;
-use sp_locking::{lock_pages_made, lock_scenes_made, next_round_made};
 use sp_locks::Sheet;
-use sp_made::{made_sheet, made_starts, made_title, make, sheet_count, title_count};
-use sp_made_parts::{Made, StateView};
 use sp_print::PageView;
 use sp_records::{OpeningFault, Records};
 use sp_reflow::Pages;
 use sp_reread::Stanzas;
+use sp_sheets::{
+    Made, StateView, lock_pages_made, lock_scenes_made, made_sheet, made_starts, made_title, make,
+    next_round_made, sheet_count, title_count,
+};
 use sp_text::{Edit, EditFault, Lines};
 use spec_pages::Paper;
 use std::alloc::{AllocError, Global};
@@ -70,11 +71,11 @@ impl Model for Script {
     ghost use Rattle.sp_text.specs.Gap.{text_of};
     ghost use Rattle.spec_state.specs.State.{State};
     ghost use Rattle.spec_state.specs.Keeping.{IsWhole};
-    ghost use Rattle.sp_made_parts.specs.States.{state_in};
+    ghost use Rattle.sp_sheets.specs.States.{state_in};
     ghost use Rattle.sp_exchange.specs.Restoring.{text_stanzas};
     ghost use Rattle.spec_locked_pages.specs.Segments.{pages_of};
-    ghost use Rattle.sp_made_parts.specs.Firsts.{first_rows};
-    ghost use Rattle.sp_made_parts.specs.Made.{IsMadeOf};
+    ghost use Rattle.sp_sheets.specs.Firsts.{first_rows};
+    ghost use Rattle.sp_sheets.specs.Made.{IsMadeOf};
 
     ghost Value = { State };
 

@@ -7,26 +7,27 @@ ghost use Rattle.spec_locked_pages.specs.Segments.{pages_of};
 ghost use Rattle.sp_text.specs.Gap.{text_of};
 ghost use Rattle.sp_exchange.specs.Restoring.{text_stanzas};
 ghost use Rattle.sp_reflow.specs.Updates.{CanPutBack, taken_back, taken_of, with_taken};
-ghost use Rattle.sp_relay.specs.Changes.{CanChange, with_change};
-ghost use Rattle.sp_relay.specs.Kept.{laid_of};
+ghost use Rattle.sp_layout.specs.Changes.{CanChange, with_change};
+ghost use Rattle.sp_layout.specs.Kept.{laid_of};
 ghost use Rattle.sp_state.specs.Entries.{StandsBack};
-ghost use Rattle.sp_numbers.specs.HeadingIds.{laid_labels};
-ghost use Rattle.sp_made_parts.specs.Firsts.{IsLaidOf, first_rows};
-ghost use Rattle.sp_made_parts.specs.Made.{IsNumberedOf};
-ghost use Rattle.sp_made.specs.Pages.{labels_in, WerePageSheets, WereUnmarkedSheets};
-ghost use Rattle.sp_made.specs.Titles.{laid_titles};
-ghost use Rattle.sp_made_parts.specs.States.{state_in};
+ghost use Rattle.sp_sheets.specs.HeadingIds.{laid_labels};
+ghost use Rattle.sp_sheets.specs.Firsts.{IsLaidOf, first_rows};
+ghost use Rattle.sp_sheets.specs.Made.{IsNumberedOf};
+ghost use Rattle.sp_sheets.specs.Pages.{labels_in, WerePageSheets, WereUnmarkedSheets};
+ghost use Rattle.sp_sheets.specs.Titles.{laid_titles};
+ghost use Rattle.sp_sheets.specs.States.{state_in};
 ghost use Rattle.sp_state.specs.Fills.{exchange_of, AreStartsBefore, RefillsWindow, RefillsAtMost};
 ghost use Rattle.sp_state.specs.Entries.{LeadToSame};
 
 use sp_kit::Steps;
-use sp_made::{keeps_headings, laid_stops, leaves_titles, renumber, rows_on};
-use sp_made_parts::{Numbered, laid_firsts};
-use sp_numbers::firsts_stay;
+use sp_layout::{KeptLayout, LayoutChange, UnchangedLayout};
 use sp_records::Records;
 use sp_reflow::{Pages, SwappedPages, UnswappedPages};
-use sp_relay::{KeptLayout, LayoutChange, UnchangedLayout};
 use sp_reread::Stanzas;
+use sp_sheets::{
+    Numbered, firsts_stay, keeps_headings, laid_firsts, laid_stops, leaves_titles, renumber,
+    rows_on,
+};
 use sp_text::Lines;
 use sp_text_entry::change_in_room;
 use std::alloc::{AllocError, Global};

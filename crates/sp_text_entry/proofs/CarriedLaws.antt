@@ -18,11 +18,11 @@ use Rattle.spec_labels.specs.Scenes.{SceneRecordOf, scene_step_limit}
 use Rattle.spec_labels.specs.PageRecords.{PageRecordOf, carried, carried_records, end_line, is_present, line_at, put_back_records, record_starts}
 use Rattle.spec_labels.proofs.CarryLaws.{Edited}
 use Rattle.spec_labels.proofs.PageRecordLaws.{carried-labels}
-use Rattle.spec_layout.specs.Cells.{RowShows}
-use Rattle.spec_layout.specs.Layout.{placed_in}
-use Rattle.spec_layout.specs.Shown.{Shown, row_key, shown_rows}
-use Rattle.spec_layout.proofs.LayoutLaws.{layout_of-show}
-use Rattle.spec_layout.proofs.RowCounts.{layout_of-few}
+use Rattle.spec_sheets.specs.Cells.{RowShows}
+use Rattle.spec_sheets.specs.Layout.{placed_in}
+use Rattle.spec_sheets.specs.Shown.{Shown, row_key, shown_rows}
+use Rattle.spec_sheets.proofs.LayoutLaws.{layout_of-show}
+use Rattle.spec_sheets.proofs.RowCounts.{layout_of-few}
 use Rattle.spec_records.specs.Kept.{AreKeptScenes, KeepsScenes, RecordsOf}
 use Rattle.spec_state.specs.State.{State, text_of}
 use Rattle.spec_state.specs.Changes.{CanEdit, carried_state, edited_state, pages_raised, rows_by_record, segment_rows, text_after}
@@ -38,14 +38,14 @@ use Rattle.spec_machine.proofs.WholeStates.{edit-whole}
 use Rattle.spec_state.proofs.StateKeys.{state-row_keys}
 use Rattle.spec_state.proofs.StateLaws.{state-AreAnchored, state-AreStarts}
 use Rattle.spec_locked_pages.proofs.SameRows.{starts-raised}
-use Rattle.sp_elements.specs.Bodies.{KeyedElements, row_count}
+use Rattle.sp_layout.specs.Bodies.{KeyedElements, row_count}
 use Rattle.sp_compare.specs.BareRows.{AreLaid, Both}
 use Rattle.sp_compare.specs.Raised.{AreSegments, raises}
 use Rattle.sp_exchange.specs.Restoring.{CanRestoreText}
 use Rattle.sp_text_entry.specs.TextEntries.{TextEntryState, FitRecords, LeadsTextBack, displaced, undone_records, with_text}
-use Rattle.sp_made_parts.specs.Firsts.{first_rows, key_starts}
+use Rattle.sp_sheets.specs.Firsts.{first_rows, key_starts}
 use Rattle.sp_text_entry.specs.Raised.{AreCarried, CanCarry, FitPages, put_back_in, raises_in, records_carried, records_raised, state_before, with_pages}
-use Rattle.sp_made_parts.proofs.FirstsLaws.{count-rows}
+use Rattle.sp_sheets.proofs.FirstsLaws.{count-rows}
 use Rattle.sp_text_entry.proofs.RaisedLaws.{raises-distinct, raises-raised, raises-within}
 
 -- ---- a carried state is whole

@@ -3,7 +3,7 @@ use Rattle.std.proofs.Common.{◌≡◌, ◌≢◌, ℕ, zero, suc, ◌+◌, ◌
 use Rattle.std.specs.Prelude.{All, AllPairs}
 use Rattle.spec_labels.specs.declared.Moved.{Moved}
 use Rattle.spec_labels.specs.PageRecords.{PageRecordOf, moved_at, moved_of, put_back_from, put_back_records, with_anchor}
-use Rattle.spec_layout.specs.Shown.{Shown}
+use Rattle.spec_sheets.specs.Shown.{Shown}
 use Rattle.spec_state.specs.Changes.{raised, raised_records}
 use Rattle.spec_state.specs.SameRows.{same_rows}
 use Rattle.sp_compare.specs.Raised.{raises}

@@ -6,21 +6,21 @@ use Rattle.spec_text.specs.Ranges.{range_of}
 use Rattle.spec_text.proofs.EditLaws.{length-lines_put}
 use Rattle.spec_text.proofs.TakenEdits.{taken-inside}
 use Rattle.spec_script.specs.BlockValues.{StanzaOf}
-use Rattle.spec_layout.specs.Layout.{layout_of}
-use Rattle.spec_layout.specs.Speakers.{text_elements}
+use Rattle.spec_sheets.specs.Layout.{layout_of}
+use Rattle.spec_sheets.specs.Speakers.{text_elements}
 use Rattle.spec_records.specs.Kept.{RecordsOf}
-use Rattle.spec_reread.specs.Windows.{IsWindow, stanzas_between}
-use Rattle.spec_relayout.proofs.WindowExists.{window-exists}
+use Rattle.spec_edit.specs.Windows.{IsWindow, stanzas_between}
+use Rattle.spec_edit.proofs.WindowExists.{window-exists}
 use Rattle.spec_state.specs.Changes.{edited_state}
 use Rattle.spec_state.specs.Keeping.{IsWhole, state_of}
 use Rattle.spec_state.specs.StateSheets.{layout_in}
 use Rattle.sp_reread.specs.Cache.{GivesBack, SwappedState}
 use Rattle.sp_exchange.specs.Restoring.{AreDisplaced, text_stanzas}
 use Rattle.sp_layout.specs.LaidOut.{LayoutOf, keyed}
-use Rattle.sp_relay.specs.Edited.{WasLaidOf}
-use Rattle.sp_relay.proofs.WindowLaws.{was-laid-put}
+use Rattle.sp_layout.specs.Edited.{WasLaidOf}
+use Rattle.sp_layout.proofs.WindowLaws.{was-laid-put}
 use Rattle.sp_refill.specs.Edits.{IsOfEdit}
-use Rattle.sp_made_parts.specs.Firsts.{IsLaidOf}
+use Rattle.sp_sheets.specs.Firsts.{IsLaidOf}
 use Rattle.sp_text_entry.specs.Raised.{state_before}
 
 -- The layout of the text before an edit, by what the edit displaced of the stanzas.

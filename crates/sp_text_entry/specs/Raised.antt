@@ -5,7 +5,7 @@ use Rattle.spec_text.specs.Lines.{LineState, TextState}
 use Rattle.spec_text.specs.Edits.{Displacement, restored}
 use Rattle.spec_labels.specs.declared.Moved.{Moved}
 use Rattle.spec_labels.specs.PageRecords.{PageRecordOf, carried_records, end_line, is_present, put_back_records}
-use Rattle.spec_layout.specs.Shown.{Shown}
+use Rattle.spec_sheets.specs.Shown.{Shown}
 use Rattle.spec_records.specs.Kept.{RecordsOf}
 use Rattle.spec_state.specs.State.{State}
 use Rattle.spec_state.specs.Keeping.{state_of}
@@ -14,7 +14,7 @@ use Rattle.sp_text.specs.DisplacedLines.{DisplacedState, displaced_of}
 use Rattle.sp_text.specs.Gap.{LinesState, text_of}
 use Rattle.sp_exchange.specs.Restoring.{text_before}
 use Rattle.sp_compare.specs.Raised.{raises}
-use Rattle.sp_made_parts.specs.States.{state_in}
+use Rattle.sp_sheets.specs.States.{state_in}
 use Rattle.sp_text_entry.specs.TextEntries.{FitRecords}
 
 -- Records with other page records, and with what was kept for these put back.

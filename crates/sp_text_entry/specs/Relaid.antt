@@ -6,25 +6,25 @@ use Rattle.spec_text.specs.Ranges.{range_of}
 use Rattle.spec_script.specs.BlockValues.{StanzaOf}
 use Rattle.spec_labels.specs.declared.Moved.{Moved}
 use Rattle.spec_labels.specs.Labels.{LabelOf}
-use Rattle.spec_layout.specs.Shown.{shown_rows}
+use Rattle.spec_sheets.specs.Shown.{shown_rows}
 use Rattle.spec_records.specs.Kept.{RecordsOf}
 use Rattle.spec_state.specs.State.{State}
 use Rattle.spec_state.specs.Changes.{edited_state, segment_rows}
 use Rattle.spec_locked_pages.specs.LockedPages.{IsWindowOf}
-use Rattle.spec_reflow.specs.Windows.{Exchange}
+use Rattle.spec_edit.specs.PageWindows.{Exchange}
 use Rattle.spec_refill.specs.Exchanges.{edit_exchange}
 use Rattle.sp_reread.specs.Cache.{SwappedState}
 use Rattle.sp_text.specs.DisplacedLines.{DisplacedState}
 use Rattle.sp_text.specs.Gap.{LinesState}
-use Rattle.sp_elements.specs.Bodies.{KeyedElements, row_count}
+use Rattle.sp_layout.specs.Bodies.{KeyedElements, row_count}
 use Rattle.sp_layout.specs.LaidOut.{LayoutOf}
 use Rattle.sp_refill.specs.Edits.{IsOfEdit}
 use Rattle.sp_compare.specs.BareRows.{Both, both_of}
 use Rattle.sp_compare.specs.OldElements.{OtherRowsOf}
 use Rattle.sp_compare.specs.Raised.{AreSegments}
-use Rattle.sp_relay.specs.Changes.{ChangeOf, SpeechOf, with_change}
-use Rattle.sp_relay.specs.Kept.{KeptOf, laid_of}
-use Rattle.sp_relay.specs.Outside.{StaysOutside}
+use Rattle.sp_layout.specs.Changes.{ChangeOf, SpeechOf, with_change}
+use Rattle.sp_layout.specs.Kept.{KeptOf, laid_of}
+use Rattle.sp_layout.specs.Outside.{StaysOutside}
 use Rattle.sp_text_entry.specs.Raised.{old_text, raises_in}
 
 -- Some edit of the state left these lines and stanzas, and displaced these stanzas.

@@ -3,18 +3,18 @@ ghost use Rattle.std.specs.Prelude.{◌≡◌, ◌+◌, ◌≤◌, length, IfOk,
 ghost use Rattle.spec_state.specs.Keeping.{IsWhole};
 ghost use Rattle.sp_text.specs.Gap.{text_of};
 ghost use Rattle.sp_exchange.specs.Restoring.{text_stanzas};
-ghost use Rattle.sp_relay.specs.Edited.{KeepsToWindow, WasLaidOf};
-ghost use Rattle.sp_relay.specs.Changes.{CanChange, HasChangeRoom, with_change};
-ghost use Rattle.sp_relay.specs.Kept.{laid_of};
-ghost use Rattle.sp_made_parts.specs.Firsts.{IsLaidOf, first_rows};
+ghost use Rattle.sp_layout.specs.Edited.{KeepsToWindow, WasLaidOf};
+ghost use Rattle.sp_layout.specs.Changes.{CanChange, HasChangeRoom, with_change};
+ghost use Rattle.sp_layout.specs.Kept.{laid_of};
+ghost use Rattle.sp_sheets.specs.Firsts.{IsLaidOf, first_rows};
 ghost use Rattle.sp_text_entry.specs.Raised.{AreCarried, FitPages, put_back_in, old_text, old_state, carried_state, raised_by, LeadRecordsBack};
 ghost use Rattle.sp_text_entry.specs.Relaid.{IsSomeEditOf, ExchangesRowsOf};
-ghost use Rattle.sp_made_parts.specs.States.{state_in};
+ghost use Rattle.sp_sheets.specs.States.{state_in};
 
 use crate::carrying::{Carried, carry_and_raise};
+use sp_layout::{KeptLayout, LayoutChange, relay_edit};
 use sp_records::Records;
 use sp_refill::{ExchangedRows, exchanged_rows, rows_ahead};
-use sp_relay::{KeptLayout, LayoutChange, relay_edit};
 use sp_reread::{Stanzas, Swapped};
 use sp_text::{Displaced, Lines, OldLines};
 use spec_labels::Moved;

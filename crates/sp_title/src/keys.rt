@@ -3,7 +3,7 @@ ghost use Rattle.std.specs.Prelude.{◌≡◌, ◌≤◌, length};
 ghost use Rattle.std.specs.List.{list_any};
 ghost use Rattle.spec_script.specs.Title.{begins_with_key, centred_keys, other_keys, colon, has_key, is_centred_key, is_indented, same_word, value_from};
 
-use sp_forms::letters::begins_with_word;
+use sp_clean::letters::begins_with_word;
 
 /// Whether the text begins with a key whose values are centred, and a colon.
 pub fn begins_with_centred_key(text: &[u8]) -> bool

@@ -15,8 +15,8 @@ ghost use Rattle.spec_script.specs.Title.{place_or_end, title_line_of, title_ope
 
 pub use crate::keys::{has_key, value_from};
 use crate::keys::{begins_with_centred_key, begins_with_other_key, is_centred_key};
-use sp_forms::parts::{LINE_LIMIT, joined_text, place_of};
-use sp_forms::spaces::{all_spaces, spaces_before};
+use sp_clean::parts::{LINE_LIMIT, joined_text, place_of};
+use sp_clean::spaces::{all_spaces, spaces_before};
 pub use spec_script::TitleLine;
 pub use spec_text::Span;
 

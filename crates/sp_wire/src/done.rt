@@ -4,11 +4,11 @@ ghost use Rattle.std.specs.Bool.{OnTrue};
 ghost use Rattle.json.specs.Print.{quoted};
 ghost use Rattle.spec_wire.specs.Replies.{refused};
 ghost use Rattle.spec_wire.specs.Spelling.{IsWord};
-ghost use Rattle.sp_commands.specs.Values.{refusal_of, reply_of};
+ghost use Rattle.sp_wire.specs.Values.{refusal_of, reply_of};
 ghost use Rattle.sp_wire.specs.Done.{IsFront, IsPlain, TellsPlainly, is_done, line_room};
 
+use crate::{Refusal, Reply};
 use itoa::Buffer;
-use sp_commands::{Refusal, Reply};
 
 /// The bytes that the line of such a reply has room in.
 pub(crate) const LINE_ROOM: usize = 256;

@@ -10,8 +10,8 @@ use Rattle.spec_pages.specs.declared.Shape.{Shape}
 use Rattle.spec_labels.specs.Labels.{LabelOf, plain_label}
 use Rattle.spec_labels.specs.Scenes.{scene_labels}
 use Rattle.spec_labels.specs.PageRecords.{SheetOf}
-use Rattle.spec_layout.specs.Shown.{shape_of}
-use Rattle.spec_layout.specs.Speakers.{cue_text, name_in}
+use Rattle.spec_sheets.specs.Shown.{shape_of}
+use Rattle.spec_sheets.specs.Speakers.{cue_text, name_in}
 use Rattle.spec_state.specs.State.{State}
 use Rattle.spec_state.specs.Headings.{headings_of}
 use Rattle.spec_state.specs.StateSheets.{rows_in, body_sheets}

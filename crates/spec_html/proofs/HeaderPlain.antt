@@ -5,10 +5,10 @@ use Rattle.std.specs.Ordering.{is_eq}
 use Rattle.std.proofs.lemmas.Bool.{eqb-true}
 use Rattle.std.proofs.lemmas.List.{nil_from_length}
 use Rattle.spec_labels.specs.Labels.{label_cmp, label_text}
-use Rattle.spec_layout.specs.Cells.{ShownCell, fixed_cell}
-use Rattle.spec_print.specs.RowBytes.{cell_bytes, cells_bytes, columns_behind, gap, is_blank, spaces, untabbed, row_bytes}
-use Rattle.spec_print.specs.Rounds.{round_name}
-use Rattle.spec_print.specs.Sheets.{SheetLabelOf, Sheet, sheet_label_text, label_cells, round_cells, header_row}
+use Rattle.spec_sheets.specs.Cells.{ShownCell, fixed_cell}
+use Rattle.spec_sheets.specs.RowBytes.{cell_bytes, cells_bytes, columns_behind, gap, is_blank, spaces, untabbed, row_bytes}
+use Rattle.spec_sheets.specs.Rounds.{round_name}
+use Rattle.spec_sheets.specs.Sheets.{SheetLabelOf, Sheet, sheet_label_text, label_cells, round_cells, header_row}
 use Rattle.spec_html.specs.HtmlSheets.{escaped, cell_html, cells_html, row_html}
 use Rattle.spec_html.proofs.PlainLabels.{IsPlain, untabbed-plain, escaped-plain, spaces-plain}
 use Rattle.spec_html.proofs.PlainLabels as labels

@@ -1,7 +1,7 @@
 -- The HTML of all sheets shows the sheets, one behind the other.
 use Rattle.std.proofs.Common.{◌≡◌, List, [], ◌∷◌, ◌++◌, append-nil, refl, subst}
 use Rattle.std.specs.List.{flat_map}
-use Rattle.spec_print.specs.Sheets.{Sheet}
+use Rattle.spec_sheets.specs.Sheets.{Sheet}
 use Rattle.spec_html.specs.Marks.{no_marks}
 use Rattle.spec_html.specs.HtmlSheets.{before_sheets, behind_sheets, pages_html, sheet_html}
 use Rattle.spec_html.specs.HtmlReading.{StyledByte, styled_text}

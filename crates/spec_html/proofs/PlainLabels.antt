@@ -8,9 +8,9 @@ use Rattle.std.proofs.lemmas.List.Folds.{list_all-append}
 use Rattle.std.proofs.lemmas.List.Sums.{list_all-from_AllPass}
 use Rattle.spec_labels.specs.Labels.{LabelOf, label_text}
 use Rattle.spec_labels.proofs.LabelBytes.{IsLabelByte, label-bytes}
-use Rattle.spec_print.specs.RowBytes.{spaces, untabbed}
-use Rattle.spec_print.specs.Rounds.{round_name}
-use Rattle.spec_print.proofs.RoundBytes.{IsRoundByte, round-name}
+use Rattle.spec_sheets.specs.RowBytes.{spaces, untabbed}
+use Rattle.spec_sheets.specs.Rounds.{round_name}
+use Rattle.spec_sheets.proofs.RoundBytes.{IsRoundByte, round-name}
 use Rattle.spec_html.specs.HtmlSheets.{escaped}
 
 -- The byte is none of the three that are escaped.

@@ -1,7 +1,7 @@
 -- Sheets as HTML: a row with a style and an escape, a title sheet, and how they are read back.
 use Rattle.std.proofs.Common.{◌≡◌, refl}
 use Rattle.std.specs.Prelude.{codes}
-use Rattle.spec_layout.specs.Cells.{slice}
+use Rattle.spec_sheets.specs.Cells.{slice}
 use Rattle.spec_html.specs.HtmlSheets.{part_html}
 use Rattle.spec_html.specs.HtmlReading.{plain_text}
 

@@ -4,9 +4,9 @@ use Rattle.std.specs.Prelude.{codes}
 use Rattle.std.specs.List.{flat_map}
 use Rattle.std.proofs.lemmas.Bool.{eqb-true}
 use Rattle.std.proofs.lemmas.List.{nil_from_length, map-append}
-use Rattle.spec_layout.specs.Cells.{ShownPart, ShownCell, part_text}
-use Rattle.spec_print.specs.RowBytes.{ShownRow, part_bytes, cell_bytes, cells_bytes, columns_behind, gap, is_blank, row_bytes, row_line, spaces, star_cells, untabbed}
-use Rattle.spec_print.specs.Sheets.{Sheet, header_row, sheet_bytes}
+use Rattle.spec_sheets.specs.Cells.{ShownPart, ShownCell, part_text}
+use Rattle.spec_sheets.specs.RowBytes.{ShownRow, part_bytes, cell_bytes, cells_bytes, columns_behind, gap, is_blank, row_bytes, row_line, spaces, star_cells, untabbed}
+use Rattle.spec_sheets.specs.Sheets.{Sheet, header_row, sheet_bytes}
 use Rattle.spec_html.specs.Marks.{Marks, marks_of, no_marks, bold_alone}
 use Rattle.spec_html.specs.HtmlSheets.{marked, part_html, cell_html, cells_html, row_html, row_html_line, sheet_html}
 use Rattle.spec_html.specs.HtmlReading.{StyledByte, byte_of, read_back, untagged, styled_text, plain_text}

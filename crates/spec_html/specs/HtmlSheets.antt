@@ -1,9 +1,9 @@
 -- Sheets as HTML (docs/RULES.md, "HTML pages").
 use Rattle.std.specs.Prelude.{ℕ, ◌==◌, if◌then◌else◌, List, [], ◌∷◌, ◌++◌, length, codes}
 use Rattle.std.specs.List.{flat_map}
-use Rattle.spec_layout.specs.Cells.{ShownPart, ShownCell, part_text}
-use Rattle.spec_print.specs.RowBytes.{ShownRow, part_bytes, is_blank, spaces, gap, columns_behind, star_cells}
-use Rattle.spec_print.specs.Sheets.{Sheet, header_row}
+use Rattle.spec_sheets.specs.Cells.{ShownPart, ShownCell, part_text}
+use Rattle.spec_sheets.specs.RowBytes.{ShownRow, part_bytes, is_blank, spaces, gap, columns_behind, star_cells}
+use Rattle.spec_sheets.specs.Sheets.{Sheet, header_row}
 use Rattle.spec_html.specs.Marks.{Marks, marks_of, opening, closing}
 
 -- `&`, `<` and `>` are written as escapes.

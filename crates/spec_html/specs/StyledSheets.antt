@@ -1,9 +1,9 @@
 -- Sheets as text with styles (docs/RULES.md, "HTML pages").
 use Rattle.std.specs.Prelude.{ℕ, if◌then◌else◌, List, [], ◌∷◌, ◌++◌, map}
 use Rattle.std.specs.List.{flat_map}
-use Rattle.spec_layout.specs.Cells.{ShownPart, ShownCell}
-use Rattle.spec_print.specs.RowBytes.{ShownRow, part_bytes, is_blank, spaces, gap, columns_behind, star_cells, row_bytes}
-use Rattle.spec_print.specs.Sheets.{Sheet, header_row}
+use Rattle.spec_sheets.specs.Cells.{ShownPart, ShownCell}
+use Rattle.spec_sheets.specs.RowBytes.{ShownRow, part_bytes, is_blank, spaces, gap, columns_behind, star_cells, row_bytes}
+use Rattle.spec_sheets.specs.Sheets.{Sheet, header_row}
 use Rattle.spec_html.specs.Marks.{Marks, marks_of, no_marks, bold_alone}
 use Rattle.spec_html.specs.HtmlReading.{StyledByte}
 

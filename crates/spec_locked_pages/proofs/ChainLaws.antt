@@ -15,7 +15,7 @@ use Rattle.spec_machine.specs.KeptMemories.{IsEntry, IsWholeMemory}
 use Rattle.spec_machine.proofs.MachineLaws.{taken-edit}
 use Rattle.spec_machine.proofs.RefusalLaws.{accepted-can}
 use Rattle.spec_machine.proofs.WholeStates.{edit-whole}
-use Rattle.spec_relayout.proofs.WindowExists.{window-exists}
+use Rattle.spec_edit.proofs.WindowExists.{window-exists}
 use Rattle.spec_locked_pages.specs.Segments.{IsLockedPage}
 use Rattle.spec_locked_pages.specs.LockedPages.{LeavesAlone, StaysLocked, KeepsLockedPage}
 use Rattle.spec_locked_pages.specs.Chains.{IsEditOf, LeadTo, LeadFrom, AreLinked, eldest, first_state, AllLeaveAlone, KeepsAlong}

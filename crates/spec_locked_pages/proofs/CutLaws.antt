@@ -8,10 +8,10 @@ use Rattle.std.proofs.lemmas.List.Elements.{All-head, All-tail}
 use Rattle.spec_text.proofs.ListLaws.{slice_get-front, slice_get-back}
 use Rattle.spec_pages.specs.declared.Shape.{Shape}
 use Rattle.spec_pages.specs.Pages.{lead_of, carried, may_part_at, page_starts, text_heights}
-use Rattle.spec_relayout.specs.Items.{Sight, page_break, row, breaks_among, shapes_among}
+use Rattle.spec_edit.specs.Items.{Sight, page_break, row, breaks_among, shapes_among}
 use Rattle.spec_pages.specs.Heights.{starts_of}
 use Rattle.spec_pages.specs.OwnPages.{own_heights, left_open, AreJoined, is_among, lies_in, StopsAt}
-use Rattle.spec_relayout.proofs.AmongLaws.{shapes_among-append, breaks_among-append}
+use Rattle.spec_edit.proofs.AmongLaws.{shapes_among-append, breaks_among-append}
 use Rattle.spec_pages.proofs.OwnPageLaws.{Agree}
 use Rattle.spec_pages.proofs.OwnStartLaws.{Segment, starts_of-segment}
 

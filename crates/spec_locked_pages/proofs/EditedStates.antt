@@ -17,9 +17,9 @@ use Rattle.spec_labels.specs.Anchors.{spot_of, end_spot, spots_of}
 use Rattle.spec_labels.proofs.SpotLaws.{anchor-follows, first-follows, end-follows}
 use Rattle.spec_labels.proofs.CarryLaws.{Edited}
 use Rattle.spec_labels.proofs.AnchorLaws.{first_spot, carried-spots}
-use Rattle.spec_layout.specs.Shown.{Shown}
-use Rattle.spec_layout.proofs.ElementPlaces.{placed_from, placed_to}
-use Rattle.spec_layout.proofs.RowLaws.{IsText-texts}
+use Rattle.spec_sheets.specs.Shown.{Shown}
+use Rattle.spec_sheets.proofs.ElementPlaces.{placed_from, placed_to}
+use Rattle.spec_sheets.proofs.RowLaws.{IsText-texts}
 use Rattle.spec_state.specs.State.{State, text_of}
 use Rattle.spec_state.specs.Keeping.{IsWhole}
 use Rattle.spec_state.specs.StateLabels.{page_label_of, labels_of_pages}
@@ -28,16 +28,16 @@ use Rattle.spec_state.specs.SameRows.{same_rows}
 use Rattle.spec_state.specs.Changes.{carried_state, rows_by_record, raised, raised_records, pages_raised, edited_state, CanEdit}
 use Rattle.spec_state.proofs.EditKeeps.{edited-labels}
 use Rattle.spec_machine.proofs.WholeStates.{edit-whole}
-use Rattle.spec_reread.specs.Windows as windows
-use Rattle.spec_reread.specs.Touched.{window_blocks}
-use Rattle.spec_reread.proofs.Edits.{edited-lines}
-use Rattle.spec_reread.proofs.Resync.{window-cuts, old-cuts}
-use Rattle.spec_reread.proofs.WindowBlocks.{window-blocks}
-use Rattle.spec_relayout.proofs.ItemMoves.{LinesMoved}
-use Rattle.spec_relayout.proofs.ElementMoves.{after-front, after-behind}
-use Rattle.spec_relayout.proofs.SoundElements.{blocks-rise}
-use Rattle.spec_relayout.proofs.WindowSides.{window-sides, front-ends, between-in}
-use Rattle.spec_relayout.proofs.WindowPartners.{Around}
+use Rattle.spec_edit.specs.Windows as windows
+use Rattle.spec_edit.specs.WindowBlocks.{window_blocks}
+use Rattle.spec_edit.proofs.Edits.{edited-lines}
+use Rattle.spec_edit.proofs.Resync.{window-cuts, old-cuts}
+use Rattle.spec_edit.proofs.WindowBlocks.{window-blocks}
+use Rattle.spec_edit.proofs.ItemMoves.{LinesMoved}
+use Rattle.spec_edit.proofs.ElementMoves.{after-front, after-behind}
+use Rattle.spec_edit.proofs.SoundElements.{blocks-rise}
+use Rattle.spec_edit.proofs.WindowSides.{window-sides, front-ends, between-in}
+use Rattle.spec_edit.proofs.WindowPartners.{Around}
 use Rattle.spec_locked_pages.specs.Segments.{records_in, no_record, no_segment, record_at, rows_at}
 use Rattle.spec_locked_pages.specs.LockedPages.{IsWindowOf, edit_blocks}
 use Rattle.spec_locked_pages.proofs.StateScripts.{texts_of, spoken-blocks}

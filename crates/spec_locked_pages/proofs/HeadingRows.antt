@@ -19,9 +19,9 @@ use Rattle.spec_pages.specs.Rows.{Row, LineContext, line_context, line_rows_from
 use Rattle.spec_pages.specs.Rows as rows
 use Rattle.spec_pages.specs.Wrapping.{WrappedRow, wrapped}
 use Rattle.spec_pages.proofs.WrapLaws.{wrapped-some}
-use Rattle.spec_layout.specs.Speakers.{Spoken}
-use Rattle.spec_layout.specs.Layout.{laid_out}
-use Rattle.spec_layout.specs.Shown.{opens_heading, no_row}
+use Rattle.spec_sheets.specs.Speakers.{Spoken}
+use Rattle.spec_sheets.specs.Layout.{laid_out}
+use Rattle.spec_sheets.specs.Shown.{opens_heading, no_row}
 use Rattle.spec_state.specs.Headings.{is_heading_kind, is_heading_block}
 use Rattle.spec_locked_pages.proofs.HeadingBlocks.{OneLined, IsTextLine}
 

@@ -10,21 +10,21 @@ use Rattle.spec_script.specs.Elements.{line_of_block, elements_in}
 use Rattle.spec_pages.specs.Pages.{rows_on}
 use Rattle.spec_pages.specs.Rows.{line_state}
 use Rattle.spec_labels.specs.PageRecords.{SegmentOf}
-use Rattle.spec_layout.specs.Speakers.{Spoken}
-use Rattle.spec_layout.proofs.RowLaws.{IsText-texts}
+use Rattle.spec_sheets.specs.Speakers.{Spoken}
+use Rattle.spec_sheets.proofs.RowLaws.{IsText-texts}
 use Rattle.spec_state.specs.State.{State, text_of}
 use Rattle.spec_state.specs.Keeping.{IsWhole}
 use Rattle.spec_state.specs.Changes.{CanEdit}
-use Rattle.spec_reread.specs.Touched.{old_blocks, new_blocks, window_blocks}
-use Rattle.spec_relayout.specs.Items.{Sight, rows_among, start_of}
-use Rattle.spec_relayout.specs.Touched.{EditBlocks, is_touched_old, is_touched_new, touches_element}
-use Rattle.spec_relayout.specs.Standing.{NoneStands}
-use Rattle.spec_relayout.proofs.Steps.{touches, NoneTouchedStands}
-use Rattle.spec_relayout.proofs.ElementMoves.{block_after, BlockLeft, line-after}
-use Rattle.spec_relayout.proofs.FairElements.{text_with, IsKnown, all-known}
-use Rattle.spec_relayout.proofs.KeptElements.{Parted, parted}
-use Rattle.spec_relayout.proofs.LockedSights.{parted-rows, parted-sights}
-use Rattle.spec_relayout.proofs.StandingLaws.{none-from}
+use Rattle.spec_edit.specs.WindowBlocks.{old_blocks, new_blocks, window_blocks}
+use Rattle.spec_edit.specs.Items.{Sight, rows_among, start_of}
+use Rattle.spec_edit.specs.Touched.{EditBlocks, is_touched_old, is_touched_new, touches_element}
+use Rattle.spec_edit.specs.Standing.{NoneStands}
+use Rattle.spec_edit.proofs.Steps.{touches, NoneTouchedStands}
+use Rattle.spec_edit.proofs.ElementMoves.{block_after, BlockLeft, line-after}
+use Rattle.spec_edit.proofs.FairElements.{text_with, IsKnown, all-known}
+use Rattle.spec_edit.proofs.KeptElements.{Parted, parted}
+use Rattle.spec_edit.proofs.LockedSights.{parted-rows, parted-sights}
+use Rattle.spec_edit.proofs.StandingLaws.{none-from}
 use Rattle.spec_locked_pages.specs.Segments.{records_in, record_at, segment_at, rows_at, HasScene, IsLockedPage}
 use Rattle.spec_locked_pages.specs.LockedPages.{elements_in as state_elements, IsWindowOf, edit_blocks, NoneStandsAt, LeavesAlone, StaysLocked}
 use Rattle.spec_locked_pages.proofs.StateScripts.{record_label, script_of, texts_of, blocks_in, items_of, spoken-blocks, elements-scripted}

@@ -16,10 +16,10 @@ use Rattle.spec_labels.specs.Labels.{LabelOf}
 use Rattle.spec_labels.specs.Scenes.{HeadingOf, SceneRecordOf, extended_records, line_place}
 use Rattle.spec_labels.specs.PageRecords.{PageRecordOf, SegmentOf, SheetOf, segments, record_starts, page_sheets, page_sheet, extended_page_records}
 use Rattle.spec_labels.proofs.SceneStays.{no_heading}
-use Rattle.spec_layout.specs.Cells.{ShownCell}
-use Rattle.spec_layout.specs.Layout.{laid_out}
-use Rattle.spec_layout.specs.Shown.{Shown, element_cue, shown_of, key_of}
-use Rattle.spec_layout.proofs.RowLaws.{IsText-texts}
+use Rattle.spec_sheets.specs.Cells.{ShownCell}
+use Rattle.spec_sheets.specs.Layout.{laid_out}
+use Rattle.spec_sheets.specs.Shown.{Shown, element_cue, shown_of, key_of}
+use Rattle.spec_sheets.proofs.RowLaws.{IsText-texts}
 use Rattle.spec_state.specs.State.{State, text_of}
 use Rattle.spec_state.specs.Keeping.{IsWhole}
 use Rattle.spec_state.specs.Headings.{is_heading_block, heading_of, headings_of}
@@ -37,12 +37,12 @@ use Rattle.spec_machine.proofs.DeskLaws.{opening-found}
 use Rattle.spec_machine.proofs.MachineLaws.{steps-whole, opened-whole}
 use Rattle.spec_machine.proofs.RefusalLaws.{accepted-can, free-pages, free-round}
 use Rattle.spec_machine.proofs.WholeStates.{lock_pages-whole, round-whole}
-use Rattle.spec_rounds.proofs.SinglePages.{IsSingle}
-use Rattle.spec_rounds.proofs.OpeningLaw.{round-rows, lock-rows, rows-stay}
-use Rattle.spec_relayout.specs.Items.{rows_among, all_sights}
-use Rattle.spec_relayout.specs.TextItems.{Script, spoken_by, spoken_group, element_label, text_rows}
-use Rattle.spec_relayout.proofs.ItemRows.{shown_texts}
-use Rattle.spec_relayout.proofs.SoundElements.{SoundSteps, elements-sound}
+use Rattle.spec_state.proofs.SinglePages.{IsSingle}
+use Rattle.spec_state.proofs.OpeningLaw.{round-rows, lock-rows, rows-stay}
+use Rattle.spec_edit.specs.Items.{rows_among, all_sights}
+use Rattle.spec_edit.specs.TextItems.{Script, spoken_by, spoken_group, element_label, text_rows}
+use Rattle.spec_edit.proofs.ItemRows.{shown_texts}
+use Rattle.spec_edit.proofs.SoundElements.{SoundSteps, elements-sound}
 use Rattle.spec_locked_pages.specs.Segments.{records_in, record_at, no_segment, segments_in, segment_at, pages_of, pages_at, sheets_at, bytes_at, has_scene, HasScene, IsLockedPage}
 use Rattle.spec_locked_pages.specs.LockedPages.{StaysLocked}
 use Rattle.spec_locked_pages.specs.Chains.{LeadTo, first_state, GoOn, IsOneSheet, IsOpened, KeepsOpened, IsStep, AreSteps}

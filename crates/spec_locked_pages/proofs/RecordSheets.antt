@@ -9,14 +9,14 @@ use Rattle.spec_pages.specs.OwnPages.{own_heights, is_among, lies_in, AreJoined}
 use Rattle.spec_labels.specs.Labels.{LabelOf}
 use Rattle.spec_labels.specs.PageRecords.{PageRecordOf, SegmentOf, SheetOf, page_sheet, page_sheets, page_label}
 use Rattle.spec_labels.specs.Spots.{Spot, Bounds, AtMost}
-use Rattle.spec_layout.specs.Shown.{Shown, shape_of}
-use Rattle.spec_print.specs.Sheets.{sheet_bytes}
-use Rattle.spec_print.specs.PageRows.{page_body}
+use Rattle.spec_sheets.specs.Shown.{Shown, shape_of}
+use Rattle.spec_sheets.specs.Sheets.{sheet_bytes}
+use Rattle.spec_sheets.specs.PageRows.{page_body}
 use Rattle.spec_state.specs.StateSheets.{shown_sheet}
-use Rattle.spec_relayout.specs.Items.{Sight, Item, sights_in, rows_among, shapes_among, breaks_among, all_sights, front_of, back_of, start_of, starts_of_spots}
-use Rattle.spec_relayout.proofs.Steps.{IsOne, LiesBetween, IsLaidOut}
-use Rattle.spec_relayout.proofs.AmongLaws.{shapes_among-append}
-use Rattle.spec_relayout.proofs.SplitLaws.{front-high, text-parts, start_of-rises}
+use Rattle.spec_edit.specs.Items.{Sight, Item, sights_in, rows_among, shapes_among, breaks_among, all_sights, front_of, back_of, start_of, starts_of_spots}
+use Rattle.spec_edit.proofs.Steps.{IsOne, LiesBetween, IsLaidOut}
+use Rattle.spec_edit.proofs.AmongLaws.{shapes_among-append}
+use Rattle.spec_edit.proofs.SplitLaws.{front-high, text-parts, start_of-rises}
 use Rattle.spec_locked_pages.proofs.CutLaws.{segment_starts, text_starts, range-middle, Cut, SpareInside, text_starts-middle}
 
 -- A record with the next one's label and its rows as a segment.

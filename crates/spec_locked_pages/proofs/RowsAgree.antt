@@ -18,22 +18,22 @@ use Rattle.spec_pages.specs.Rows.{Row, ElementOf, line_state, is_title, placed_r
 use Rattle.spec_labels.specs.declared.RowKey.{RowKey}
 use Rattle.spec_labels.specs.Labels.{LabelOf, plain_label}
 use Rattle.spec_labels.specs.Scenes.{SceneRecordOf, line_place, record_places, first_place, label_between, label_at, labels_since}
-use Rattle.spec_layout.specs.Cells.{ShownCell, shown_cells}
-use Rattle.spec_layout.specs.Speakers.{Spoken}
-use Rattle.spec_layout.specs.Layout.{laid_out, in_body}
-use Rattle.spec_layout.specs.Shown.{Shown, opens_heading, row_label, element_cue, shown_of, element_shown, is_heading_element, heading_label, labels_behind, shown_rows, shape_of, key_of}
-use Rattle.spec_layout.proofs.RowLaws.{IsText-texts}
+use Rattle.spec_sheets.specs.Cells.{ShownCell, shown_cells}
+use Rattle.spec_sheets.specs.Speakers.{Spoken}
+use Rattle.spec_sheets.specs.Layout.{laid_out, in_body}
+use Rattle.spec_sheets.specs.Shown.{Shown, opens_heading, row_label, element_cue, shown_of, element_shown, is_heading_element, heading_label, labels_behind, shown_rows, shape_of, key_of}
+use Rattle.spec_sheets.proofs.RowLaws.{IsText-texts}
 use Rattle.spec_state.specs.State.{State, text_of}
 use Rattle.spec_state.specs.Headings.{is_heading_kind, is_heading_block, heading_of}
 use Rattle.spec_state.specs.StateSheets.{rows_in}
-use Rattle.spec_relayout.specs.Items.{all_sights, sight_of, rows_among}
-use Rattle.spec_relayout.specs.TextItems.{Script, spoken_group, element_label, element_items}
-use Rattle.spec_relayout.proofs.AmongLaws.{rows_among-append}
-use Rattle.spec_relayout.proofs.ItemRows.{shown_texts, element-rows}
-use Rattle.spec_relayout.specs.RowLines.{RowAt}
-use Rattle.spec_relayout.proofs.RowMoves.{single-on}
-use Rattle.spec_relayout.proofs.RowPlaces.{single-at}
-use Rattle.spec_relayout.proofs.SoundElements.{IsSound, SoundSteps, elements-sound}
+use Rattle.spec_edit.specs.Items.{all_sights, sight_of, rows_among}
+use Rattle.spec_edit.specs.TextItems.{Script, spoken_group, element_label, element_items}
+use Rattle.spec_edit.proofs.AmongLaws.{rows_among-append}
+use Rattle.spec_edit.proofs.ItemRows.{shown_texts, element-rows}
+use Rattle.spec_edit.specs.RowLines.{RowAt}
+use Rattle.spec_edit.proofs.RowMoves.{single-on}
+use Rattle.spec_edit.proofs.RowPlaces.{single-at}
+use Rattle.spec_edit.proofs.SoundElements.{IsSound, SoundSteps, elements-sound}
 use Rattle.std.proofs.lemmas.List.{map-append}
 use Rattle.spec_locked_pages.specs.Segments.{has_scene, HasScene}
 use Rattle.spec_locked_pages.proofs.HeadingBlocks.{PlacedLined, blocks-lined}

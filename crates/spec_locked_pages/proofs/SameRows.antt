@@ -3,7 +3,7 @@ use Rattle.std.proofs.Common.{◌≡◌, ℕ, zero, suc, ◌+◌, ◌<◌, Bool,
 use Rattle.std.specs.Prelude.{slice_range}
 use Rattle.spec_labels.specs.declared.RowKey.{RowKey}
 use Rattle.spec_labels.specs.PageRecords.{PageRecordOf, record_start, record_starts}
-use Rattle.spec_layout.specs.Shown.{Shown}
+use Rattle.spec_sheets.specs.Shown.{Shown}
 use Rattle.spec_text.specs.Lines.{LineState}
 use Rattle.spec_state.specs.State.{State}
 use Rattle.spec_state.specs.StateSheets.{rows_in, keys_in}

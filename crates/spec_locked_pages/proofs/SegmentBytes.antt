@@ -7,14 +7,14 @@ use Rattle.spec_pages.specs.OwnPages.{lies_in}
 use Rattle.spec_pages.specs.declared.Shape.{Shape}
 use Rattle.spec_labels.specs.Labels.{LabelOf}
 use Rattle.spec_labels.specs.PageRecords.{PageRecordOf, SegmentOf, first_label, record_starts, page_sheets}
-use Rattle.spec_layout.specs.Shown.{Shown, shape_of}
+use Rattle.spec_sheets.specs.Shown.{Shown, shape_of}
 use Rattle.spec_state.specs.State.{State}
 use Rattle.spec_state.specs.Keeping.{IsWhole}
 use Rattle.spec_state.specs.StateSheets.{rows_in, keys_in, locked_starts}
-use Rattle.spec_relayout.specs.Items.{front_of, back_of, Sight, Item, all_sights, sights_in, rows_among, start_of, starts_of_spots}
-use Rattle.spec_relayout.proofs.AmongLaws.{rows_among-append}
-use Rattle.spec_relayout.proofs.SplitLaws.{text-parts}
-use Rattle.spec_relayout.proofs.StandingLaws.{segment-rows}
+use Rattle.spec_edit.specs.Items.{front_of, back_of, Sight, Item, all_sights, sights_in, rows_among, start_of, starts_of_spots}
+use Rattle.spec_edit.proofs.AmongLaws.{rows_among-append}
+use Rattle.spec_edit.proofs.SplitLaws.{text-parts}
+use Rattle.spec_edit.proofs.StandingLaws.{segment-rows}
 use Rattle.spec_locked_pages.specs.Segments.{records_in, record_at, segment_at, rows_at, pages_of, bytes_at, HasScene}
 use Rattle.spec_locked_pages.proofs.CutLaws.{text_starts}
 use Rattle.spec_locked_pages.proofs.RecordSheets.{segment_of, printed, own_sheets, record_sheets-own}

@@ -6,7 +6,7 @@ use Rattle.std.proofs.lemmas.List.{map-append, append_assoc}
 use Rattle.std.proofs.lemmas.List.Concat.{flat_map-append}
 use Rattle.spec_pages.specs.Pages.{rows_on}
 use Rattle.spec_labels.specs.PageRecords.{PageRecordOf, SegmentOf, SheetOf, segments, record_starts, is_empty, onto_run, runs_of, run_sheets, page_sheets, segment_pages, omitted_sheet}
-use Rattle.spec_print.specs.Sheets.{sheet_bytes}
+use Rattle.spec_sheets.specs.Sheets.{sheet_bytes}
 use Rattle.spec_state.specs.State.{State}
 use Rattle.spec_state.specs.StateSheets.{title_sheets, title_starts, titles_in, layout_in, rows_in, keys_in, pages_in, sheets_in, body_sheets, shown_sheet, sheets_of_state, bytes_of_state}
 use Rattle.spec_locked_pages.specs.Segments.{records_in, no_segment, segments_in, segment_at, pages_of, sheets_at, bytes_at, IsLockedPage, StandsAmong}

@@ -17,24 +17,24 @@ use Rattle.spec_script.proofs.RunSteps.{map_group}
 use Rattle.spec_pages.specs.Rows.{Row, line_state}
 use Rattle.spec_labels.specs.Labels.{LabelOf, plain_label}
 use Rattle.spec_labels.specs.Scenes.{SceneRecordOf, line_place, label_at}
-use Rattle.spec_layout.specs.Cells.{ShownCell}
-use Rattle.spec_layout.specs.Speakers.{Spoken}
-use Rattle.spec_layout.specs.Layout.{KeyBelow, is_page_break, rows_behind, breaks_from, placed_in}
-use Rattle.spec_layout.specs.Shown.{element_cue}
-use Rattle.spec_layout.proofs.ElementPlaces.{placed_from, placed_to}
-use Rattle.spec_layout.proofs.LaidRows.{body_rows, layout-body, rows_behind-count}
-use Rattle.spec_layout.proofs.RowKeys.{layout_of-keys}
-use Rattle.spec_layout.proofs.RowLaws.{IsText-texts}
-use Rattle.spec_layout.proofs.SpokenLaws.{placed_of, spoken_elements-placed}
+use Rattle.spec_sheets.specs.Cells.{ShownCell}
+use Rattle.spec_sheets.specs.Speakers.{Spoken}
+use Rattle.spec_sheets.specs.Layout.{KeyBelow, is_page_break, rows_behind, breaks_from, placed_in}
+use Rattle.spec_sheets.specs.Shown.{element_cue}
+use Rattle.spec_sheets.proofs.ElementPlaces.{placed_from, placed_to}
+use Rattle.spec_sheets.proofs.LaidRows.{body_rows, layout-body, rows_behind-count}
+use Rattle.spec_sheets.proofs.RowKeys.{layout_of-keys}
+use Rattle.spec_sheets.proofs.RowLaws.{IsText-texts}
+use Rattle.spec_sheets.proofs.SpokenLaws.{placed_of, spoken_elements-placed}
 use Rattle.spec_state.specs.State.{State, text_of}
 use Rattle.spec_state.specs.StateSheets.{layout_in}
-use Rattle.spec_relayout.specs.Items.{Item, all_sights, sight_of, shapes_among, breaks_among}
-use Rattle.spec_relayout.specs.Touched.{is_continued, block_in}
-use Rattle.spec_relayout.specs.TextItems.{Script, spoken_by, spoken_group, element_label, text_rows, row_item, row_items, element_items}
-use Rattle.spec_relayout.proofs.AmongLaws.{breaks_among-append}
-use Rattle.spec_relayout.proofs.ItemRows.{break-some, no-break, element-count}
-use Rattle.spec_relayout.proofs.ItemsRise.{all_rows}
-use Rattle.spec_relayout.proofs.SoundElements.{blocks-rise}
+use Rattle.spec_edit.specs.Items.{Item, all_sights, sight_of, shapes_among, breaks_among}
+use Rattle.spec_edit.specs.Touched.{is_continued, block_in}
+use Rattle.spec_edit.specs.TextItems.{Script, spoken_by, spoken_group, element_label, text_rows, row_item, row_items, element_items}
+use Rattle.spec_edit.proofs.AmongLaws.{breaks_among-append}
+use Rattle.spec_edit.proofs.ItemRows.{break-some, no-break, element-count}
+use Rattle.spec_edit.proofs.ItemsRise.{all_rows}
+use Rattle.spec_edit.proofs.SoundElements.{blocks-rise}
 use Rattle.spec_locked_pages.specs.LockedPages.{elements_in as state_elements, spoken_in}
 
 -- The label of the scene record of a line.

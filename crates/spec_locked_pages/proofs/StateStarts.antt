@@ -25,9 +25,9 @@ use Rattle.spec_labels.proofs.CarryLaws.{place-is}
 use Rattle.spec_labels.proofs.AnchorLaws.{first_spot}
 use Rattle.spec_labels.proofs.KeySpots.{key_spot, no_key, start-below, start-above}
 use Rattle.spec_labels.proofs.StartLaws.{record_start-low}
-use Rattle.spec_layout.specs.Cells.{ShownCell}
-use Rattle.spec_layout.specs.Shown.{Shown, shape_of, key_of}
-use Rattle.spec_layout.proofs.RowLaws.{IsText-texts}
+use Rattle.spec_sheets.specs.Cells.{ShownCell}
+use Rattle.spec_sheets.specs.Shown.{Shown, shape_of, key_of}
+use Rattle.spec_sheets.proofs.RowLaws.{IsText-texts}
 use Rattle.spec_machine.proofs.PageKeeps.{anchored-within}
 use Rattle.spec_state.specs.State.{State, text_of}
 use Rattle.spec_state.specs.Keeping.{IsWhole}
@@ -36,14 +36,14 @@ use Rattle.spec_state.specs.StateSheets.{rows_in, keys_in}
 use Rattle.spec_state.proofs.RulesLaws.{whole-parts}
 use Rattle.spec_state.proofs.SheetHeights.{state-joined}
 use Rattle.spec_state.proofs.StateKeys.{state-keys, state-keys_inside}
-use Rattle.spec_relayout.specs.Items.{Sight, Item, page_break, row as shown_row, sight_of, all_sights, sights_in, rows_among, shapes_among, is_front, is_back, front_of, back_of, start_of, starts_of_spots}
-use Rattle.spec_relayout.specs.TextItems.{Script, text_rows, row_item, row_items, break_items, element_items, element_label}
-use Rattle.spec_layout.specs.Shown.{element_cue}
-use Rattle.spec_layout.specs.Layout.{is_page_break}
-use Rattle.spec_relayout.proofs.Steps.{AreRising, IsOne, LiesBetween, IsLaidOut}
-use Rattle.spec_relayout.proofs.AmongLaws.{rows_among-append, shapes_among-append}
-use Rattle.spec_relayout.proofs.SplitLaws.{front-high, front-back, rising-front, text-parts}
-use Rattle.spec_relayout.proofs.ItemsRise.{items-rise, items-within}
+use Rattle.spec_edit.specs.Items.{Sight, Item, page_break, row as shown_row, sight_of, all_sights, sights_in, rows_among, shapes_among, is_front, is_back, front_of, back_of, start_of, starts_of_spots}
+use Rattle.spec_edit.specs.TextItems.{Script, text_rows, row_item, row_items, break_items, element_items, element_label}
+use Rattle.spec_sheets.specs.Shown.{element_cue}
+use Rattle.spec_sheets.specs.Layout.{is_page_break}
+use Rattle.spec_edit.proofs.Steps.{AreRising, IsOne, LiesBetween, IsLaidOut}
+use Rattle.spec_edit.proofs.AmongLaws.{rows_among-append, shapes_among-append}
+use Rattle.spec_edit.proofs.SplitLaws.{front-high, front-back, rising-front, text-parts}
+use Rattle.spec_edit.proofs.ItemsRise.{items-rise, items-within}
 use Rattle.spec_locked_pages.specs.Segments.{records_in, record_at, no_record, no_segment, segment_at}
 use Rattle.spec_locked_pages.proofs.CutLaws.{range-middle}
 use Rattle.spec_locked_pages.proofs.RecordSheets.{segment_of}

@@ -17,10 +17,10 @@ use Rattle.spec_text.specs.Ranges.{range_of}
 use Rattle.spec_pages.specs.Wrapping.{rows_of}
 use Rattle.spec_pages.specs.declared.Paper.TheVariants.{Letter}
 use Rattle.spec_labels.specs.Labels.{plain_label}
-use Rattle.spec_print.specs.RowBytes.{spaces}
+use Rattle.spec_sheets.specs.RowBytes.{spaces}
 use Rattle.spec_state.specs.State.{State}
 use Rattle.spec_state.specs.Changes.{edited_state}
-use Rattle.spec_relayout.specs.Touched.{is_touched_old, is_touched_new, touches_element, changes_partner}
+use Rattle.spec_edit.specs.Touched.{is_touched_old, is_touched_new, touches_element, changes_partner}
 use Rattle.spec_locked_pages.specs.Segments.{bytes_at}
 use Rattle.spec_locked_pages.specs.LockedPages.{elements_in, edit_blocks}
 

@@ -5,11 +5,11 @@ use Rattle.spec_text.specs.Lines.{line_texts}
 use Rattle.spec_text.specs.Ranges.{RangeOf}
 use Rattle.spec_script.specs.LongestRuns.{Group, members}
 use Rattle.spec_script.specs.Stanzas.{PlacedBlock}
-use Rattle.spec_layout.specs.Speakers.{Spoken, text_elements}
+use Rattle.spec_sheets.specs.Speakers.{Spoken, text_elements}
 use Rattle.spec_state.specs.State.{State}
-use Rattle.spec_reread.specs.Windows.{IsWindow}
-use Rattle.spec_relayout.specs.Touched.{EditBlocks, is_touched_old, is_touched_new, touches_element}
-use Rattle.spec_relayout.specs.Standing.{NoneStands}
+use Rattle.spec_edit.specs.Windows.{IsWindow}
+use Rattle.spec_edit.specs.Touched.{EditBlocks, is_touched_old, is_touched_new, touches_element}
+use Rattle.spec_edit.specs.Standing.{NoneStands}
 use Rattle.spec_locked_pages.specs.Segments.{record_at, segment_at, bytes_at, IsLockedPage}
 
 -- The elements of a state's text, and its blocks.

@@ -3,8 +3,8 @@ use Rattle.std.specs.Prelude.{◌≡◌, ℕ, ◌<◌, Bool, true, false, List, 
 use Rattle.spec_pages.specs.Pages.{is_heading, rows_on}
 use Rattle.spec_labels.specs.Scenes.{SceneRecordOf, line_place}
 use Rattle.spec_labels.specs.PageRecords.{PageRecordOf, SegmentOf, SheetOf, end_line, segments, record_starts, segment_pages, page_sheets}
-use Rattle.spec_layout.specs.Shown.{Shown}
-use Rattle.spec_print.specs.Sheets.{sheet_bytes}
+use Rattle.spec_sheets.specs.Shown.{Shown}
+use Rattle.spec_sheets.specs.Sheets.{sheet_bytes}
 use Rattle.spec_state.specs.State.{State}
 use Rattle.spec_state.specs.StateSheets.{pages_in, layout_in, rows_in, keys_in, shown_sheet}
 

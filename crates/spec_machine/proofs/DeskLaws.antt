@@ -10,7 +10,7 @@ use Rattle.spec_state.specs.StateSheets.{bytes_of_state}
 use Rattle.spec_state.specs.Keeping.{IsWhole}
 use Rattle.spec_state.proofs.StateKeys.{text-headings}
 use Rattle.spec_state.proofs.StateLaws.{whole-sound}
-use Rattle.spec_rounds.proofs.OpeningLaw.{lock-bytes, round-bytes}
+use Rattle.spec_state.proofs.OpeningLaw.{lock-bytes, round-bytes}
 use Rattle.spec_wire.specs.Commands.{CommandOf, lock_pages, next_round}
 use Rattle.spec_machine.specs.Machine.{Memory, opened_memory, memory_after, memory_behind}
 use Rattle.spec_machine.specs.Refusals.{refusal_to}

@@ -7,7 +7,7 @@ use Rattle.spec_labels.specs.Scenes.{SceneRecordOf, AreSceneRecords}
 use Rattle.spec_labels.specs.PageRecords.{PageRecordOf, SheetOf, AreSheets, record_starts}
 use Rattle.spec_labels.proofs.SceneLabels.{locked_labels-distinct, locked_labels-owner}
 use Rattle.spec_labels.proofs.SheetLaws.{numbered-AreSheets, sheets-AreSheets}
-use Rattle.spec_layout.specs.Shown.{Shown}
+use Rattle.spec_sheets.specs.Shown.{Shown}
 use Rattle.spec_state.specs.State.{State}
 use Rattle.spec_pages.specs.Pages.{rows_on}
 use Rattle.spec_state.specs.Headings.{headings_of}

@@ -1,3 +1,4 @@
+pub mod CastLaws
 pub mod LockKeeps
 pub mod RecordOrder
 pub mod PageKeeps

@@ -14,7 +14,7 @@ use Rattle.spec_labels.proofs.PageRecordLaws.{extended_page_records-rise, extend
 use Rattle.spec_labels.proofs.SheetLaws.{sheets-AreSheets}
 use Rattle.spec_records.specs.Kept.{KeptOf, KeepsScenes, AreKeptScenes, scene_steps}
 use Rattle.spec_text.specs.EditedLines.{no_line}
-use Rattle.spec_layout.specs.Shown.{Shown, shape_of}
+use Rattle.spec_sheets.specs.Shown.{Shown, shape_of}
 use Rattle.spec_pages.specs.Heights.{Heights, next_of, starts_behind, starts_of}
 use Rattle.spec_pages.specs.Pages.{text_heights, rows_on}
 use Rattle.spec_state.specs.State.{State, text_of}
@@ -23,7 +23,7 @@ use Rattle.spec_state.specs.StateSheets.{numbered_sheets, layout_in, rows_in, ke
 use Rattle.spec_state.specs.Openings.{scenes_extended, pages_extended, scenes_locked, pages_locked, round_begun}
 use Rattle.spec_state.specs.SoundStates.{AreLocked}
 use Rattle.spec_state.proofs.HeadingLaws.{headings-letters}
-use Rattle.spec_rounds.proofs.OpeningLaw.{numbered-rise}
+use Rattle.spec_state.proofs.OpeningLaw.{numbered-rise}
 use Rattle.spec_machine.specs.Machine.{CanLockScenes, CanLockPages, CanBegin, FewScenes}
 use Rattle.spec_state.specs.Keeping.{state_kept}
 use Rattle.spec_state.specs.KeptStates.{IsKept}

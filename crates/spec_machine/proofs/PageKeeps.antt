@@ -18,14 +18,14 @@ use Rattle.spec_labels.specs.Spots.{Spot, AtMost}
 use Rattle.spec_text.specs.Ranges.{RangeOf}
 use Rattle.spec_text.specs.EditedLines.{HasIds}
 use Rattle.spec_labels.specs.Anchors.{IsAnchored, spot_of, end_spot, Anchored, AreKeys, NotBehind, ArePresent}
-use Rattle.spec_layout.specs.Shown.{Shown}
+use Rattle.spec_sheets.specs.Shown.{Shown}
 use Rattle.spec_pages.specs.OwnPages.{lies_in}
 use Rattle.spec_labels.proofs.CarryLaws.{Edited, end-nowhere}
 use Rattle.spec_labels.proofs.SpotLaws.{Lower, ahead-not}
 use Rattle.spec_labels.specs.OwnRecords.{overflow_sheets, own_records, all_records}
 use Rattle.spec_state.specs.StateSheets.{greatest_mark, numbered_sheets}
 use Rattle.spec_pages.proofs.StartLists.{ArePagesOf, AreAbove}
-use Rattle.spec_rounds.proofs.OpeningLaw.{plain-Below}
+use Rattle.spec_state.proofs.OpeningLaw.{plain-Below}
 use Rattle.spec_labels.proofs.RecordInsert.{Before}
 use Rattle.spec_labels.proofs.AnchorLaws.{carried-anchored, anchored-after}
 use Rattle.spec_state.specs.SameRows.{same_rows}

@@ -12,7 +12,7 @@ use Rattle.spec_labels.specs.PageRecords.{PageRecordOf, carried_records, record_
 use Rattle.spec_labels.specs.Anchors.{ArePresent}
 use Rattle.spec_labels.specs.OwnRecords.{all_records}
 use Rattle.spec_labels.proofs.CarryLaws.{Edited}
-use Rattle.spec_layout.specs.Shown.{shape_of}
+use Rattle.spec_sheets.specs.Shown.{shape_of}
 use Rattle.spec_state.specs.State.{State, text_of}
 use Rattle.spec_state.specs.StateSheets.{numbered_sheets, layout_in, rows_in, keys_in, locked_starts, pages_in, sheets_in}
 use Rattle.spec_state.specs.Openings.{pages_extended, scenes_locked, pages_locked, round_begun}
@@ -25,9 +25,9 @@ use Rattle.spec_state.proofs.RowMarks.{rows-marks, keys-low}
 use Rattle.spec_state.proofs.RulesLaws.{whole-parts, parts-whole}
 use Rattle.spec_state.proofs.StateKeys.{state-keys, state-keys_inside}
 use Rattle.spec_state.proofs.StateLaws.{count-keys}
-use Rattle.spec_rounds.proofs.NewSheets.{extended-all}
-use Rattle.spec_rounds.proofs.OpeningLaw.{numbered-Locking}
-use Rattle.spec_rounds.proofs.RoundLaw.{locked-all}
+use Rattle.spec_state.proofs.NewSheets.{extended-all}
+use Rattle.spec_state.proofs.OpeningLaw.{numbered-Locking}
+use Rattle.spec_state.proofs.RoundLaw.{locked-all}
 use Rattle.spec_machine.specs.Machine.{CanLockScenes, CanLockPages, CanBegin, FewPages}
 use Rattle.spec_machine.proofs.LockKeeps.{lock_scenes-keeps, lock_pages-keeps, round-keeps, settings-keep}
 use Rattle.spec_machine.proofs.PageKeeps.{LowKeys, edited-pages, numbered-pages, round-pages}

@@ -5,8 +5,8 @@ use Rattle.spec_text.specs.Lines.{line_texts}
 use Rattle.spec_wire.specs.Commands.{CommandOf, edit, undo, redo, lock_scenes, lock_pages, next_round, sheet, labels, blocks, outline, speakers, paper, unknown_command}
 use Rattle.spec_wire.specs.Replies as replies
 use Rattle.spec_wire.specs.Replies.{ReplyOf, RefusalOf, refused, edited, set, scenes, pages, round}
-use Rattle.spec_print.specs.Rounds.{round_name}
-use Rattle.spec_print.specs.Sheets.{Sheet, sheet_label_text, sheet_bytes}
+use Rattle.spec_sheets.specs.Rounds.{round_name}
+use Rattle.spec_sheets.specs.Sheets.{Sheet, sheet_label_text, sheet_bytes}
 use Rattle.spec_state.specs.State.{State}
 use Rattle.spec_state.specs.StateSheets.{sheets_of_state}
 use Rattle.spec_machine.specs.Machine.{Memory, memory_after}

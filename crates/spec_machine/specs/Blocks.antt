@@ -6,7 +6,7 @@ use Rattle.spec_script.specs.declared.Kind.TheVariants as kinds
 use Rattle.spec_script.specs.LongestRuns.{Group}
 use Rattle.spec_script.specs.Stanzas.{PlacedBlock}
 use Rattle.spec_script.specs.Elements.{elements_of}
-use Rattle.spec_layout.specs.Speakers.{visible_text}
+use Rattle.spec_sheets.specs.Speakers.{visible_text}
 use Rattle.spec_state.specs.Headings.{is_numbered, number_text}
 use Rattle.spec_wire.specs.Replies.{BlockReplyOf}
 

@@ -1,3 +1,4 @@
+pub mod Outline
 pub mod Machine
 pub mod KeptMemories
 pub mod LabelPromises

@@ -13,10 +13,10 @@ use Rattle.spec_pages.specs.Pages.{begins_heading}
 use Rattle.spec_labels.specs.Labels.{LabelOf, plain_label, label_cmp, label_text}
 use Rattle.spec_labels.specs.Scenes.{HeadingOf, SceneRecordOf, scene_labels}
 use Rattle.spec_labels.specs.PageRecords.{SheetOf}
-use Rattle.spec_layout.specs.Shown.{shape_of}
-use Rattle.spec_layout.specs.Speakers.{first_text, cue_text, name_in}
-use Rattle.spec_print.specs.Sheets.{sheet_label_text}
-use Rattle.spec_outline.specs.Outline.{EntryOf, section, synopsis, scene, omitted, cast_of, outline_bytes}
+use Rattle.spec_sheets.specs.Shown.{shape_of}
+use Rattle.spec_sheets.specs.Speakers.{first_text, cue_text, name_in}
+use Rattle.spec_sheets.specs.Sheets.{sheet_label_text}
+use Rattle.spec_machine.specs.Outline.{EntryOf, section, synopsis, scene, omitted, cast_of, outline_bytes}
 use Rattle.spec_state.specs.State.{State}
 use Rattle.spec_state.specs.Headings.{headings_of, is_heading_block, is_numbered, number_text}
 use Rattle.spec_state.specs.StateSheets.{rows_in, body_sheets}

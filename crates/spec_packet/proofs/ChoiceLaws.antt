@@ -6,10 +6,10 @@ use Rattle.std.proofs.lemmas.List.{map-append}
 use Rattle.spec_labels.specs.PageRecords.{SegmentOf, is_empty, owner_of, SheetOf, segment_pages, page_sheets, omitted_sheet, runs_of, run_sheets}
 use Rattle.spec_labels.proofs.SheetLaws.{in_runs}
 use Rattle.spec_labels.proofs.RunLaws.{IsRun}
-use Rattle.spec_collation.specs.SheetLists.{PrintedOf, IsIn}
-use Rattle.spec_collation.specs.Collations.{Choice, sheet_of, present_of}
+use Rattle.spec_packet.specs.SheetLists.{PrintedOf, IsIn}
+use Rattle.spec_packet.specs.Collations.{Choice, sheet_of, present_of}
 use Rattle.spec_packet.specs.Packets.{LaidOf, printed_of, laid_printed, is_fresh, page_choice, omitted_choice, run_choices, first_fresh, last_fresh, runs_choices, laid_choices, Both, was_of, now_of, SameRecord}
-use Rattle.spec_collation.proofs.Lists.{in-left, in-right, append-in}
+use Rattle.spec_packet.proofs.Lists.{in-left, in-right, append-in}
 use Rattle.spec_packet.proofs.RunCuts.{Full, LastIs, FirstIs}
 
 -- A list with one of it in the middle.

@@ -7,8 +7,8 @@ use Rattle.std.proofs.lemmas.List.{map-append, length-map}
 use Rattle.spec_labels.specs.PageRecords.{SegmentOf, is_empty, SheetOf, segment_pages, page_sheets, runs_of}
 use Rattle.spec_labels.proofs.SheetLaws.{in_runs, runs_of-all}
 use Rattle.spec_labels.proofs.RunLaws.{IsRun, runs_of-IsRun}
-use Rattle.spec_collation.specs.SheetLists.{IsIn, InOrder}
-use Rattle.spec_collation.specs.Collations.{Choice, is_handed}
+use Rattle.spec_packet.specs.SheetLists.{IsIn, InOrder}
+use Rattle.spec_packet.specs.Collations.{Choice, is_handed}
 use Rattle.spec_packet.specs.Packets.{LaidOf, is_fresh, has_fresh_cue, page_choice, omitted_choice, run_choices, first_fresh, last_fresh, runs_choices, laid_choices}
 use Rattle.spec_packet.specs.SheetFacts.{itself, some_fresh, cue_fresh, fresh_before, fresh_behind, is_chosen, cue_places, page_facts, run_facts, runs_facts, laid_facts}
 use Rattle.spec_packet.proofs.RunCuts.{all-in, run-full}

@@ -11,17 +11,17 @@ use Rattle.std.proofs.lemmas.Str.{encodes-chars, NoCharPasses-byte}
 use Rattle.spec_text.specs.Lines.{LineState, IsClean, IsText, is_dropped, is_kept, line_texts}
 use Rattle.spec_pages.specs.Rows.{ElementOf}
 use Rattle.spec_labels.specs.Labels.{LabelOf, step_letters, step_text, label_text}
-use Rattle.spec_layout.specs.Cells.{ShownText, slice, label, ShownPart, text_at, shown_bytes, RowShows}
-use Rattle.spec_layout.specs.Layout.{placed_in}
-use Rattle.spec_layout.specs.Shown.{shown_rows}
-use Rattle.spec_print.specs.RowBytes.{ShownRow}
-use Rattle.spec_print.specs.PageRows.{page_body, omitted_rows}
-use Rattle.spec_print.specs.PageTexts.{fixed_texts, IsGiven, CellGiven, RowGiven}
-use Rattle.spec_print.proofs.PageParts.{page_body-given, omitted-given}
+use Rattle.spec_sheets.specs.Cells.{ShownText, slice, label, ShownPart, text_at, shown_bytes, RowShows}
+use Rattle.spec_sheets.specs.Layout.{placed_in}
+use Rattle.spec_sheets.specs.Shown.{shown_rows}
+use Rattle.spec_sheets.specs.RowBytes.{ShownRow}
+use Rattle.spec_sheets.specs.PageRows.{page_body, omitted_rows}
+use Rattle.spec_sheets.specs.PageTexts.{fixed_texts, IsGiven, CellGiven, RowGiven}
+use Rattle.spec_sheets.proofs.PageParts.{page_body-given, omitted-given}
 use Rattle.spec_state.specs.State.{State, text_of}
-use Rattle.spec_collation.specs.SheetReadings.{is_sheet_end}
-use Rattle.spec_collation.specs.Pieces.{IsPlain}
-use Rattle.spec_collation.proofs.PlainLaws.{Whole, rows-plain}
+use Rattle.spec_packet.specs.SheetReadings.{is_sheet_end}
+use Rattle.spec_packet.specs.Pieces.{IsPlain}
+use Rattle.spec_packet.proofs.PlainLaws.{Whole, rows-plain}
 use Rattle.spec_packet.proofs.RunCuts.{all-in}
 
 all-whole : (bytes : List ℕ) → list_all (λ b. not (is_sheet_end b)) bytes ≡ true → All Whole bytes

@@ -5,7 +5,7 @@ use Rattle.std.specs.List.{list_any, prefix_len}
 use Rattle.std.proofs.Math.Seq.{drop-append-add}
 use Rattle.std.proofs.lemmas.Bool.{cases_lt, or_parts}
 use Rattle.std.proofs.lemmas.List.{take-take, length-drop}
-use Rattle.spec_collation.specs.SheetLists.{IsIn}
+use Rattle.spec_packet.specs.SheetLists.{IsIn}
 use Rattle.spec_state.specs.SameRows.{BareRow}
 use Rattle.spec_packet.specs.Packets.{is_cue_row, cue_len, cue_reach, is_fresh_between}
 use Rattle.spec_packet.specs.RecordRows.{all_rows, segments_from, RowsBoth, were_of, are_of, StaysStale}

@@ -6,7 +6,7 @@ use Rattle.spec_text.specs.Lines.{LineState}
 use Rattle.spec_text.specs.Edits.{Replacement}
 use Rattle.spec_text.specs.Ranges.{RangeOf}
 use Rattle.spec_labels.specs.PageRecords.{PageRecordOf, is_removed, line_from, carried, carried_records, record_starts}
-use Rattle.spec_layout.specs.Shown.{Shown}
+use Rattle.spec_sheets.specs.Shown.{Shown}
 use Rattle.spec_state.specs.State.{State}
 use Rattle.spec_state.specs.Changes.{text_after, carried_state, segment_rows, rows_by_record, raised, raised_records, pages_raised, edited_state}
 use Rattle.spec_state.specs.SameRows.{bare_of, same_rows}

@@ -5,7 +5,7 @@ use Rattle.std.specs.List.{list_any, prefix_len}
 use Rattle.std.proofs.lemmas.Bool.{cases_lt, lt-leb}
 use Rattle.std.proofs.lemmas.List.{drop-map, take-map}
 use Rattle.spec_labels.specs.PageRecords.{SegmentOf}
-use Rattle.spec_collation.specs.SheetLists.{IsIn, InOrder}
+use Rattle.spec_packet.specs.SheetLists.{IsIn, InOrder}
 use Rattle.spec_packet.specs.Packets.{LaidOf, is_fresh, is_fresh_between, has_fresh_cue, speech_start, cue_end, goes_on_at}
 use Rattle.spec_packet.specs.SheetFacts.{PlacesOf, itself, some_fresh, cue_fresh, ends_behind, starts_by, places_between, cue_places}
 

@@ -1,3 +1,12 @@
+pub mod Lists
+pub mod LabelTests
+pub mod CollationLaws
+pub mod Words
+pub mod HeaderLaws
+pub mod PieceLaws
+pub mod ReadingLaws
+pub mod ReadRising
+pub mod PlainLaws
 pub mod RunCuts
 pub mod ChoiceLaws
 pub mod PacketLaws

@@ -5,7 +5,7 @@ use Rattle.spec_labels.specs.PageRecords.{PageRecordOf}
 use Rattle.spec_state.specs.State.{State}
 use Rattle.spec_state.specs.Keeping.{IsWhole}
 use Rattle.spec_state.proofs.StateLaws.{state-AreKeptPages}
-use Rattle.spec_collation.specs.BytesCollated.{collated_bytes, collating}
+use Rattle.spec_packet.specs.BytesCollated.{collated_bytes, collating}
 use Rattle.spec_state.specs.Openings.{pages_extended}
 use Rattle.spec_wire.specs.Commands.{CommandOf, lock_pages, next_round}
 use Rattle.spec_machine.specs.Machine.{EntryOf, Memory, memory_after}

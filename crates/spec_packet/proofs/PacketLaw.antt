@@ -7,12 +7,12 @@ use Rattle.spec_labels.specs.Labels.{LabelOf, Below}
 use Rattle.spec_labels.specs.PageRecords.{PageRecordOf, SegmentOf, is_empty, owner_of, SheetOf, segment_pages, page_sheet, page_sheets, omitted_sheet, runs_of, run_sheets}
 use Rattle.spec_labels.proofs.SheetLaws.{in_runs, runs_of-all}
 use Rattle.spec_labels.proofs.RunLaws.{IsRun, AreApart, runs_of-IsRun, runs_of-AreApart}
-use Rattle.spec_collation.specs.SheetLists.{PrintedOf, IsIn, InOrder, UpTo, AreRising}
-use Rattle.spec_collation.specs.Collations.{Choice, sheet_of, packet_of, Covers, collated}
+use Rattle.spec_packet.specs.SheetLists.{PrintedOf, IsIn, InOrder, UpTo, AreRising}
+use Rattle.spec_packet.specs.Collations.{Choice, sheet_of, packet_of, Covers, collated}
 use Rattle.spec_packet.specs.Packets.{LaidOf, laid_sheets, printed_of, laid_printed, is_fresh, page_choice, omitted_choice, run_choices, first_fresh, runs_choices, laid_choices, Both, was_of, now_of, SameRecord, only_sheet, Starts, LabelsRise, Unchanged}
-use Rattle.spec_collation.proofs.Lists.{in-map, map-in, order-back, order-front, in-left, in-right}
-use Rattle.spec_collation.proofs.LabelTests.{upto-upto}
-use Rattle.spec_collation.proofs.CollationLaws.{collation-present}
+use Rattle.spec_packet.proofs.Lists.{in-map, map-in, order-back, order-front, in-left, in-right}
+use Rattle.spec_packet.proofs.LabelTests.{upto-upto}
+use Rattle.spec_packet.proofs.CollationLaws.{collation-present}
 use Rattle.spec_packet.proofs.RunCuts.{Full, LastIs, FirstIs, run-empty, run-full, all-in, front-full, back-full}
 use Rattle.spec_packet.proofs.ChoiceLaws.{cut-at, in-flat, flat-in, fresh_end, choice-in, in-choices, choices-present, fresh_end-all, Stale, last-stale, first-stale, all-stale, last-was, first-was, empty-was}
 use Rattle.spec_packet.proofs.PacketLaws.{around, in-runs-middle, was-middle, empty-stays, page-stays, neither}

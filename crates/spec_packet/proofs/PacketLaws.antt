@@ -5,10 +5,10 @@ use Rattle.std.specs.List.{list_all}
 use Rattle.std.proofs.lemmas.Bool.{and_parts}
 use Rattle.spec_labels.specs.PageRecords.{PageRecordOf, SegmentOf, is_empty, owner_of, SheetOf, segment_pages, page_sheets, omitted_sheet, runs_of, run_sheets}
 use Rattle.spec_labels.proofs.SheetLaws.{in_runs}
-use Rattle.spec_collation.specs.SheetLists.{IsIn}
-use Rattle.spec_collation.specs.Collations.{Choice, sheet_of}
+use Rattle.spec_packet.specs.SheetLists.{IsIn}
+use Rattle.spec_packet.specs.Collations.{Choice, sheet_of}
 use Rattle.spec_packet.specs.Packets.{LaidOf, laid_sheets, printed_of, laid_printed, is_fresh, has_fresh_cue, page_choice, Both, was_of, now_of, SameRecord, only_sheet, PrintsOmitted, Unchanged}
-use Rattle.spec_collation.proofs.Lists.{in-map, map-in, in-right}
+use Rattle.spec_packet.proofs.Lists.{in-map, map-in, in-right}
 use Rattle.spec_packet.proofs.RunCuts.{Full, LastIs, FirstIs, runs_of-empty, runs_of-middle}
 use Rattle.std.proofs.lemmas.List.{map-append}
 use Rattle.spec_packet.proofs.ChoiceLaws.{in-flat, map-cut, Stale}

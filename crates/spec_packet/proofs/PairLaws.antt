@@ -1,6 +1,6 @@
 -- Along the edits of a chain, the records that aren't fresh at its end have the rows of its beginning.
 use Rattle.std.proofs.Common.{◌≡◌, inl, inr, ℕ, List, [], ◌∷◌, map, refl, ap, sym, subst}
-use Rattle.spec_collation.specs.SheetLists.{IsIn}
+use Rattle.spec_packet.specs.SheetLists.{IsIn}
 use Rattle.spec_packet.specs.RecordRows.{RecordRows, RowsBoth, were_of, are_of, StaysStale}
 use Rattle.spec_packet.proofs.RecordChain.{EditsRecord, stale-step}
 

@@ -6,9 +6,9 @@ use Rattle.std.proofs.lemmas.Grind.{flat_map-append}
 use Rattle.std.proofs.lemmas.List.{get_or-append-add, length-map}
 use Rattle.std.proofs.lemmas.List.Elements.{All-nil, All-cons}
 use Rattle.spec_labels.specs.PageRecords.{SheetOf}
-use Rattle.spec_print.specs.Sheets.{Sheet, sheet_bytes}
-use Rattle.spec_collation.specs.SheetLists.{bytes_of}
-use Rattle.spec_collation.specs.Collations.{Choice, sheet_of, is_handed, packet_of}
+use Rattle.spec_sheets.specs.Sheets.{Sheet, sheet_bytes}
+use Rattle.spec_packet.specs.SheetLists.{bytes_of}
+use Rattle.spec_packet.specs.Collations.{Choice, sheet_of, is_handed, packet_of}
 use Rattle.spec_state.specs.State.{State}
 use Rattle.spec_state.specs.StateSheets.{rows_in, titles_in, title_starts, title_sheets, body_sheets, shown_sheet, sheets_of_state}
 use Rattle.spec_packet.specs.Packets.{printed_of, laid_choices}

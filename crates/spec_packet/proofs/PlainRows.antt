@@ -20,10 +20,10 @@ use Rattle.spec_pages.specs.Pages.{is_heading, is_speech}
 use Rattle.spec_pages.specs.Rows.{Cell, Row, LineContext, line_context, line_rows_from, line_rows, number_cell, number_before, number_behind, with_number, shaped_rows, continued_cell, said_cells, spoken_cells, put_cell, in_column_order, spoken_rows, with_speakers, is_title, title_row, half_row, joined_rows, block_alone, blocks_beside, single_rows, shifted_cell, shifted_row, line_state}
 use Rattle.spec_pages.specs.Rows as rows
 use Rattle.spec_pages.specs.Wrapping.{WrappedRow, wrapped}
-use Rattle.spec_layout.specs.Cells.{without_numbers}
-use Rattle.spec_layout.specs.Speakers.{Spoken}
-use Rattle.spec_layout.specs.Layout.{laid_out}
-use Rattle.spec_layout.specs.Shown.{is_fixed, opens_heading, no_row}
+use Rattle.spec_sheets.specs.Cells.{without_numbers}
+use Rattle.spec_sheets.specs.Speakers.{Spoken}
+use Rattle.spec_sheets.specs.Layout.{laid_out}
+use Rattle.spec_sheets.specs.Shown.{is_fixed, opens_heading, no_row}
 use Rattle.spec_state.specs.Headings.{is_heading_block}
 use Rattle.spec_locked_pages.proofs.HeadingBlocks.{OneLined}
 use Rattle.spec_locked_pages.proofs.HeadingRows.{IsOf, alone-begins}

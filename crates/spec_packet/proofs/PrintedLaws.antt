@@ -6,16 +6,16 @@ use Rattle.spec_text.proofs.ListLaws.{pairs-head, pairs-tail}
 use Rattle.spec_labels.specs.Labels.{IsLabel, Below}
 use Rattle.spec_labels.specs.PageRecords.{PageRecordOf, RisingRecords, SegmentOf, segments, is_empty, owner_of, SheetOf, segment_pages, page_sheets, omitted_sheet, runs_of, run_sheets, sheets_of_records}
 use Rattle.spec_labels.proofs.SheetLaws.{in_runs, runs_of-all, sheets-AreSheets, segments-All}
-use Rattle.spec_collation.specs.SheetLists.{PrintedOf, list_bytes, IsIn, InOrder, UpTo, Before, AreRising}
-use Rattle.spec_collation.specs.SheetReadings.{title, labelled}
-use Rattle.spec_collation.specs.Pieces.{IsPiece, ArePieces}
-use Rattle.spec_collation.specs.Collations.{sheet_of, is_handed}
-use Rattle.spec_collation.specs.BytesCollated.{collated_bytes, collating, collating_lists}
+use Rattle.spec_packet.specs.SheetLists.{PrintedOf, list_bytes, IsIn, InOrder, UpTo, Before, AreRising}
+use Rattle.spec_packet.specs.SheetReadings.{title, labelled}
+use Rattle.spec_packet.specs.Pieces.{IsPiece, ArePieces}
+use Rattle.spec_packet.specs.Collations.{sheet_of, is_handed}
+use Rattle.spec_packet.specs.BytesCollated.{collated_bytes, collating, collating_lists}
 use Rattle.spec_packet.specs.Packets.{LaidOf, laid_sheets, printed_of, laid_printed, laid_choices, LabelsRise, Unchanged}
 use Rattle.spec_packet.specs.PrintedTexts.{Prints, PrintsTitle, printed_text, printed_packet, IsPrinted}
-use Rattle.spec_collation.proofs.Lists.{in-map, map-in, filter-in, order-map, map-order, order-filter, order-front, order-back}
-use Rattle.spec_collation.proofs.PieceLaws.{labelled-piece, title-piece}
-use Rattle.spec_collation.proofs.ReadingLaws.{sheets-read}
+use Rattle.spec_packet.proofs.Lists.{in-map, map-in, filter-in, order-map, map-order, order-filter, order-front, order-back}
+use Rattle.spec_packet.proofs.PieceLaws.{labelled-piece, title-piece}
+use Rattle.spec_packet.proofs.ReadingLaws.{sheets-read}
 use Rattle.spec_packet.proofs.RunCuts.{all-in}
 use Rattle.spec_packet.proofs.ChoiceLaws.{cut-at, flat-in, choices-present}
 use Rattle.spec_packet.proofs.PacketLaws.{in-runs-middle}

@@ -7,7 +7,7 @@ use Rattle.std.proofs.lemmas.Bool.{cases_Bool}
 use Rattle.std.proofs.lemmas.List.{drop-append-le, length-drop}
 use Rattle.spec_pages.specs.Pages.{continues_speech}
 use Rattle.spec_labels.specs.PageRecords.{SegmentOf}
-use Rattle.spec_collation.specs.SheetLists.{IsIn}
+use Rattle.spec_packet.specs.SheetLists.{IsIn}
 use Rattle.spec_state.specs.SameRows.{BareRow}
 use Rattle.spec_packet.specs.Packets.{cue_len, cue_reach, speech_start, cue_at, goes_on_at, cue_end, is_fresh_between, has_fresh_cue, LaidOf, Both, was_of, now_of}
 use Rattle.spec_packet.specs.RecordRows.{RecordRows, all_rows, segment_behind, segments_from, RowsBoth, were_of, are_of, StaysStale}

@@ -16,19 +16,19 @@ use Rattle.spec_pages.specs.declared.RowKind.TheVariants as row_kinds
 use Rattle.spec_pages.specs.Pages.{is_heading, is_speech, continues_speech}
 use Rattle.spec_pages.specs.Rows.{Cell, Row, ElementOf, placed_rows}
 use Rattle.spec_labels.specs.Labels.{LabelOf}
-use Rattle.spec_layout.specs.Cells.{ShownCell, cell_text, cells_text, shown_cell, continued, with_continued, ends_continued}
-use Rattle.spec_layout.specs.Layout.{in_body, laid_out}
-use Rattle.spec_layout.specs.Speakers.{Spoken}
-use Rattle.spec_layout.specs.Shown.{Shown, is_cue, is_fixed, cue_rows, repeated_cells, element_cue, shown_of, element_shown, heading_label, labels_behind, shown_rows}
-use Rattle.spec_layout.proofs.IndexLaws.{AreOfElement, placed_rows-element}
-use Rattle.spec_layout.proofs.JoinLaws.{layout-indexed}
-use Rattle.spec_layout.proofs.RowLaws.{IsText-texts}
+use Rattle.spec_sheets.specs.Cells.{ShownCell, cell_text, cells_text, shown_cell, continued, with_continued, ends_continued}
+use Rattle.spec_sheets.specs.Layout.{in_body, laid_out}
+use Rattle.spec_sheets.specs.Speakers.{Spoken}
+use Rattle.spec_sheets.specs.Shown.{Shown, is_cue, is_fixed, cue_rows, repeated_cells, element_cue, shown_of, element_shown, heading_label, labels_behind, shown_rows}
+use Rattle.spec_sheets.proofs.IndexLaws.{AreOfElement, placed_rows-element}
+use Rattle.spec_sheets.proofs.JoinLaws.{layout-indexed}
+use Rattle.spec_sheets.proofs.RowLaws.{IsText-texts}
 use Rattle.spec_state.specs.Headings.{heading_labels}
 use Rattle.spec_state.specs.SameRows.{BareRow, bare_of}
 use Rattle.spec_state.specs.State.{State, text_of}
 use Rattle.spec_state.specs.StateSheets.{layout_in, rows_in}
-use Rattle.spec_relayout.specs.TextItems.{Script, spoken_by, spoken_group}
-use Rattle.spec_relayout.proofs.SoundElements.{SoundSteps, elements-sound}
+use Rattle.spec_edit.specs.TextItems.{Script, spoken_by, spoken_group}
+use Rattle.spec_edit.proofs.SoundElements.{SoundSteps, elements-sound}
 use Rattle.spec_locked_pages.proofs.StateScripts.{script_of, texts_of, blocks_in, elements-scripted}
 use Rattle.spec_packet.specs.Packets.{is_cue_row, cue_len, speech_start, cue_at}
 use Rattle.spec_packet.proofs.PlainRows.{NoNumber, without-none, Plain, TellsFixed, alone-plain, alone-tells, pair-plain, pair-tells, placed-plain, placed-tells}

@@ -13,17 +13,17 @@ use Rattle.spec_pages.specs.Pages.{is_heading}
 use Rattle.spec_pages.specs.Rows.{Row, line_state, is_title, placed_rows, number_before, number_behind}
 use Rattle.spec_labels.specs.Labels.{LabelOf}
 use Rattle.spec_labels.specs.Scenes.{SceneRecordOf, line_place}
-use Rattle.spec_layout.specs.Cells.{ShownCell, shown_cell, shown_cells, label_cell, without_numbers}
-use Rattle.spec_layout.specs.Layout.{laid_out}
-use Rattle.spec_layout.specs.Shown.{Shown, opens_heading, shown_of}
-use Rattle.spec_layout.proofs.RowLaws.{IsText-texts}
+use Rattle.spec_sheets.specs.Cells.{ShownCell, shown_cell, shown_cells, label_cell, without_numbers}
+use Rattle.spec_sheets.specs.Layout.{laid_out}
+use Rattle.spec_sheets.specs.Shown.{Shown, opens_heading, shown_of}
+use Rattle.spec_sheets.proofs.RowLaws.{IsText-texts}
 use Rattle.spec_state.specs.State.{State, text_of}
 use Rattle.spec_state.specs.Headings.{is_heading_block}
 use Rattle.spec_state.specs.StateSheets.{rows_in}
-use Rattle.spec_relayout.specs.Items.{all_sights, rows_among}
-use Rattle.spec_relayout.specs.TextItems.{Script, spoken_by, spoken_group, element_label, text_rows}
-use Rattle.spec_relayout.proofs.ItemRows.{shown_texts}
-use Rattle.spec_relayout.proofs.SoundElements.{SoundSteps, elements-sound}
+use Rattle.spec_edit.specs.Items.{all_sights, rows_among}
+use Rattle.spec_edit.specs.TextItems.{Script, spoken_by, spoken_group, element_label, text_rows}
+use Rattle.spec_edit.proofs.ItemRows.{shown_texts}
+use Rattle.spec_edit.proofs.SoundElements.{SoundSteps, elements-sound}
 use Rattle.spec_locked_pages.specs.Segments.{has_scene, HasScene}
 use Rattle.spec_locked_pages.proofs.HeadingBlocks.{PlacedLined, blocks-lined}
 use Rattle.spec_locked_pages.proofs.HeadingRows.{IsOf, alone-begins, pair-begins}

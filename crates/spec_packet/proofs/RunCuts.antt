@@ -6,7 +6,7 @@ use Rattle.std.proofs.lemmas.Bool.{cases_Bool, and_parts}
 use Rattle.spec_labels.specs.PageRecords.{SegmentOf, is_empty, onto_run, runs_of}
 use Rattle.spec_labels.proofs.SheetLaws.{in_runs}
 use Rattle.spec_labels.proofs.RunLaws.{IsRun, AreApart}
-use Rattle.spec_collation.specs.SheetLists.{IsIn}
+use Rattle.spec_packet.specs.SheetLists.{IsIn}
 
 -- A segment with rows.
 abbrev pub Full : SegmentOf → Type 0

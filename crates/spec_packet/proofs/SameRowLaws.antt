@@ -10,8 +10,8 @@ use Rattle.spec_pages.specs.declared.Shape.{Shape}
 use Rattle.spec_labels.specs.Labels.{label_cmp}
 use Rattle.spec_labels.specs.declared.RowKey.{RowKey}
 use Rattle.spec_labels.proofs.LabelOrder.{label_cmp-Equal}
-use Rattle.spec_layout.specs.Cells.{ShownText, slice, label, ShownPart, ShownCell}
-use Rattle.spec_layout.specs.Shown.{Shown}
+use Rattle.spec_sheets.specs.Cells.{ShownText, slice, label, ShownPart, ShownCell}
+use Rattle.spec_sheets.specs.Shown.{Shown}
 use Rattle.spec_state.specs.SameRows.{BareRow, bare_of, kind_place, same_flag, same_key, same_shape, same_text, same_part, same_parts, same_cell, same_cells, same_row, same_list, same_rows}
 
 kinds : List RowKind

@@ -10,7 +10,7 @@ use Rattle.spec_state.specs.State.{State}
 use Rattle.spec_state.specs.Keeping.{IsWhole}
 use Rattle.spec_state.specs.StateSheets.{layout_in, rows_in, keys_in, pages_in}
 use Rattle.spec_state.proofs.StateLaws.{state-AreStarts, state-ArePages}
-use Rattle.spec_collation.specs.SheetLists.{IsIn, InOrder}
+use Rattle.spec_packet.specs.SheetLists.{IsIn, InOrder}
 use Rattle.spec_locked_pages.specs.Chains.{IsOpened}
 use Rattle.spec_locked_pages.specs.Segments.{records_in, segments_in, segment_at, pages_of, pages_at, no_segment}
 use Rattle.spec_locked_pages.proofs.OpeningLaws.{length-segments}

@@ -21,13 +21,13 @@ use Rattle.spec_labels.specs.Labels.{LabelOf, IsLabel, between}
 use Rattle.spec_labels.specs.LabelReading.{number_limit, step_limit}
 use Rattle.spec_labels.specs.PageRecords.{PageRecordOf, SegmentOf, is_empty, owner_of, SheetOf, AreSheets, segment_pages, page_label, page_sheets, omitted_sheet, runs_of, run_sheets, segments, record_starts}
 use Rattle.spec_labels.proofs.SheetLaws.{runs_of-all, sheets-AreSheets}
-use Rattle.spec_layout.specs.Cells.{ShownCell}
-use Rattle.spec_layout.specs.Layout.{laid_beside, laid_out, is_title_element}
-use Rattle.spec_layout.specs.Speakers.{Spoken, text_elements}
-use Rattle.spec_layout.specs.Shown.{Shown, shown_of, element_cue, element_shown, heading_label, labels_behind, shown_rows}
-use Rattle.spec_layout.proofs.LayoutLaws.{layout_of-show}
-use Rattle.spec_print.specs.PageRows.{page_body, omitted_rows}
-use Rattle.spec_print.specs.Sheets.{Sheet, sheet_bytes}
+use Rattle.spec_sheets.specs.Cells.{ShownCell}
+use Rattle.spec_sheets.specs.Layout.{laid_beside, laid_out, is_title_element}
+use Rattle.spec_sheets.specs.Speakers.{Spoken, text_elements}
+use Rattle.spec_sheets.specs.Shown.{Shown, shown_of, element_cue, element_shown, heading_label, labels_behind, shown_rows}
+use Rattle.spec_sheets.proofs.LayoutLaws.{layout_of-show}
+use Rattle.spec_sheets.specs.PageRows.{page_body, omitted_rows}
+use Rattle.spec_sheets.specs.Sheets.{Sheet, sheet_bytes}
 use Rattle.spec_records.specs.Kept.{IsLocked, IsAnchored, AreKeptPages}
 use Rattle.spec_records.proofs.BoundLaws.{between-steps, between-number}
 use Rattle.spec_state.specs.State.{State, text_of}
@@ -36,9 +36,9 @@ use Rattle.spec_state.specs.Keeping.{IsWhole}
 use Rattle.spec_state.specs.Printing.{printed_state}
 use Rattle.spec_state.specs.StateSheets.{greatest_mark, title_sheets, layout_in, rows_in, keys_in, titles_in, title_starts, body_sheets, sheets_in, pages_in, sheet_rows, shown_sheet}
 use Rattle.spec_state.proofs.StateLaws.{whole-kept, state-AreKeptPages, state-ArePages}
-use Rattle.spec_collation.specs.SheetLists.{bytes_of, list_bytes, IsIn, AreRising}
-use Rattle.spec_collation.specs.Pieces.{IsReadable, IsPlain}
-use Rattle.spec_collation.proofs.Lists.{map-in}
+use Rattle.spec_packet.specs.SheetLists.{bytes_of, list_bytes, IsIn, AreRising}
+use Rattle.spec_packet.specs.Pieces.{IsReadable, IsPlain}
+use Rattle.spec_packet.proofs.Lists.{map-in}
 use Rattle.spec_locked_pages.specs.Segments.{records_in, segments_in, pages_of}
 use Rattle.spec_locked_pages.proofs.StateStarts.{SomeRecords}
 use Rattle.spec_packet.specs.Packets.{laid_sheets, printed_of, laid_printed}

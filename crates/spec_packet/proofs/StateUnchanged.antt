@@ -10,18 +10,18 @@ use Rattle.spec_labels.specs.declared.RowKey.{RowKey}
 use Rattle.spec_labels.specs.Labels.{LabelOf}
 use Rattle.spec_labels.specs.Scenes.{SceneRecordOf}
 use Rattle.spec_labels.specs.PageRecords.{PageRecordOf, RisingRecords, SegmentOf, is_empty, SheetOf, record_starts}
-use Rattle.spec_layout.specs.Cells.{ShownCell}
-use Rattle.spec_layout.specs.Shown.{Shown}
-use Rattle.spec_print.specs.RowBytes.{ShownRow}
-use Rattle.spec_print.specs.PageRows.{empty_row, starred, led, cue_above, goes_on, more_row, more_below, omitted_rows, page_body}
-use Rattle.spec_print.specs.Sheets.{sheet_bytes}
+use Rattle.spec_sheets.specs.Cells.{ShownCell}
+use Rattle.spec_sheets.specs.Shown.{Shown}
+use Rattle.spec_sheets.specs.RowBytes.{ShownRow}
+use Rattle.spec_sheets.specs.PageRows.{empty_row, starred, led, cue_above, goes_on, more_row, more_below, omitted_rows, page_body}
+use Rattle.spec_sheets.specs.Sheets.{sheet_bytes}
 use Rattle.spec_state.specs.State.{State}
 use Rattle.spec_state.specs.Keeping.{IsWhole}
 use Rattle.spec_state.specs.SameRows.{BareRow, bare_of}
 use Rattle.spec_state.specs.StateSheets.{rows_in, keys_in, sheet_rows}
 use Rattle.spec_state.proofs.StateLaws.{state-AreKeptPages}
-use Rattle.spec_collation.specs.SheetLists.{IsIn, InOrder}
-use Rattle.spec_collation.proofs.Lists.{in-map, in-right}
+use Rattle.spec_packet.specs.SheetLists.{IsIn, InOrder}
+use Rattle.spec_packet.proofs.Lists.{in-map, in-right}
 use Rattle.spec_locked_pages.specs.Chains.{IsOpened}
 use Rattle.spec_locked_pages.specs.Segments.{records_in, segments_in, segment_at, has_scene, HasScene, no_segment}
 use Rattle.spec_locked_pages.proofs.StateStarts.{SomeRecords}

@@ -1,3 +1,8 @@
+pub mod SheetLists
+pub mod SheetReadings
+pub mod Collations
+pub mod BytesCollated
+pub mod Pieces
 pub mod Packets
 pub mod PrintedTexts
 pub mod RecordRows

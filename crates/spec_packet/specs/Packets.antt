@@ -3,11 +3,11 @@ use Rattle.std.specs.Prelude.{◌≡◌, ℕ, ◌+◌, ◌-◌, min, max, Bool, 
 use Rattle.std.specs.List.{list_any, flat_map, prefix_len}
 use Rattle.spec_pages.specs.Pages.{continues_speech}
 use Rattle.spec_labels.specs.PageRecords.{SegmentOf, is_empty, owner_of, SheetOf, segment_pages, page_sheets, page_sheet, omitted_sheet, runs_of, run_sheets}
-use Rattle.spec_layout.specs.Shown.{is_cue}
+use Rattle.spec_sheets.specs.Shown.{is_cue}
 use Rattle.spec_labels.specs.Labels.{Below}
 use Rattle.spec_state.specs.SameRows.{BareRow}
-use Rattle.spec_collation.specs.SheetLists.{PrintedOf, IsIn, InOrder}
-use Rattle.spec_collation.specs.Collations.{Choice}
+use Rattle.spec_packet.specs.SheetLists.{PrintedOf, IsIn, InOrder}
+use Rattle.spec_packet.specs.Collations.{Choice}
 
 -- A text with page records as its sheets see it: the segments of the records, the first row of each page, the rows, and what is
 -- printed of a sheet.

@@ -1,11 +1,11 @@
 -- A text with page records, printed: its title sheets and its sheets with labels (docs/RULES.md, "Packets").
 use Rattle.std.specs.Prelude.{◌≡◌, ℕ, ◌≤◌, List, Some, None}
 use Rattle.spec_labels.specs.PageRecords.{SheetOf}
-use Rattle.spec_print.specs.RowBytes.{ShownRow}
-use Rattle.spec_print.specs.Sheets.{Sheet, sheet_bytes}
-use Rattle.spec_collation.specs.SheetLists.{SheetListOf, IsIn}
-use Rattle.spec_collation.specs.Pieces.{IsPlain, IsReadable}
-use Rattle.spec_collation.specs.Collations.{packet_of}
+use Rattle.spec_sheets.specs.RowBytes.{ShownRow}
+use Rattle.spec_sheets.specs.Sheets.{Sheet, sheet_bytes}
+use Rattle.spec_packet.specs.SheetLists.{SheetListOf, IsIn}
+use Rattle.spec_packet.specs.Pieces.{IsPlain, IsReadable}
+use Rattle.spec_packet.specs.Collations.{packet_of}
 use Rattle.spec_packet.specs.Packets.{LaidOf, laid_sheets, laid_printed, laid_choices}
 
 -- A sheet with labels as a printed page.

@@ -1,10 +1,10 @@
 -- The revision packet of a state (docs/RULES.md, "Packets").
 use Rattle.std.specs.Prelude.{◌≡◌, ℕ, ◌+◌, Bool, true, if◌then◌else◌, List, [], ◌∷◌, ◌++◌, map, slice_index_or, None}
 use Rattle.spec_labels.specs.PageRecords.{SheetOf}
-use Rattle.spec_print.specs.Sheets.{Sheet, sheet_bytes}
-use Rattle.spec_collation.specs.SheetLists.{SheetListOf, list_bytes}
-use Rattle.spec_collation.specs.BytesCollated.{collated_bytes, collating}
-use Rattle.spec_collation.specs.Collations.{is_handed}
+use Rattle.spec_sheets.specs.Sheets.{Sheet, sheet_bytes}
+use Rattle.spec_packet.specs.SheetLists.{SheetListOf, list_bytes}
+use Rattle.spec_packet.specs.BytesCollated.{collated_bytes, collating}
+use Rattle.spec_packet.specs.Collations.{is_handed}
 use Rattle.spec_state.specs.Printing.{printed_state}
 use Rattle.spec_state.specs.SameRows.{bare_of}
 use Rattle.spec_state.specs.State.{State}

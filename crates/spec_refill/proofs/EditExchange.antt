@@ -17,18 +17,18 @@ use Rattle.spec_labels.specs.Anchors.{spot_of, spots_of}
 use Rattle.spec_labels.proofs.SpotLaws.{anchor-follows, first-follows}
 use Rattle.spec_labels.proofs.AnchorLaws.{first_spot, carried-spots}
 use Rattle.spec_labels.proofs.CarryLaws.{Edited}
-use Rattle.spec_layout.specs.Shown.{shape_of}
-use Rattle.spec_layout.proofs.RowLaws.{IsText-texts}
+use Rattle.spec_sheets.specs.Shown.{shape_of}
+use Rattle.spec_sheets.proofs.RowLaws.{IsText-texts}
 use Rattle.spec_state.specs.State.{State, text_of}
 use Rattle.spec_state.specs.Keeping.{IsWhole}
 use Rattle.spec_state.specs.StateSheets.{rows_in, keys_in, layout_in, locked_starts}
 use Rattle.spec_state.specs.Changes.{carried_state, rows_by_record, pages_raised, CanEdit}
-use Rattle.spec_reread.specs.Touched.{WindowBlocks, old_blocks, new_blocks, old_relaid, new_relaid}
-use Rattle.spec_reflow.specs.Windows.{AreStops, AreExchanged}
-use Rattle.spec_relayout.specs.Items.{starts_of_spots}
-use Rattle.spec_relayout.specs.Touched.{EditBlocks}
-use Rattle.spec_relayout.proofs.FairElements.{ElementSound, IsKnown, all-known}
-use Rattle.spec_relayout.proofs.WindowPartners.{Around}
+use Rattle.spec_edit.specs.WindowBlocks.{WindowBlocks, old_blocks, new_blocks, old_relaid, new_relaid}
+use Rattle.spec_edit.specs.PageWindows.{AreStops, AreExchanged}
+use Rattle.spec_edit.specs.Items.{starts_of_spots}
+use Rattle.spec_edit.specs.Touched.{EditBlocks}
+use Rattle.spec_edit.proofs.FairElements.{ElementSound, IsKnown, all-known}
+use Rattle.spec_edit.proofs.WindowPartners.{Around}
 use Rattle.spec_locked_pages.specs.Segments.{pages_of}
 use Rattle.spec_locked_pages.specs.LockedPages.{IsWindowOf, edit_blocks}
 use Rattle.spec_locked_pages.proofs.StateScripts.{script_of, blocks_in, items_of, spoken-blocks, breaks-scripted}

@@ -12,15 +12,15 @@ use Rattle.spec_script.specs.LongestRuns.{Group}
 use Rattle.spec_script.specs.Stanzas.{PlacedBlock}
 use Rattle.spec_script.specs.Elements.{is_dual, elements_in}
 use Rattle.spec_script.proofs.RunSteps.{longest_runs-map}
-use Rattle.spec_reread.specs.Touched.{pushed, WindowBlocks, old_blocks, new_blocks, is_nil, joins, only_last, front_half, rest_half, front_kept, rest_kept, old_relaid, new_relaid}
-use Rattle.spec_reread.proofs.WindowElements.{pushed_group, elements-pushed}
-use Rattle.spec_reread.proofs.RelaidElements.{IsSome, relaid-old, relaid-new}
-use Rattle.spec_relayout.specs.Touched.{EditBlocks}
-use Rattle.spec_relayout.proofs.ItemMoves.{LinesMoved}
-use Rattle.spec_relayout.proofs.ElementMoves.{block_after, element_after}
-use Rattle.spec_relayout.proofs.FairElements.{ElementSound, AllIn, elements-all}
-use Rattle.spec_relayout.proofs.AsideBlocks.{IsAside, front-aside, pushed-aside, kept-aside, fronts-same, rests-same, rests-moved, fronts-moved, front-before, kept-before}
-use Rattle.spec_relayout.proofs.WindowPartners.{Around}
+use Rattle.spec_edit.specs.WindowBlocks.{pushed, WindowBlocks, old_blocks, new_blocks, is_nil, joins, only_last, front_half, rest_half, front_kept, rest_kept, old_relaid, new_relaid}
+use Rattle.spec_edit.proofs.WindowElements.{pushed_group, elements-pushed}
+use Rattle.spec_edit.proofs.RelaidElements.{IsSome, relaid-old, relaid-new}
+use Rattle.spec_edit.specs.Touched.{EditBlocks}
+use Rattle.spec_edit.proofs.ItemMoves.{LinesMoved}
+use Rattle.spec_edit.proofs.ElementMoves.{block_after, element_after}
+use Rattle.spec_edit.proofs.FairElements.{ElementSound, AllIn, elements-all}
+use Rattle.spec_edit.proofs.AsideBlocks.{IsAside, front-aside, pushed-aside, kept-aside, fronts-same, rests-same, rests-moved, fronts-moved, front-before, kept-before}
+use Rattle.spec_edit.proofs.WindowPartners.{Around}
 use Rattle.spec_refill.specs.Exchanges.{count_rows, begins_before, relays_none, elements_before}
 use Rattle.spec_refill.proofs.Marks.{Mark, rows}
 use Rattle.spec_refill.proofs.MarkStarts.{AreRising}

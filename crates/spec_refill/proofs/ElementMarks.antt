@@ -15,12 +15,12 @@ use Rattle.spec_pages.specs.Columns.{has_rows}
 use Rattle.spec_pages.specs.Rows.{Row, spoken_rows, with_speakers, is_title, title_row, block_alone, blocks_beside, single_rows, shifted_row, placed_rows}
 use Rattle.spec_labels.specs.Labels.{LabelOf}
 use Rattle.spec_labels.specs.Spots.{Spot, is_ahead, spot_after}
-use Rattle.spec_layout.specs.Cells.{ShownCell}
-use Rattle.spec_layout.specs.Layout.{is_page_break, laid_out, laid_beside}
-use Rattle.spec_layout.specs.Shown.{element_cue, shape_of}
-use Rattle.spec_relayout.specs.Items.{Sight, page_break as break_sight, row as shown_row, Item, all_sights, shapes_among, breaks_among, start_of, is_front}
-use Rattle.spec_relayout.specs.TextItems.{Script, spoken_group, element_label, text_rows, row_item, row_items, break_items, element_items}
-use Rattle.spec_relayout.proofs.Steps.{AreRising as ItemsRising, IsLeft as ItemLeft, item_after}
+use Rattle.spec_sheets.specs.Cells.{ShownCell}
+use Rattle.spec_sheets.specs.Layout.{is_page_break, laid_out, laid_beside}
+use Rattle.spec_sheets.specs.Shown.{element_cue, shape_of}
+use Rattle.spec_edit.specs.Items.{Sight, page_break as break_sight, row as shown_row, Item, all_sights, shapes_among, breaks_among, start_of, is_front}
+use Rattle.spec_edit.specs.TextItems.{Script, spoken_group, element_label, text_rows, row_item, row_items, break_items, element_items}
+use Rattle.spec_edit.proofs.Steps.{AreRising as ItemsRising, IsLeft as ItemLeft, item_after}
 use Rattle.spec_refill.specs.Exchanges.{silent, silent_group, body_rows, count_rows}
 use Rattle.spec_refill.proofs.Marks.{Mark, page_break, row, spot_in, is_before, shapes, rows, breaks, start, mark_after, rows-append}
 use Rattle.spec_refill.proofs.MarkStarts.{IsLeft, AreRising}

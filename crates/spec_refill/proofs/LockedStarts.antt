@@ -10,14 +10,14 @@ use Rattle.spec_pages.proofs.StartLists.{starts-are}
 use Rattle.spec_labels.specs.declared.RowKey.{RowKey}
 use Rattle.spec_labels.specs.Anchors.{AreKeys}
 use Rattle.spec_labels.specs.PageRecords.{PageRecordOf, SheetOf, extended_page_records}
-use Rattle.spec_layout.specs.Shown.{Shown, shape_of, key_of}
+use Rattle.spec_sheets.specs.Shown.{Shown, shape_of, key_of}
 use Rattle.spec_state.specs.State.{State}
 use Rattle.spec_state.specs.StateSheets.{numbered_sheets, layout_in, rows_in, pages_in, sheets_in}
 use Rattle.spec_state.specs.Openings.{pages_extended, pages_locked, round_begun}
 use Rattle.spec_state.specs.SoundStates.{AreLocked, IsSound}
 use Rattle.spec_state.proofs.StateKeys.{state-keys}
-use Rattle.spec_rounds.proofs.OpeningLaw.{one-fits, first-start, pages-count, sheets-count, first_records, next_records, numbered-Locking, rows-stay}
-use Rattle.spec_rounds.proofs.RoundLaw.{round_records, round-stays-in, Locking, LockStays, lock-stays-in}
+use Rattle.spec_state.proofs.OpeningLaw.{one-fits, first-start, pages-count, sheets-count, first_records, next_records, numbered-Locking, rows-stay}
+use Rattle.spec_state.proofs.RoundLaw.{round_records, round-stays-in, Locking, LockStays, lock-stays-in}
 use Rattle.spec_locked_pages.specs.Segments.{pages_of}
 
 round-pages : (paper : Paper) (lines : List LineState) (rows : List Shown) (breaks : List ℕ) (records : List PageRecordOf) → AreKeys lines (map key_of rows) → AreLocked records

@@ -6,7 +6,7 @@ use Rattle.std.proofs.lemmas.List.Elements.{All-head, All-tail, filter-append}
 use Rattle.spec_text.specs.Ranges.{RangeOf, IsOutside}
 use Rattle.spec_labels.specs.Spots.{Spot, is_ahead, spot_after, Follows}
 use Rattle.spec_labels.proofs.SpotLaws.{ahead-then}
-use Rattle.spec_relayout.proofs.SplitLaws.{none-behind}
+use Rattle.spec_edit.proofs.SplitLaws.{none-behind}
 use Rattle.spec_refill.proofs.Marks.{Mark, page_break, row as shown_row, spot_in, is_before, rows, start, mark_after, rows-append}
 
 -- The edit leaves the line that it stands at.

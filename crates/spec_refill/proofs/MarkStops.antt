@@ -8,7 +8,7 @@ use Rattle.spec_text.specs.Ranges.{RangeOf}
 use Rattle.spec_text.proofs.ListLaws.{Contains-first, Contains-later, Contains-either}
 use Rattle.spec_pages.specs.declared.Shape.{Shape}
 use Rattle.spec_labels.specs.Spots.{Spot, Follows}
-use Rattle.spec_reflow.specs.Windows.{Exchange, moved, AreStops, AreExchanged}
+use Rattle.spec_edit.specs.PageWindows.{Exchange, moved, AreStops, AreExchanged}
 use Rattle.spec_refill.proofs.Marks.{Mark, shapes, rows, breaks, start, mark_after, shapes-append, rows-append, breaks-append, start-append, shapes-moved, breaks-moved, none-there, breaks-among, breaks-shift}
 use Rattle.spec_refill.proofs.MarkStarts.{IsLeft, AreRising, start-moved, start-low, rising-front, start-full}
 

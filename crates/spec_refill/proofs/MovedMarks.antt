@@ -7,14 +7,14 @@ use Rattle.spec_text.specs.Lines.{LineState}
 use Rattle.spec_text.specs.Ranges.{IsOutside, place_after}
 use Rattle.spec_script.specs.LongestRuns.{Group}
 use Rattle.spec_script.specs.Stanzas.{PlacedBlock}
-use Rattle.spec_reread.specs.Touched.{WindowBlocks}
-use Rattle.spec_relayout.specs.Touched.{EditBlocks}
-use Rattle.spec_relayout.specs.TextItems.{Script, element_items}
-use Rattle.spec_relayout.proofs.ItemMoves.{LinesMoved}
-use Rattle.spec_relayout.proofs.ElementMoves.{element_after, items-moved, items-left}
-use Rattle.spec_relayout.proofs.FairElements.{ElementSound, AllIn}
-use Rattle.spec_relayout.proofs.AsideBlocks.{IsAside, left-element}
-use Rattle.spec_relayout.proofs.WindowPartners.{Around}
+use Rattle.spec_edit.specs.WindowBlocks.{WindowBlocks}
+use Rattle.spec_edit.specs.Touched.{EditBlocks}
+use Rattle.spec_edit.specs.TextItems.{Script, element_items}
+use Rattle.spec_edit.proofs.ItemMoves.{LinesMoved}
+use Rattle.spec_edit.proofs.ElementMoves.{element_after, items-moved, items-left}
+use Rattle.spec_edit.proofs.FairElements.{ElementSound, AllIn}
+use Rattle.spec_edit.proofs.AsideBlocks.{IsAside, left-element}
+use Rattle.spec_edit.proofs.WindowPartners.{Around}
 use Rattle.spec_refill.proofs.Marks.{Mark, mark_after}
 use Rattle.spec_refill.proofs.MarkStarts.{IsLeft}
 use Rattle.spec_refill.proofs.ElementMarks.{element_marks, marks_of, mark_of, items-marks, after-marks, marks-left}

@@ -14,7 +14,7 @@ use Rattle.spec_text.specs.Ranges.{range_of}
 use Rattle.spec_pages.specs.Wrapping.{rows_of}
 use Rattle.spec_state.specs.State.{opened_state}
 use Rattle.spec_state.specs.Changes.{edited_state}
-use Rattle.spec_reflow.specs.Windows.{Exchange}
+use Rattle.spec_edit.specs.PageWindows.{Exchange}
 use Rattle.spec_refill.specs.Exchanges.{edit_exchange}
 
 -- What an edit of a script exchanges, where its window is from one line to another.

@@ -8,12 +8,12 @@ use Rattle.spec_script.specs.Stanzas.{PlacedBlock}
 use Rattle.spec_script.specs.Elements.{line_of_block, elements_in}
 use Rattle.spec_pages.specs.Pages.{rows_on}
 use Rattle.spec_pages.specs.Rows.{Row, is_title, placed_rows}
-use Rattle.spec_layout.specs.Speakers.{Spoken}
-use Rattle.spec_layout.specs.Layout.{laid_out}
+use Rattle.spec_sheets.specs.Speakers.{Spoken}
+use Rattle.spec_sheets.specs.Layout.{laid_out}
 use Rattle.spec_state.specs.State.{State}
 use Rattle.spec_state.specs.StateSheets.{layout_in, rows_in, locked_starts}
-use Rattle.spec_reread.specs.Touched.{WindowBlocks, old_blocks, is_nil, front_kept, old_relaid, new_relaid, window_blocks}
-use Rattle.spec_reflow.specs.Windows.{Exchange, page_window}
+use Rattle.spec_edit.specs.WindowBlocks.{WindowBlocks, old_blocks, is_nil, front_kept, old_relaid, new_relaid, window_blocks}
+use Rattle.spec_edit.specs.PageWindows.{Exchange, page_window}
 use Rattle.spec_locked_pages.specs.Segments.{pages_of}
 
 -- A block whose speaker doesn't go on: how many rows an element has doesn't turn on that.

@@ -10,7 +10,7 @@ use Rattle.spec_labels.specs.Scenes.{SceneRecordOf}
 use Rattle.spec_labels.specs.PageRecords.{PageRecordOf, carried_records}
 use Rattle.spec_labels.proofs.PageRecordLaws.{carried-labels}
 use Rattle.spec_records.specs.Kept.{KeptOf, KeepsScenes, AreKeptScenes, scene_steps}
-use Rattle.spec_layout.specs.Shown.{Shown}
+use Rattle.spec_sheets.specs.Shown.{Shown}
 use Rattle.spec_state.specs.State.{State, text_of}
 use Rattle.spec_state.specs.SoundStates.{AreLocked}
 use Rattle.spec_state.specs.SameRows.{same_rows}

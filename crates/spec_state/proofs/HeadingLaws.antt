@@ -15,7 +15,7 @@ use Rattle.spec_labels.specs.Labels.{LabelOf}
 use Rattle.spec_labels.specs.LabelReading.{label_read, IsReading}
 use Rattle.spec_labels.specs.Scenes.{HeadingOf, IsSceneLabel, IsNumbered, AreHeadings, scene_number_limit, scene_step_limit}
 use Rattle.spec_labels.proofs.LabelReadings.{label_read-IsReading}
-use Rattle.spec_layout.proofs.ElementPlaces.{placed_from, placed_to, blocks_of-stand}
+use Rattle.spec_sheets.proofs.ElementPlaces.{placed_from, placed_to, blocks_of-stand}
 use Rattle.spec_text.specs.EditedLines.{no_line, line_of, HasIds}
 use Rattle.spec_state.specs.Headings.{is_heading_block, is_numbered, number_text, letter_limit, as_scene_label, heading_of, headings_of}
 

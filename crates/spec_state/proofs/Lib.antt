@@ -12,3 +12,14 @@ pub mod SheetGets
 pub mod OpenedLaws
 pub mod SheetTexts
 pub mod SameLaws
+pub mod OnePages
+pub mod OpenSheets
+pub mod PageSheets
+pub mod RecordsOpen
+pub mod NewSheets
+pub mod OpenStarts
+pub mod OpenPages
+pub mod SinglePages
+pub mod RoundLaw
+pub mod OpeningLaw
+pub mod SheetsLow

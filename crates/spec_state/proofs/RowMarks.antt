@@ -5,9 +5,9 @@ use Rattle.std.proofs.lemmas.List.{length-map, get_or-map}
 use Rattle.std.proofs.lemmas.List.Elements.{All-head, All-tail, All-take, All-drop}
 use Rattle.spec_labels.specs.declared.RowKey.{RowKey}
 use Rattle.spec_pages.specs.Rows.{Row}
-use Rattle.spec_layout.specs.Shown.{Shown, mark_of, row_key, no_row}
-use Rattle.spec_layout.proofs.RowFacts.{LowRow, layout_of-low}
-use Rattle.spec_layout.proofs.ShownLaws.{shown_rows-marks, length-shown_rows}
+use Rattle.spec_sheets.specs.Shown.{Shown, mark_of, row_key, no_row}
+use Rattle.spec_sheets.proofs.RowFacts.{LowRow, layout_of-low}
+use Rattle.spec_sheets.proofs.ShownLaws.{shown_rows-marks, length-shown_rows}
 use Rattle.spec_state.specs.State.{State, text_of}
 use Rattle.spec_state.specs.Headings.{heading_labels}
 use Rattle.spec_state.specs.StateSheets.{greatest_mark, layout_in, rows_in, keys_in}

@@ -8,7 +8,7 @@ use Rattle.std.proofs.lemmas.Slice.Eq.{bytes_eq-Decides}
 use Rattle.spec_pages.specs.declared.Shape.{Shape}
 use Rattle.spec_labels.specs.declared.RowKey.{RowKey}
 use Rattle.spec_labels.proofs.LabelOrder.{label_cmp_total}
-use Rattle.spec_layout.specs.Cells.{ShownText, slice, label, ShownPart, ShownCell}
+use Rattle.spec_sheets.specs.Cells.{ShownText, slice, label, ShownPart, ShownCell}
 use Rattle.spec_state.specs.SameRows.{BareRow, kind_place, same_flag, same_key, same_shape, same_text, same_part, same_parts, same_cell, same_cells, same_row, same_list}
 
 flag-itself : (flag : Bool) → same_flag flag flag ≡ true

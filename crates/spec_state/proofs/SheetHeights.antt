@@ -12,13 +12,13 @@ use Rattle.spec_pages.specs.Pages.{carried, height_of}
 use Rattle.spec_pages.specs.Pages as pages
 use Rattle.spec_pages.specs.OwnPages.{left_open, AreJoined}
 use Rattle.spec_pages.specs.Rows.{Row, title_shape}
-use Rattle.spec_layout.specs.Layout.{placed_in}
-use Rattle.spec_layout.specs.Layout as layout
-use Rattle.spec_layout.specs.Shown.{Shown, shape_of, no_row}
-use Rattle.spec_layout.proofs.JoinLaws.{layout-joined}
-use Rattle.spec_layout.proofs.ShownLaws.{shown_rows-shapes}
-use Rattle.spec_layout.proofs.TitleRows.{layout_of-titles}
-use Rattle.spec_print.specs.PageRows.{lead_of, height_above, height_below, page_height}
+use Rattle.spec_sheets.specs.Layout.{placed_in}
+use Rattle.spec_sheets.specs.Layout as layout
+use Rattle.spec_sheets.specs.Shown.{Shown, shape_of, no_row}
+use Rattle.spec_sheets.proofs.JoinLaws.{layout-joined}
+use Rattle.spec_sheets.proofs.ShownLaws.{shown_rows-shapes}
+use Rattle.spec_sheets.proofs.TitleRows.{layout_of-titles}
+use Rattle.spec_sheets.specs.PageRows.{lead_of, height_above, height_below, page_height}
 use Rattle.spec_state.specs.State.{State, text_of}
 use Rattle.spec_state.specs.Headings.{heading_labels}
 use Rattle.spec_state.specs.StateSheets.{layout_in, rows_in, titles_in}

@@ -16,18 +16,18 @@ use Rattle.spec_pages.specs.Rows.{ElementOf}
 use Rattle.spec_labels.specs.Labels.{LabelOf, label_cmp, label_text}
 use Rattle.spec_labels.specs.PageRecords.{SheetOf}
 use Rattle.spec_labels.proofs.LabelBytes.{label-utf8}
-use Rattle.spec_layout.specs.Cells.{ShownText, slice, label, ShownPart, ShownCell, text_at, shown_bytes, part_text, fixed_cell, RowShows}
-use Rattle.spec_layout.specs.Layout.{placed_in, layout_of}
-use Rattle.spec_layout.specs.Shown.{shown_rows}
-use Rattle.spec_layout.proofs.RowLaws.{IsText-texts}
-use Rattle.spec_layout.proofs.LayoutLaws.{layout_of-show}
-use Rattle.spec_print.specs.RowBytes.{ShownRow, spaces, untabbed, part_bytes, is_blank, gap, cell_bytes, columns_behind, cells_bytes, star_cells, row_bytes, row_line}
-use Rattle.spec_print.specs.PageRows.{page_body, omitted_rows}
-use Rattle.spec_print.specs.PageTexts.{fixed_texts, IsGiven, CellGiven, RowGiven}
-use Rattle.spec_print.specs.Rounds.{round_name}
-use Rattle.spec_print.specs.Sheets.{Sheet, SheetLabelOf, sheet_label_text, ending_cell, label_cells, round_cells, header_row, sheet_bytes}
-use Rattle.spec_print.proofs.RoundBytes.{IsRoundByte, round-name}
-use Rattle.spec_print.proofs.PageParts.{page_body-given, omitted-given}
+use Rattle.spec_sheets.specs.Cells.{ShownText, slice, label, ShownPart, ShownCell, text_at, shown_bytes, part_text, fixed_cell, RowShows}
+use Rattle.spec_sheets.specs.Layout.{placed_in, layout_of}
+use Rattle.spec_sheets.specs.Shown.{shown_rows}
+use Rattle.spec_sheets.proofs.RowLaws.{IsText-texts}
+use Rattle.spec_sheets.proofs.LayoutLaws.{layout_of-show}
+use Rattle.spec_sheets.specs.RowBytes.{ShownRow, spaces, untabbed, part_bytes, is_blank, gap, cell_bytes, columns_behind, cells_bytes, star_cells, row_bytes, row_line}
+use Rattle.spec_sheets.specs.PageRows.{page_body, omitted_rows}
+use Rattle.spec_sheets.specs.PageTexts.{fixed_texts, IsGiven, CellGiven, RowGiven}
+use Rattle.spec_sheets.specs.Rounds.{round_name}
+use Rattle.spec_sheets.specs.Sheets.{Sheet, SheetLabelOf, sheet_label_text, ending_cell, label_cells, round_cells, header_row, sheet_bytes}
+use Rattle.spec_sheets.proofs.RoundBytes.{IsRoundByte, round-name}
+use Rattle.spec_sheets.proofs.PageParts.{page_body-given, omitted-given}
 use Rattle.spec_state.specs.State.{State, text_of}
 use Rattle.spec_state.specs.Headings.{heading_labels}
 use Rattle.spec_state.specs.Keeping.{IsWhole}

@@ -12,12 +12,12 @@ use Rattle.spec_labels.specs.Scenes.{AreHeadings}
 use Rattle.spec_labels.specs.PageRecords.{line_at, is_before}
 use Rattle.spec_labels.specs.Anchors.{AreKeys}
 use Rattle.spec_labels.proofs.CarryLaws.{place-is}
-use Rattle.spec_layout.specs.Layout.{KeyBelow, placed_in}
-use Rattle.spec_layout.specs.Shown.{no_row, row_key}
-use Rattle.spec_layout.proofs.RowLaws.{IsText-texts}
-use Rattle.spec_layout.proofs.LayoutLaws.{layout_of-show}
-use Rattle.spec_layout.proofs.RowKeys.{layout_of-keys}
-use Rattle.spec_layout.proofs.ShownLaws.{shown_rows-keys}
+use Rattle.spec_sheets.specs.Layout.{KeyBelow, placed_in}
+use Rattle.spec_sheets.specs.Shown.{no_row, row_key}
+use Rattle.spec_sheets.proofs.RowLaws.{IsText-texts}
+use Rattle.spec_sheets.proofs.LayoutLaws.{layout_of-show}
+use Rattle.spec_sheets.proofs.RowKeys.{layout_of-keys}
+use Rattle.spec_sheets.proofs.ShownLaws.{shown_rows-keys}
 use Rattle.spec_state.specs.State.{State, text_of}
 use Rattle.spec_state.specs.Headings.{headings_of, heading_labels}
 use Rattle.spec_state.specs.StateSheets.{layout_in, keys_in}

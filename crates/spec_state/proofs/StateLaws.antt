@@ -17,9 +17,9 @@ use Rattle.spec_labels.proofs.SheetCover.{sheets-Cover}
 use Rattle.spec_labels.proofs.SheetExtents.{sheets-Lie}
 use Rattle.spec_labels.proofs.StartLaws.{record_starts-AreStarts}
 use Rattle.spec_records.specs.Kept.{AreKeptPages, KeepsPages}
-use Rattle.spec_layout.specs.Shown.{shape_of, key_of}
-use Rattle.spec_layout.proofs.RowCounts.{layout_of-few}
-use Rattle.spec_layout.proofs.ShownLaws.{length-shown_rows}
+use Rattle.spec_sheets.specs.Shown.{shape_of, key_of}
+use Rattle.spec_sheets.proofs.RowCounts.{layout_of-few}
+use Rattle.spec_sheets.proofs.ShownLaws.{length-shown_rows}
 use Rattle.spec_state.specs.State.{State, text_of}
 use Rattle.spec_state.specs.Headings.{heading_labels}
 use Rattle.spec_state.specs.StateSheets.{layout_in, rows_in, keys_in, pages_in, sheets_in}

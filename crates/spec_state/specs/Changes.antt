@@ -3,7 +3,7 @@ use Rattle.std.specs.Prelude.{ℕ, ◌+◌, ◌≤◌, Bool, if◌then◌else◌
 use Rattle.spec_text.specs.Lines.{TextState, IsText}
 use Rattle.spec_text.specs.Edits.{Replacement, changed}
 use Rattle.spec_labels.specs.PageRecords.{PageRecordOf, record_starts, carried_records}
-use Rattle.spec_layout.specs.Shown.{Shown}
+use Rattle.spec_sheets.specs.Shown.{Shown}
 use Rattle.spec_state.specs.State.{State, text_of}
 use Rattle.spec_state.specs.StateSheets.{rows_in, keys_in}
 use Rattle.spec_state.specs.SameRows.{same_rows}

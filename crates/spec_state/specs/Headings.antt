@@ -11,7 +11,7 @@ use Rattle.spec_pages.specs.Rows.{line_state}
 use Rattle.spec_labels.specs.Labels.{LabelOf}
 use Rattle.spec_labels.specs.LabelReading.{label_read}
 use Rattle.spec_labels.specs.Scenes.{HeadingOf, SceneRecordOf, scene_number_limit, scene_step_limit, locked_labels}
-use Rattle.spec_layout.specs.Cells.{text_at}
+use Rattle.spec_sheets.specs.Cells.{text_at}
 
 abbrev pub is_heading_kind : Kind → Bool
 is_heading_kind kinds.Heading = true

@@ -2,7 +2,7 @@
 use Rattle.std.specs.Prelude.{ℕ, List}
 use Rattle.std.specs.List.{flat_map}
 use Rattle.spec_text.specs.Lines.{Reading, text_full, not_utf8, line_full, lines, reading_of}
-use Rattle.spec_print.specs.Sheets.{sheet_bytes}
+use Rattle.spec_sheets.specs.Sheets.{sheet_bytes}
 use Rattle.spec_state.specs.State.{State, opened_state}
 use Rattle.spec_state.specs.StateSheets.{sheets_of_state}
 

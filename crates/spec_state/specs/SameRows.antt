@@ -6,8 +6,8 @@ use Rattle.spec_pages.specs.declared.RowKind.TheVariants.{Heading, Action, Cue, 
 use Rattle.spec_pages.specs.declared.Shape.{Shape}
 use Rattle.spec_labels.specs.declared.RowKey.{RowKey}
 use Rattle.spec_labels.specs.Labels.{label_cmp}
-use Rattle.spec_layout.specs.Cells.{ShownText, slice, label, ShownPart, ShownCell}
-use Rattle.spec_layout.specs.Shown.{Shown}
+use Rattle.spec_sheets.specs.Cells.{ShownText, slice, label, ShownPart, ShownCell}
+use Rattle.spec_sheets.specs.Shown.{Shown}
 
 -- What an edit sees of a row: its key, its shape with its lead, its mark, and its cells without the scene number.
 pub record BareRow : Type 0 where

@@ -5,11 +5,11 @@ use Rattle.spec_pages.specs.Pages.{page_starts, rows_on}
 use Rattle.spec_labels.specs.declared.RowKey.{RowKey}
 use Rattle.spec_labels.specs.Labels.{plain_label}
 use Rattle.spec_labels.specs.PageRecords.{PageRecordOf, SheetOf, record_starts, sheets_of_records}
-use Rattle.spec_layout.specs.Layout.{Layout, layout_of}
-use Rattle.spec_layout.specs.Shown.{Shown, shown_rows, shape_of, key_of}
-use Rattle.spec_print.specs.RowBytes.{ShownRow}
-use Rattle.spec_print.specs.PageRows.{page_body, omitted_rows}
-use Rattle.spec_print.specs.Sheets.{Sheet, sheet_bytes}
+use Rattle.spec_sheets.specs.Layout.{Layout, layout_of}
+use Rattle.spec_sheets.specs.Shown.{Shown, shown_rows, shape_of, key_of}
+use Rattle.spec_sheets.specs.RowBytes.{ShownRow}
+use Rattle.spec_sheets.specs.PageRows.{page_body, omitted_rows}
+use Rattle.spec_sheets.specs.Sheets.{Sheet, sheet_bytes}
 use Rattle.spec_state.specs.State.{State}
 use Rattle.spec_state.specs.Headings.{heading_labels}
 

@@ -2,7 +2,7 @@ use Rattle.std.proofs.Common.{ap}
 use Rattle.std.proofs.lemmas.Result.{IfOk-weaker}
 use Rattle.spec_script.specs.Left.{Left}
 use Rattle.spec_script.specs.Divisions.{listed_line}
-use Rattle.sp_block_values.proofs.Each.{each-more}
+use Rattle.sp_blocks.proofs.Each.{each-more}
 use Rattle.sp_blocks.proofs.Groups.{each-line, group-made, heading-made}
 use Rattle.sp_blocks.proofs.divisions.group.Goals as goal
 

@@ -1,7 +1,7 @@
 use Rattle.std.proofs.Common.{ap}
 use Rattle.spec_script.specs.Left.{Left}
 use Rattle.spec_script.specs.Speeches.{spoken}
-use Rattle.sp_block_values.proofs.Each.{each-more}
+use Rattle.sp_blocks.proofs.Each.{each-more}
 use Rattle.sp_blocks.proofs.Groups.{each-line, speech-made}
 use Rattle.sp_blocks.proofs.speeches.speech.Goals as goal
 

@@ -1,5 +1,5 @@
 use Rattle.std.proofs.Common.{◌≡◌, ◌-◌, ◌≤◌, drop, length}
-use Rattle.spec_layout.specs.Cells.{without_numbers}
+use Rattle.spec_sheets.specs.Cells.{without_numbers}
 use Rattle.sp_compare.proofs.cells.next_bare.Given as goal
 
 abbrev pub invariant-loop-place : goal.invariant-loop-place

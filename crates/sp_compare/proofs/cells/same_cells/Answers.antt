@@ -2,7 +2,7 @@ use Rattle.std.proofs.Common.{◌+◌, ◌<◌, Bool, length, drop, ap, ap₂, s
 use Rattle.std.specs.Prelude.{◌&&◌}
 use Rattle.spec_text.specs.Lines.{line_texts}
 use Rattle.spec_pages.specs.Rows.{shifted_cell}
-use Rattle.spec_layout.specs.Cells.{ShowsParts}
+use Rattle.spec_sheets.specs.Cells.{ShowsParts}
 use Rattle.spec_state.specs.SameRows.{same_cells}
 use Rattle.sp_compare.specs.BareRows.{bare_cells}
 use Rattle.sp_compare.proofs.CellLists.{All-image, bare-end, bare-ends, bare-item, bare-past}

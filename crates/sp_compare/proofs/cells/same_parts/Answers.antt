@@ -1,7 +1,7 @@
 use Rattle.std.proofs.Common.{sym, ◌∙◌, arith}
 use Rattle.std.proofs.lemmas.List.{length-map}
 use Rattle.spec_script.proofs.RunPlaces.{run-lies}
-use Rattle.spec_layout.specs.Cells.{shown_part}
+use Rattle.spec_sheets.specs.Cells.{shown_part}
 use Rattle.sp_compare.proofs.CellLists.{parts-differ}
 use Rattle.sp_compare.proofs.cells.same_parts.Goals as goal
 

@@ -1,5 +1,5 @@
 use Rattle.std.proofs.Common.{◌≡◌, drop, map}
-use Rattle.spec_layout.specs.Cells.{shown_part}
+use Rattle.spec_sheets.specs.Cells.{shown_part}
 use Rattle.spec_state.specs.SameRows.{same_parts}
 use Rattle.sp_compare.proofs.cells.same_parts.Given as goal
 

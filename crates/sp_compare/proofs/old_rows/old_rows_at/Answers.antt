@@ -1,8 +1,8 @@
 use Rattle.std.proofs.Common.{◌≡◌, Option, Some, List, ap, sym, ◌∙◌}
 use Rattle.spec_pages.specs.Rows.{Row, ElementOf}
-use Rattle.sp_elements.specs.Bodies.{keyed_elements}
-use Rattle.sp_elements.specs.Exchanges.{rows_at, with_rows_at}
-use Rattle.sp_elements.proofs.RowSwaps.{rows-get, rows_at-new}
+use Rattle.sp_layout.specs.Bodies.{keyed_elements}
+use Rattle.sp_layout.specs.Exchanges.{rows_at, with_rows_at}
+use Rattle.sp_layout.proofs.RowSwaps.{rows-get, rows_at-new}
 use Rattle.sp_compare.specs.OldElements.{OtherRowsOf, with_others}
 use Rattle.sp_compare.proofs.OtherRowLaws.{rows-elsewhere}
 use Rattle.sp_compare.proofs.RowPlaces.{element-read}

@@ -2,7 +2,7 @@ use Rattle.std.proofs.Common.{◌+◌, ◌-◌, ◌<◌, List, length, take, get
 use Rattle.std.proofs.lemmas.Option.{get_or_from_slice_get}
 use Rattle.spec_pages.specs.Rows.{Row, ElementOf}
 use Rattle.spec_labels.specs.declared.RowKey.{RowKey}
-use Rattle.sp_elements.specs.Bodies.{StandsIn, keyed_elements, row_count}
+use Rattle.sp_layout.specs.Bodies.{StandsIn, keyed_elements, row_count}
 use Rattle.sp_compare.proofs.OldRowLaws.{moves-here, row-later, was-inside}
 use Rattle.sp_compare.proofs.RowPlaces.{element-read}
 use Rattle.sp_compare.proofs.old_rows.row_behind.Goals as goal

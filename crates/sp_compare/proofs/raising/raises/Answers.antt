@@ -1,8 +1,8 @@
 use Rattle.std.proofs.Common.{◌≡◌, ◌+◌, ◌<◌, false, List, [], ◌∷◌, ◌++◌, length, get_or, sym, ap, ◌∙◌, subst, arith}
 use Rattle.spec_labels.specs.declared.Moved.{Moved}
 use Rattle.spec_labels.specs.PageRecords.{PageRecordOf, moved_of}
-use Rattle.spec_layout.specs.Shown.{shown_rows}
-use Rattle.spec_layout.proofs.ShownLaws.{length-shown_rows}
+use Rattle.spec_sheets.specs.Shown.{shown_rows}
+use Rattle.spec_sheets.proofs.ShownLaws.{length-shown_rows}
 use Rattle.spec_state.specs.Changes.{raised, segment_rows}
 use Rattle.sp_compare.specs.Raised.{raises}
 use Rattle.sp_compare.proofs.RaisedSteps.{left_from, raises-other, raises-same, same-at}

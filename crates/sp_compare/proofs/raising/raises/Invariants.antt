@@ -1,6 +1,6 @@
 use Rattle.std.proofs.Common.{◌≡◌, ◌++◌, List, Option, drop}
 use Rattle.spec_labels.specs.Labels.{LabelOf}
-use Rattle.spec_layout.specs.Shown.{shown_rows}
+use Rattle.spec_sheets.specs.Shown.{shown_rows}
 use Rattle.spec_state.specs.Changes.{segment_rows}
 use Rattle.sp_compare.specs.Raised.{raises}
 use Rattle.sp_compare.proofs.raising.raises.Given as goal

@@ -1,9 +1,9 @@
 use Rattle.std.proofs.Common.{rules, sym, subst}
 use Rattle.spec_labels.specs.Scenes.{AreHeadings}
 use Rattle.spec_state.proofs.StateKeys.{text-headings}
-use Rattle.sp_made_parts.proofs.MadeSheets.{body-lie}
-use Rattle.sp_entries.specs.Sheets.{AreInTurn}
-use Rattle.sp_entries.proofs.SheetFinds.{body-turn}
+use Rattle.sp_sheets.proofs.MadeSheets.{body-lie}
+use Rattle.sp_contents.specs.Sheets.{AreInTurn}
+use Rattle.sp_contents.proofs.SheetFinds.{body-turn}
 use Rattle.sp_contents.proofs.scenes.scenes_with.Goals as goal
 
 pub labels_of-requires-clause-headings : goal.labels_of-requires-clause-headings

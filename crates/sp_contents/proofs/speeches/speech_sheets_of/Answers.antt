@@ -1,7 +1,7 @@
 use Rattle.std.proofs.Common.{sym, subst}
-use Rattle.sp_made_parts.proofs.MadeSheets.{body-lie}
-use Rattle.sp_entries.specs.Sheets.{AreInTurn}
-use Rattle.sp_entries.proofs.SheetFinds.{body-turn}
+use Rattle.sp_sheets.proofs.MadeSheets.{body-lie}
+use Rattle.sp_contents.specs.Sheets.{AreInTurn}
+use Rattle.sp_contents.proofs.SheetFinds.{body-turn}
 use Rattle.sp_contents.proofs.speeches.speech_sheets_of.Goals as goal
 
 pub speech_sheets-requires : goal.speech_sheets-requires

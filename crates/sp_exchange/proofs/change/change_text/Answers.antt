@@ -3,7 +3,7 @@ use Rattle.spec_text.specs.Lines.{TextState, line_texts}
 use Rattle.spec_text.specs.Edits.{replacement_of}
 use Rattle.spec_text.specs.Ranges.{range_of}
 use Rattle.spec_script.specs.BlockValues.{StanzaOf}
-use Rattle.spec_reread.specs.Windows.{CountsWindow}
+use Rattle.spec_edit.specs.Windows.{CountsWindow}
 use Rattle.sp_text.specs.Changing.{edit_of}
 use Rattle.sp_text.specs.DisplacedLines.{displaced_of}
 use Rattle.sp_text.specs.Gap.{text_of}

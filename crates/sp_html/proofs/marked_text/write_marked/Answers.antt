@@ -1,10 +1,10 @@
 use Rattle.std.proofs.Common.{◌++◌}
 use Rattle.sp_kit.proofs.Writing.{writes_then, writes_failed}
-use Rattle.spec_layout.specs.Cells.{shown_bytes}
-use Rattle.spec_print.specs.RowBytes.{untabbed}
+use Rattle.spec_sheets.specs.Cells.{shown_bytes}
+use Rattle.spec_sheets.specs.RowBytes.{untabbed}
 use Rattle.spec_html.specs.HtmlSheets.{escaped}
 use Rattle.spec_html.specs.Marks.{closing, marks_of}
-use Rattle.sp_views.specs.Views.{text_of}
+use Rattle.sp_print.specs.Views.{text_of}
 use Rattle.sp_html.proofs.marked_text.write_marked.Goals as goal
 
 pub returns-in_err-write_opening : goal.returns-in_err-write_opening

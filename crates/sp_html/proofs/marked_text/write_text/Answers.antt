@@ -1,12 +1,12 @@
 use Rattle.std.proofs.Common.{ap, sym, ◌∙◌}
 use Rattle.spec_labels.specs.Labels.{label_text}
 use Rattle.sp_kit.proofs.Writing.{writes_as}
-use Rattle.spec_layout.specs.Cells.{shown_bytes}
-use Rattle.spec_print.specs.RowBytes.{untabbed}
+use Rattle.spec_sheets.specs.Cells.{shown_bytes}
+use Rattle.spec_sheets.specs.RowBytes.{untabbed}
 use Rattle.spec_html.specs.HtmlSheets.{escaped}
 use Rattle.spec_html.proofs.PlainLabels.{escaped-plain, untabbed-plain}
 use Rattle.spec_html.proofs.PlainLabels as plain
-use Rattle.sp_views.specs.Views.{text_of}
+use Rattle.sp_print.specs.Views.{text_of}
 use Rattle.sp_print.proofs.PrintedLabels as printed
 use Rattle.sp_html.proofs.marked_text.write_text.Goals as goal
 

@@ -2,8 +2,8 @@ use Rattle.std.proofs.Common.{◌++◌, ap, sym}
 use Rattle.std.specs.Prelude.{codes}
 use Rattle.std.specs.List.{flat_map}
 use Rattle.sp_kit.proofs.Writing.{writes_as, writes_then, writes_failed}
-use Rattle.spec_print.specs.RowBytes.{row_bytes}
-use Rattle.spec_print.specs.Sheets.{header_row}
+use Rattle.spec_sheets.specs.RowBytes.{row_bytes}
+use Rattle.spec_sheets.specs.Sheets.{header_row}
 use Rattle.spec_html.specs.HtmlSheets.{row_html_line}
 use Rattle.spec_html.proofs.HeaderPlain.{header-html}
 use Rattle.sp_html.proofs.sheet.write_sheet.Goals as goal

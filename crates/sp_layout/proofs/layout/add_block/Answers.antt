@@ -4,7 +4,7 @@ use Rattle.std.specs.Prelude.{All}
 use Rattle.spec_text.specs.Lines.{line_texts}
 use Rattle.spec_script.specs.Elements.{PlacedLies}
 use Rattle.spec_pages.specs.Rows.{Row}
-use Rattle.spec_layout.proofs.RowLaws.{single_rows-inside}
+use Rattle.spec_sheets.proofs.RowLaws.{single_rows-inside}
 use Rattle.sp_layout.proofs.layout.add_block.Goals as goal
 
 pub push-requires-clause-inside : goal.push-requires-clause-inside

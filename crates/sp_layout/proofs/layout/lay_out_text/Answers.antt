@@ -5,7 +5,7 @@ use Rattle.spec_text.specs.Lines.{line_texts}
 use Rattle.spec_script.specs.Stanzas.{blocks_of}
 use Rattle.spec_script.specs.Elements.{PlacedLies, PlacesRise}
 use Rattle.spec_script.proofs.BlockPlaces.{blocks_of-lie}
-use Rattle.spec_layout.proofs.RowLaws.{IsText-texts}
+use Rattle.spec_sheets.proofs.RowLaws.{IsText-texts}
 use Rattle.sp_text.specs.Gap.{text_of}
 use Rattle.sp_layout.specs.LaidOut.{IsLayoutOf, layout_behind}
 use Rattle.sp_layout.specs.Speaking.{speakers_before}

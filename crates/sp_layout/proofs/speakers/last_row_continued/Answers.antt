@@ -3,8 +3,8 @@ use Rattle.std.specs.Prelude.{IfOk}
 use Rattle.std.specs.List.{ends_with}
 use Rattle.spec_script.specs.declared.Run.{Run}
 use Rattle.spec_pages.specs.Wrapping.{WrappedRow}
-use Rattle.spec_layout.specs.Cells.{continued}
-use Rattle.spec_layout.specs.Speakers.{shown_text}
+use Rattle.spec_sheets.specs.Cells.{continued}
+use Rattle.spec_sheets.specs.Speakers.{shown_text}
 use Rattle.sp_layout.proofs.LastRows.{last_row-get}
 use Rattle.sp_layout.proofs.speakers.last_row_continued.Goals as goal
 

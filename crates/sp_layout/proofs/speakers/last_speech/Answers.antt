@@ -3,7 +3,7 @@ use Rattle.std.proofs.lemmas.List.{get_or_read_under}
 use Rattle.spec_script.specs.declared.Kind.{Kind}
 use Rattle.spec_script.specs.BlockValues.{BlockOf}
 use Rattle.spec_script.specs.Stanzas.{PlacedBlock}
-use Rattle.spec_layout.specs.Speakers.{name_in, cue_text, speaker_by}
+use Rattle.spec_sheets.specs.Speakers.{name_in, cue_text, speaker_by}
 use Rattle.sp_layout.specs.Speaking.{last_speaker}
 use Rattle.sp_layout.proofs.LastSpeakers.{IsQuiet, last_speaker-at, quiet-more}
 use Rattle.sp_layout.proofs.speakers.last_speech.Goals as goal

@@ -3,7 +3,7 @@ use Rattle.std.specs.Prelude.{All, AllPairs, slice_range}
 use Rattle.std.specs.List.{prefix_len}
 use Rattle.std.proofs.lemmas.List.{length-map, take_rest}
 use Rattle.spec_labels.specs.PageRecords.{SheetOf}
-use Rattle.spec_layout.specs.Shown.{shape_of}
+use Rattle.spec_sheets.specs.Shown.{shape_of}
 use Rattle.spec_pages.specs.declared.Shape.{Shape}
 use Rattle.spec_state.specs.StateSheets.{body_sheets, rows_in}
 use Rattle.spec_locked_pages.specs.Segments.{records_in}

@@ -1,7 +1,7 @@
 use Rattle.std.proofs.Common.{◌≡◌, suc, ◌+◌, length, ap, ◌∙◌, arith}
 use Rattle.std.proofs.lemmas.Grind.{common_steps}
 use Rattle.spec_pages.specs.declared.Shape.{Shape}
-use Rattle.spec_print.specs.PageRows.{height_above, page_height}
+use Rattle.spec_sheets.specs.PageRows.{height_above, page_height}
 use Rattle.sp_print.proofs.SlotLaws.{height-first, height-next, height_from}
 use Rattle.sp_print.proofs.slots.page_height.Goals as goal
 

@@ -1,5 +1,5 @@
 use Rattle.std.proofs.Common.{◌≡◌, ◌+◌, ◌*◌, ◌≤◌, length}
-use Rattle.spec_print.specs.PageRows.{page_height}
+use Rattle.spec_sheets.specs.PageRows.{page_height}
 use Rattle.sp_print.proofs.SlotLaws.{height_from}
 use Rattle.sp_print.proofs.slots.page_height.Given as goal
 

@@ -1,6 +1,6 @@
 use Rattle.std.proofs.Common.{◌≡◌, ◌∷◌, slice_get, ap, sym, ◌∙◌, subst, arith, List, []}
 use Rattle.std.specs.Prelude.{MatchOption}
-use Rattle.spec_print.specs.RowBytes.{ShownRow}
+use Rattle.spec_sheets.specs.RowBytes.{ShownRow}
 use Rattle.sp_print.proofs.Places.{drop-none, first-left}
 use Rattle.sp_print.proofs.SlotLaws.{next-step}
 use Rattle.sp_print.proofs.slots.slot_at.Goals as goal

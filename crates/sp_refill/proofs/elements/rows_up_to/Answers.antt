@@ -1,7 +1,7 @@
 use Rattle.std.proofs.Common.{◌≡◌, ◌+◌, ◌≤◌, true, false, List, length, ap, subst, ◌∙◌, take, arith}
 use Rattle.spec_pages.specs.Rows.{ElementOf}
-use Rattle.sp_elements.specs.Bodies.{row_count}
-use Rattle.sp_elements.specs.Places.{CountsBefore}
+use Rattle.sp_layout.specs.Bodies.{row_count}
+use Rattle.sp_layout.specs.Places.{CountsBefore}
 use Rattle.sp_refill.specs.Counts.{one_if}
 use Rattle.sp_refill.proofs.Bodies.{up-to-found, rest-some}
 use Rattle.sp_refill.proofs.elements.rows_up_to.Goals as goal

@@ -3,9 +3,9 @@ use Rattle.std.specs.Prelude.{min}
 use Rattle.spec_text.specs.Ranges.{range_of}
 use Rattle.spec_state.specs.StateSheets.{layout_in}
 use Rattle.spec_state.specs.Changes.{edited_state}
-use Rattle.spec_reread.specs.Windows.{stanza_lines_in}
+use Rattle.spec_edit.specs.Windows.{stanza_lines_in}
 use Rattle.spec_refill.specs.Exchanges.{edit_exchange}
-use Rattle.sp_elements.specs.Bodies.{row_count}
+use Rattle.sp_layout.specs.Bodies.{row_count}
 use Rattle.sp_refill.specs.Edits.{AreAhead, RowsAheadOf}
 use Rattle.sp_refill.proofs.Found.{SomeFound, behind-found, window-found, at-rest, IsPast, same-exchange, InOrder, found-order}
 use Rattle.sp_refill.proofs.finder.exchanged_rows.Goals as goal

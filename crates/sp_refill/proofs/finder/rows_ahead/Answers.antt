@@ -1,7 +1,7 @@
 use Rattle.std.proofs.Common.{take, sym, ap, ◌∙◌, arith}
 use Rattle.spec_state.specs.StateSheets.{layout_in}
 use Rattle.spec_state.specs.Changes.{edited_state}
-use Rattle.spec_reread.specs.Windows.{stanza_lines_in}
+use Rattle.spec_edit.specs.Windows.{stanza_lines_in}
 use Rattle.sp_refill.proofs.Found.{SomeFound, ahead-found, at-front}
 use Rattle.sp_refill.proofs.finder.rows_ahead.Goals as goal
 use Rattle.sp_refill.proofs.finder.rows_ahead.Goals.{Start}

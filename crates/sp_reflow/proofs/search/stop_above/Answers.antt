@@ -1,7 +1,7 @@
 use Rattle.std.proofs.Common.{sym, ap, ◌∙◌, arith, slice_get, unwrap_or}
 use Rattle.std.proofs.lemmas.Grind.{common_steps}
 use Rattle.std.proofs.lemmas.Option.{gets, unwrap_or-slice_get}
-use Rattle.spec_reflow.proofs.NearStops.{next_stop-find}
+use Rattle.spec_edit.proofs.NearStops.{next_stop-find}
 use Rattle.sp_reflow.proofs.Searches.{find-above}
 use Rattle.sp_reflow.proofs.search.stop_above.Goals as goal
 

@@ -1,7 +1,7 @@
 use Rattle.std.proofs.Common.{◌≡◌, ◌-◌, take, slice_range, ap, ◌∙◌, arith, take_all}
 use Rattle.std.proofs.lemmas.Result.{IfOk-weaker}
 use Rattle.spec_script.specs.Stanzas.{blocks_from}
-use Rattle.spec_reread.specs.Windows.{stanza_lines_in}
+use Rattle.spec_edit.specs.Windows.{stanza_lines_in}
 use Rattle.sp_reread.proofs.placed.placed_blocks.Goals as goal
 
 pub returns : goal.returns

@@ -1,6 +1,6 @@
 use Rattle.std.proofs.Common.{◌≡◌, ◌+◌, ◌++◌, drop}
 use Rattle.spec_script.specs.Stanzas.{blocks_from}
-use Rattle.spec_reread.specs.Windows.{stanza_lines_in}
+use Rattle.spec_edit.specs.Windows.{stanza_lines_in}
 use Rattle.sp_reread.proofs.placed.placed_blocks_of.Given as goal
 
 -- The blocks so far and those of the stanzas that are left are all blocks, and the lines that are left end where all do.

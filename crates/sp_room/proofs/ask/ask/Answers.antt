@@ -1,4 +1,4 @@
-use Rattle.sp_commands.specs.Values.{command_of}
+use Rattle.sp_wire.specs.Values.{command_of}
 use Rattle.sp_room.proofs.Answering.{same-desk}
 use Rattle.sp_room.proofs.ask.ask.Goals as goal
 

@@ -1,7 +1,7 @@
-use Rattle.spec_collation.specs.BytesCollated.{collated_bytes}
+use Rattle.spec_packet.specs.BytesCollated.{collated_bytes}
 use Rattle.sp_run.specs.Collating.{NotCollated}
-use Rattle.sp_words.specs.Statuses.{status_of_sheets}
-use Rattle.sp_opening.proofs.OpenedStates.{err-is}
+use Rattle.sp_run.specs.Statuses.{status_of_sheets}
+use Rattle.sp_run.proofs.OpenedStates.{err-is}
 use Rattle.sp_run.proofs.Collations.{both-come, collation-refused, first-refused, second-refused}
 use Rattle.sp_run.proofs.collation.collated.Goals as goal
 

@@ -1,5 +1,5 @@
 use Rattle.std.proofs.Common.{refl}
-use Rattle.sp_words.specs.declared.form.Form.TheVariants as forms
+use Rattle.sp_run.specs.declared.form.Form.TheVariants as forms
 use Rattle.sp_run.specs.World.{world}
 use Rattle.sp_run.proofs.Answering.{asked-as, untold-ends}
 use Rattle.sp_run.proofs.program.answer_form.Goals as goal

@@ -2,11 +2,11 @@ use Rattle.std.proofs.Common.{Ok, refl, sym, subst}
 use Rattle.spec_machine.specs.KeptMemories.{IsWholeMemory}
 use Rattle.spec_locked_pages.specs.Chains.{AreLinked}
 use Rattle.spec_session.specs.Runs.{counts_of}
-use Rattle.sp_commands.specs.declared.reply.Reply.{Reply}
-use Rattle.sp_commands.specs.Values.{refusal_of, room_line_of}
+use Rattle.sp_wire.specs.declared.reply.Reply.{Reply}
+use Rattle.sp_wire.specs.Values.{refusal_of, room_line_of}
 use Rattle.sp_desk.specs.declared.fault.DeskFault.{DeskFault}
 use Rattle.sp_run.proofs.SeatLaws.{seat-lacking, seat-packet, seat-refused, seat-save, seat-taken, seat-undone}
-use Rattle.sp_desk_session.proofs.Replies.{on-err, on-ok}
+use Rattle.sp_run.proofs.Replies.{on-err, on-ok}
 use Rattle.sp_run.proofs.Seats.{same-follows}
 use Rattle.sp_run.proofs.room_lines.reply_to_seat.Goals as goal
 

@@ -6,13 +6,13 @@ use Rattle.sp_kit.specs.Files.{Files}
 use Rattle.sp_kit.specs.Outside.{SourceState}
 use Rattle.spec_room.specs.Rooms.{RoomState, opened_room}
 use Rattle.sp_run.specs.RoomLines.{AnswersRoomLine, StopsAtRoomLine, room_at}
-use Rattle.sp_opening.specs.Records.{records_name}
-use Rattle.sp_opening.specs.Saving.{Changes, KeepsAllBut}
+use Rattle.sp_run.specs.Records.{records_name}
+use Rattle.sp_run.specs.Saving.{Changes, KeepsAllBut}
 use Rattle.sp_run.specs.RoomEnding.{RoomEnds, HeldRoom}
-use Rattle.sp_opening.specs.Unopened.{outside}
-use Rattle.sp_desk_session.proofs.DeskSessions.{held-ends, unopened-ends}
+use Rattle.sp_run.specs.Unopened.{outside}
+use Rattle.sp_run.proofs.DeskSessions.{held-ends, unopened-ends}
 use Rattle.sp_run.proofs.RoomSessions.{room-held, room-others}
-use Rattle.sp_opening.proofs.Stores.{changes-none}
+use Rattle.sp_run.proofs.Stores.{changes-none}
 use Rattle.sp_run.proofs.room_session.hold_room.Goals as goal
 
 pub returns-in-Err-clause-ends : goal.returns-in-Err-clause-ends

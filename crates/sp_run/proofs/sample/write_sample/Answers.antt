@@ -3,8 +3,8 @@ use Rattle.std.specs.Prelude.{IsErrAnd}
 use Rattle.std.proofs.KnownBytes.{Keeps-refl}
 use Rattle.spec_session.specs.Runs.{Counts, counts_of}
 use Rattle.sp_kit.specs.Outside.{SinkState}
-use Rattle.sp_words.specs.declared.status.Status.{Status}
-use Rattle.sp_words.specs.declared.status.Status.TheVariants as statuses
+use Rattle.sp_run.specs.declared.status.Status.{Status}
+use Rattle.sp_run.specs.declared.status.Status.TheVariants as statuses
 use Rattle.sp_run.specs.Ending.{SampleCountsAtMost, SampleEndsAs}
 use Rattle.sp_run.proofs.sample.write_sample.Goals as goal
 

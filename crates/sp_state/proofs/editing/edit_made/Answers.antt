@@ -8,14 +8,14 @@ use Rattle.spec_state.specs.State.{State}
 use Rattle.spec_state.specs.Changes.{edited_state}
 use Rattle.spec_state.specs.Keeping.{state_of}
 use Rattle.spec_locked_pages.specs.Segments.{pages_of}
-use Rattle.spec_reflow.specs.Windows.{Exchange}
+use Rattle.spec_edit.specs.PageWindows.{Exchange}
 use Rattle.sp_text.specs.Changing.{edit_of}
 use Rattle.sp_text.specs.Gap.{text_of}
-use Rattle.sp_relay.specs.Changes.{with_change}
-use Rattle.sp_relay.specs.Kept.{laid_of}
-use Rattle.sp_made_parts.specs.Firsts.{first_rows, laid_in}
-use Rattle.sp_made_parts.specs.Made.{IsNumberedOf}
-use Rattle.sp_numbers.specs.Locked.{AreSheetsBefore}
+use Rattle.sp_layout.specs.Changes.{with_change}
+use Rattle.sp_layout.specs.Kept.{laid_of}
+use Rattle.sp_sheets.specs.Firsts.{first_rows, laid_in}
+use Rattle.sp_sheets.specs.Made.{IsNumberedOf}
+use Rattle.sp_sheets.specs.Locked.{AreSheetsBefore}
 use Rattle.sp_text_entry.specs.Relaid.{IsExchangeOf}
 use Rattle.sp_state.specs.Fills.{EditFills, EditFillsAtMost}
 use Rattle.sp_state.proofs.FillLaws.{fills-edited, fills-within, none-filled}

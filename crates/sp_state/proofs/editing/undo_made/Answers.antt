@@ -4,11 +4,11 @@ use Rattle.spec_state.specs.State.{State, text_of as state_text}
 use Rattle.spec_state.specs.Keeping.{state_of}
 use Rattle.sp_text.specs.Gap.{text_of}
 use Rattle.sp_layout.specs.LaidOut.{LayoutOf}
-use Rattle.sp_relay.specs.Changes.{CanChange, with_change}
-use Rattle.sp_relay.specs.Kept.{laid_of}
-use Rattle.sp_made_parts.specs.Firsts.{laid_in}
-use Rattle.sp_made_parts.specs.Made.{IsNumberedOf}
-use Rattle.sp_numbers.specs.Locked.{AreSheetsBefore}
+use Rattle.sp_layout.specs.Changes.{CanChange, with_change}
+use Rattle.sp_layout.specs.Kept.{laid_of}
+use Rattle.sp_sheets.specs.Firsts.{laid_in}
+use Rattle.sp_sheets.specs.Made.{IsNumberedOf}
+use Rattle.sp_sheets.specs.Locked.{AreSheetsBefore}
 use Rattle.sp_text_entry.specs.TextEntries.{IsSameTextEntry, IsTextRedone}
 use Rattle.sp_state.specs.Entries.{EntryState, CanUndo, HoldsFew, done_range, undone_state}
 use Rattle.sp_state.proofs.EntryLaws.{undo-again, leads-forth}

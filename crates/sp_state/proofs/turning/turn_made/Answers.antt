@@ -3,11 +3,11 @@ use Rattle.spec_state.specs.State.{State}
 use Rattle.spec_state.specs.Keeping.{state_of}
 use Rattle.sp_text.specs.Gap.{text_of}
 use Rattle.sp_layout.specs.LaidOut.{LayoutOf}
-use Rattle.sp_relay.specs.Changes.{CanChange, with_change}
-use Rattle.sp_relay.specs.Kept.{laid_of}
-use Rattle.sp_numbers.specs.HeadingIds.{laid_labels}
-use Rattle.sp_made.proofs.LaidHeadings.{labels-stay}
-use Rattle.sp_made.specs.Titles.{laid_titles}
+use Rattle.sp_layout.specs.Changes.{CanChange, with_change}
+use Rattle.sp_layout.specs.Kept.{laid_of}
+use Rattle.sp_sheets.specs.HeadingIds.{laid_labels}
+use Rattle.sp_sheets.proofs.LaidHeadings.{labels-stay}
+use Rattle.sp_sheets.specs.Titles.{laid_titles}
 use Rattle.sp_state.proofs.EntryLaws.{same-leads}
 use Rattle.sp_state.proofs.TitleLaws.{titles-after}
 use Rattle.sp_state.proofs.turning.turn_made.Goals as goal

@@ -2,7 +2,7 @@ use Rattle.std.proofs.Common.{ℕ, List, Some, refl, sym, ap, subst, ◌∙◌}
 use Rattle.std.specs.Prelude.{IfSome}
 use Rattle.std.proofs.lemmas.Bool.{OnTrue_at}
 use Rattle.std.proofs.lemmas.Result.{err_from_is_err_and}
-use Rattle.sp_numbers.specs.Locked.{AreSheetsBefore}
+use Rattle.sp_sheets.specs.Locked.{AreSheetsBefore}
 use Rattle.sp_state.proofs.SheetLaws.{known-before}
 use Rattle.sp_reflow.specs.Updates.{taken_back, taken_of}
 use Rattle.sp_reflow.proofs.TurnLaws.{turned-twice}

@@ -1,21 +1,21 @@
 use Rattle.std.proofs.Common.{◌≡◌, length, map, ap, sym, subst, ◌∙◌}
 use Rattle.std.specs.Prelude.{OnOk}
 use Rattle.spec_pages.specs.Pages.{page_starts, rows_on}
-use Rattle.spec_layout.specs.Shown.{shape_of}
+use Rattle.spec_sheets.specs.Shown.{shape_of}
 use Rattle.spec_records.specs.Kept.{RecordsOf}
 use Rattle.spec_state.specs.State.{State}
 use Rattle.spec_state.specs.Keeping.{state_of}
 use Rattle.spec_state.specs.StateSheets.{rows_in}
-use Rattle.spec_reflow.specs.Windows.{Exchange, page_window}
+use Rattle.spec_edit.specs.PageWindows.{Exchange, page_window}
 use Rattle.spec_locked_pages.specs.Segments.{pages_of}
 use Rattle.sp_text.specs.Gap.{text_of}
-use Rattle.sp_elements.specs.Bodies.{shapes_in}
+use Rattle.sp_layout.specs.Bodies.{shapes_in}
 use Rattle.sp_layout.specs.LaidOut.{LayoutOf}
 use Rattle.sp_reflow.specs.Starts.{many_more}
 use Rattle.sp_reflow.specs.Filling.{FilledAtMost}
-use Rattle.sp_relay.specs.Kept.{laid_of}
-use Rattle.sp_made_parts.proofs.MadePages.{same-shapes}
-use Rattle.sp_made.proofs.StopsMade.{filled-most, starts-of}
+use Rattle.sp_layout.specs.Kept.{laid_of}
+use Rattle.sp_sheets.proofs.MadePages.{same-shapes}
+use Rattle.sp_sheets.proofs.StopsMade.{filled-most, starts-of}
 use Rattle.sp_state.proofs.RefilledLaws.{stale-same, window-same}
 use Rattle.sp_state.proofs.turning.update_pages.Goals as goal
 

@@ -8,14 +8,14 @@ use Rattle.sp_text.specs.Gap.{text_of}
 use Rattle.sp_compare.specs.declared.old_rows.RunPlaces.{RunPlaces}
 use Rattle.sp_compare.specs.BareRows.{AreLaid, Both, StayOutside}
 use Rattle.sp_compare.specs.OldElements.{AreOtherRows, OtherRowsOf, old_elements}
-use Rattle.sp_elements.specs.Bodies.{KeyedElements, keyed_elements, row_count}
-use Rattle.sp_elements.specs.Exchanges.{CanMove}
+use Rattle.sp_layout.specs.Bodies.{KeyedElements, keyed_elements, row_count}
+use Rattle.sp_layout.specs.Exchanges.{CanMove}
 use Rattle.sp_layout.specs.LaidOut.{LayoutOf}
-use Rattle.sp_relay.specs.declared.kept.PartPlaces.{PartPlaces}
-use Rattle.sp_relay.specs.Changes.{CanChange, CanSpeak, ChangeOf, SpeechOf}
-use Rattle.sp_relay.specs.Kept.{KeptOf, PartOf, laid_of}
-use Rattle.sp_relay.specs.Outside.{StaysOutside}
-use Rattle.sp_relay.proofs.RunsBack.{later-can}
+use Rattle.sp_layout.specs.declared.kept.PartPlaces.{PartPlaces}
+use Rattle.sp_layout.specs.Changes.{CanChange, CanSpeak, ChangeOf, SpeechOf}
+use Rattle.sp_layout.specs.Kept.{KeptOf, PartOf, laid_of}
+use Rattle.sp_layout.specs.Outside.{StaysOutside}
+use Rattle.sp_layout.proofs.RunsBack.{later-can}
 use Rattle.sp_compare.proofs.StayLaws.{stay-outside}
 use Rattle.sp_text_entry.specs.Relaid.{body_before, others_of}
 use Rattle.sp_text_entry.proofs.carrying.both_texts.Goals as goal

@@ -1,17 +1,17 @@
 use Rattle.std.proofs.Common.{None, ap, sym, subst, ◌∙◌}
 use Rattle.spec_records.specs.Kept.{RecordsOf}
 use Rattle.spec_text.specs.Edits.{restored}
-use Rattle.spec_layout.specs.Shown.{shown_rows}
+use Rattle.spec_sheets.specs.Shown.{shown_rows}
 use Rattle.spec_state.specs.State.{State}
 use Rattle.spec_state.specs.Changes.{segment_rows}
 use Rattle.spec_state.specs.Keeping.{state_of}
 use Rattle.spec_state.proofs.StateKeys.{state-row_keys}
 use Rattle.sp_text.specs.DisplacedLines.{displaced_of}
 use Rattle.sp_text.specs.Gap.{text_of}
-use Rattle.sp_elements.specs.Bodies.{KeyedElements}
+use Rattle.sp_layout.specs.Bodies.{KeyedElements}
 use Rattle.sp_layout.specs.LaidOut.{LayoutOf}
-use Rattle.sp_relay.specs.Kept.{laid_of}
-use Rattle.sp_made_parts.specs.Firsts.{IsLaidOf, first_rows}
+use Rattle.sp_layout.specs.Kept.{laid_of}
+use Rattle.sp_sheets.specs.Firsts.{IsLaidOf, first_rows}
 use Rattle.sp_text_entry.specs.Raised.{state_before}
 use Rattle.sp_text_entry.specs.Relaid.{body_before}
 use Rattle.sp_text_entry.proofs.CarriedLaws.{before-segments, raised-firsts, raised-fit, raised-here, whole-few, whole-laid}

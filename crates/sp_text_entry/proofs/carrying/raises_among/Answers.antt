@@ -11,10 +11,10 @@ use Rattle.spec_text.specs.Edits.{restored}
 use Rattle.sp_text.specs.DisplacedLines.{displaced_of}
 use Rattle.sp_text.specs.Gap.{text_of}
 use Rattle.sp_compare.specs.BareRows.{Both}
-use Rattle.sp_elements.specs.Bodies.{KeyedElements, row_count}
+use Rattle.sp_layout.specs.Bodies.{KeyedElements, row_count}
 use Rattle.sp_layout.specs.LaidOut.{LayoutOf}
-use Rattle.sp_relay.specs.Kept.{laid_of}
-use Rattle.sp_made_parts.specs.Firsts.{key_starts}
+use Rattle.sp_layout.specs.Kept.{laid_of}
+use Rattle.sp_sheets.specs.Firsts.{key_starts}
 use Rattle.sp_compare.specs.Raised.{AreSegments}
 use Rattle.sp_text_entry.specs.Relaid.{body_before}
 use Rattle.sp_text_entry.proofs.CarriedLaws.{own-segments, raises-made, some-pages, whole-laid}

@@ -6,15 +6,15 @@ use Rattle.spec_pages.specs.Rows.{ElementOf}
 use Rattle.spec_records.specs.Kept.{RecordsOf}
 use Rattle.spec_state.specs.State.{State}
 use Rattle.spec_state.specs.Keeping.{state_of}
-use Rattle.spec_layout.specs.Speakers.{text_elements}
+use Rattle.spec_sheets.specs.Speakers.{text_elements}
 use Rattle.sp_text.specs.DisplacedLines.{displaced_of}
 use Rattle.sp_text.specs.Gap.{text_of}
 use Rattle.sp_layout.specs.LaidOut.{LayoutOf, keyed}
-use Rattle.sp_relay.specs.Edited.{WasLaidOf}
-use Rattle.sp_relay.specs.Kept.{laid_of}
-use Rattle.sp_relay.specs.Outside.{StaysOutside}
+use Rattle.sp_layout.specs.Edited.{WasLaidOf}
+use Rattle.sp_layout.specs.Kept.{laid_of}
+use Rattle.sp_layout.specs.Outside.{StaysOutside}
 use Rattle.sp_refill.specs.Edits.{AreAhead}
-use Rattle.sp_made_parts.specs.Firsts.{IsLaidOf}
+use Rattle.sp_sheets.specs.Firsts.{IsLaidOf}
 use Rattle.sp_text_entry.specs.Raised.{state_before}
 use Rattle.sp_text_entry.proofs.RelaidLaws.{body-now}
 use Rattle.sp_text_entry.proofs.relaying.relay_and_raise.Goals as goal

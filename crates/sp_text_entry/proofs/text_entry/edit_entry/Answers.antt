@@ -12,10 +12,10 @@ use Rattle.sp_text.specs.Gap.{text_of}
 use Rattle.sp_reread.specs.Cache.{GivesBack}
 use Rattle.sp_exchange.specs.Reads.{ReadsAtMost, ReadsWindow}
 use Rattle.sp_exchange.specs.Restoring.{text_stanzas}
-use Rattle.sp_relay.specs.Edited.{KeepsToWindow, WasLaidOf}
-use Rattle.sp_relay.specs.Kept.{laid_of}
+use Rattle.sp_layout.specs.Edited.{KeepsToWindow, WasLaidOf}
+use Rattle.sp_layout.specs.Kept.{laid_of}
 use Rattle.sp_refill.specs.Edits.{IsOfEdit}
-use Rattle.sp_made_parts.specs.Firsts.{first_rows}
+use Rattle.sp_sheets.specs.Firsts.{first_rows}
 use Rattle.sp_text_entry.specs.Relaid.{IsExchangeOf}
 use Rattle.sp_text_entry.specs.TextEntries.{TextEntryState}
 use Rattle.sp_text_entry.proofs.CarriedLaws.{carried-here, edited-here, edited-whole, leads-back, whole-before, whole-carry}

@@ -3,7 +3,7 @@ use Rattle.std.specs.Prelude.{codes, string_bytes}
 use Rattle.std.proofs.lemmas.Str.{IsUtf8-string_bytes}
 use Rattle.json.specs.Print.{quoted}
 use Rattle.spec_wire.specs.Replies.{round}
-use Rattle.sp_commands.specs.Values.{refusal_of}
+use Rattle.sp_wire.specs.Values.{refusal_of}
 use Rattle.sp_wire.specs.Done.{IsFront}
 use Rattle.sp_wire.proofs.FrontLaws.{edited-front, pages-front, round-front, saved-front, scenes-front, set-front, shelf-front}
 use Rattle.sp_wire.proofs.done.put_front.Goals as goal

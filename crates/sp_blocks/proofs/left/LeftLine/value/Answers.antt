@@ -3,7 +3,7 @@ use Rattle.std.specs.Str.{IsUtf8}
 use Rattle.spec_text.specs.Parts.{Parts}
 use Rattle.spec_script.specs.Visible.{window, clip_spans}
 use Rattle.spec_script.specs.Title.{value_cut}
-use Rattle.sp_blocks.proofs.Values.{value-Parts}
+use Rattle.sp_blocks.proofs.TitleValues.{value-Parts}
 use Rattle.sp_blocks.proofs.left.LeftLine.value.Goals as goal
 
 pub runs-requires-clause-parts : goal.runs-requires-clause-parts

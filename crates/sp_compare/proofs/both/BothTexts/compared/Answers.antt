@@ -1,6 +1,6 @@
 use Rattle.std.proofs.Common.{◌≡◌, ◌+◌, ◌≤◌, ap, sym, subst, ◌∙◌, arith}
 use Rattle.std.specs.Prelude.{min}
-use Rattle.sp_elements.specs.Bodies.{row_count}
+use Rattle.sp_layout.specs.Bodies.{row_count}
 use Rattle.sp_compare.specs.BareRows.{Both, bare_rows}
 use Rattle.sp_compare.proofs.AroundLaws.{aside-behind, aside-front, aside-until}
 use Rattle.sp_compare.proofs.both.BothTexts.compared.Goals as goal

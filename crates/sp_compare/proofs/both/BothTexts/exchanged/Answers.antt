@@ -1,5 +1,5 @@
 use Rattle.std.proofs.Common.{◌+◌, ℕ, sym, ap₂, subst, arith}
-use Rattle.sp_elements.specs.Bodies.{KeyedElements, keyed_elements}
+use Rattle.sp_layout.specs.Bodies.{KeyedElements, keyed_elements}
 use Rattle.sp_compare.specs.BareRows.{AreLaid, AreSameAround}
 use Rattle.sp_compare.proofs.AroundLaws.{outside-around}
 use Rattle.sp_compare.proofs.OldRowLaws.{count-old}

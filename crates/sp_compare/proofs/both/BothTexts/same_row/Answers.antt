@@ -1,10 +1,10 @@
 use Rattle.std.proofs.Common.{◌<◌, get_or, ap, ap₂, sym, subst, ◌∙◌, eq-eqb}
 use Rattle.spec_text.specs.Lines.{line_texts}
 use Rattle.spec_pages.specs.Rows.{Row, shifted_row}
-use Rattle.spec_layout.specs.Layout.{placed_in}
-use Rattle.spec_layout.specs.Shown.{no_row}
+use Rattle.spec_sheets.specs.Layout.{placed_in}
+use Rattle.spec_sheets.specs.Shown.{no_row}
 use Rattle.spec_state.specs.SameRows.{BareRow, same_cells, same_row}
-use Rattle.sp_elements.specs.Bodies.{keyed_elements, row_count}
+use Rattle.sp_layout.specs.Bodies.{keyed_elements, row_count}
 use Rattle.sp_compare.specs.BareRows.{Both, bare_cells, bare_row}
 use Rattle.sp_compare.proofs.RowLists.{bare-at, by-cells, other-key}
 use Rattle.sp_compare.proofs.both.BothTexts.same_row.Goals as goal

@@ -1,6 +1,6 @@
 use Rattle.std.proofs.Common.{◌≡◌, ◌+◌, ℕ, Bool, ap, ap₂, sym, ◌∙◌, arith}
 use Rattle.std.specs.Prelude.{◌&&◌}
-use Rattle.spec_layout.specs.Shown.{no_row}
+use Rattle.spec_sheets.specs.Shown.{no_row}
 use Rattle.spec_state.specs.SameRows.{same_list}
 use Rattle.sp_compare.specs.BareRows.{bare_rows}
 use Rattle.sp_compare.proofs.RowLists.{rows-step}

@@ -1,7 +1,7 @@
 use Rattle.std.proofs.Common.{◌-◌, List, take, get_or, ap, sym, ◌∙◌, arith}
 use Rattle.spec_labels.specs.declared.RowKey.{RowKey}
-use Rattle.spec_layout.specs.Layout.{placed_in}
-use Rattle.sp_elements.specs.Bodies.{KeyedElements, keyed_elements, row_count}
+use Rattle.spec_sheets.specs.Layout.{placed_in}
+use Rattle.sp_layout.specs.Bodies.{KeyedElements, keyed_elements, row_count}
 use Rattle.sp_compare.proofs.OldRowLaws.{count-old, count-parts, key-front, key-gone, key-moved, keys-old, row-front, row-gone, row-moved}
 use Rattle.sp_compare.proofs.old_rows.OldRows.row.Goals as goal
 

@@ -1,5 +1,5 @@
 use Rattle.std.proofs.Common.{◌≡◌, ◌+◌, drop, ap, arith}
-use Rattle.sp_elements.specs.Bodies.{KeyedElements, keyed_elements, row_count}
+use Rattle.sp_layout.specs.Bodies.{KeyedElements, keyed_elements, row_count}
 use Rattle.sp_compare.proofs.OldRowLaws.{count-old, count-parts}
 use Rattle.sp_compare.proofs.old_rows.OldRows.rows.Goals as goal
 

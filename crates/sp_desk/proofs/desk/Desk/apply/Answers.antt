@@ -2,7 +2,7 @@ use Rattle.std.proofs.Common.{Result, Ok, Err}
 use Rattle.std.specs.Prelude.{OnOk}
 use Rattle.spec_machine.proofs.StepLaws.{Keeps}
 use Rattle.spec_locked_pages.proofs.ChainLaws.{memory-keeps}
-use Rattle.sp_commands.specs.Values.{command_of}
+use Rattle.sp_wire.specs.Values.{command_of}
 use Rattle.sp_desk.proofs.DeskSteps.{answer-Keeps, answer-pages}
 use Rattle.sp_desk.proofs.desk.Desk.apply.Given.{Over}
 use Rattle.sp_desk.proofs.desk.Desk.apply.Goals as goal

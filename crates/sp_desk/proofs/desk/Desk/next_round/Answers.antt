@@ -1,7 +1,7 @@
 use Rattle.std.proofs.Common.{◌≡◌, ℕ, ◌+◌, List, Err, ap, sym, subst, ◌∙◌}
 use Rattle.std.proofs.lemmas.Result.{err_from_is_err_and}
 use Rattle.spec_records.specs.Kept.{RecordsOf}
-use Rattle.spec_print.specs.Rounds.{round_name}
+use Rattle.spec_sheets.specs.Rounds.{round_name}
 use Rattle.spec_state.specs.State.{State}
 use Rattle.spec_wire.specs.Commands as commands
 use Rattle.spec_wire.specs.Replies as replies

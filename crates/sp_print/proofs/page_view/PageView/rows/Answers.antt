@@ -1,7 +1,7 @@
 use Rattle.std.proofs.Common.{length, ap, sym, ◌∙◌}
-use Rattle.spec_print.specs.PageRows.{page_height}
-use Rattle.spec_print.specs.Sheets.{Sheet}
-use Rattle.spec_print.proofs.PageHeights.{page_body-height}
+use Rattle.spec_sheets.specs.PageRows.{page_height}
+use Rattle.spec_sheets.specs.Sheets.{Sheet}
+use Rattle.spec_sheets.proofs.PageHeights.{page_body-height}
 use Rattle.sp_print.specs.Slots.{lent_rows}
 use Rattle.sp_print.proofs.page_view.PageView.rows.Goals as goal
 

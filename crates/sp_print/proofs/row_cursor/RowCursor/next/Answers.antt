@@ -5,10 +5,10 @@ use Rattle.spec_text.specs.Lines.{line_texts}
 use Rattle.spec_text.proofs.ListLaws.{All-front, All-back}
 use Rattle.spec_pages.specs.Rows.{Row, ElementOf, placed_rows, shifted_row}
 use Rattle.spec_labels.specs.Labels.{LabelOf}
-use Rattle.spec_layout.specs.Cells.{RowShows}
-use Rattle.spec_layout.specs.Layout.{placed_in}
-use Rattle.spec_layout.specs.Shown.{Shown, element_cue, heading_label, shown_of, shown_rows}
-use Rattle.sp_views.proofs.Places.{All-image}
+use Rattle.spec_sheets.specs.Cells.{RowShows}
+use Rattle.spec_sheets.specs.Layout.{placed_in}
+use Rattle.spec_sheets.specs.Shown.{Shown, element_cue, heading_label, shown_of, shown_rows}
+use Rattle.sp_print.proofs.ListPlaces.{All-image}
 use Rattle.sp_print.proofs.RowPlaces.{drop-here, drop-there, shown_in, take-first}
 use Rattle.sp_print.proofs.row_cursor.RowCursor.next.Goals as goal
 

@@ -2,9 +2,9 @@ use Rattle.std.proofs.Common.{◌≡◌, ◌<◌, length, take, drop}
 use Rattle.std.specs.Prelude.{All}
 use Rattle.std.specs.Option.{option_copied}
 use Rattle.spec_text.specs.Lines.{line_texts}
-use Rattle.spec_layout.specs.Cells.{RowShows}
-use Rattle.spec_layout.specs.Layout.{placed_in}
-use Rattle.spec_layout.specs.Shown.{shown_rows}
+use Rattle.spec_sheets.specs.Cells.{RowShows}
+use Rattle.spec_sheets.specs.Layout.{placed_in}
+use Rattle.spec_sheets.specs.Shown.{shown_rows}
 use Rattle.sp_print.proofs.row_cursor.RowCursor.next.Given as goal
 
 abbrev pub invariant-loop-element : goal.invariant-loop-element

@@ -2,7 +2,7 @@ use Rattle.std.proofs.Common.{◌≡◌, ◌+◌, ◌<◌, length, get_or, sym, 
 use Rattle.std.proofs.lemmas.Bool.{OnTrue_at}
 use Rattle.std.proofs.lemmas.Option.{get_or_from_slice_get}
 use Rattle.std.proofs.lemmas.List.{length-map, get_or-map}
-use Rattle.sp_piles.specs.Piles.{summaries, summary_of}
+use Rattle.sp_reread.specs.Piles.{summaries, summary_of}
 use Rattle.sp_reread.proofs.Exchanges.{alike-more}
 use Rattle.sp_reread.proofs.stanzas.Stanzas.are_alike.Goals as goal
 

@@ -1,5 +1,5 @@
 use Rattle.std.proofs.Common.{◌≡◌, take, drop}
-use Rattle.sp_piles.specs.Piles.{summaries}
+use Rattle.sp_reread.specs.Piles.{summaries}
 use Rattle.sp_reread.proofs.stanzas.Stanzas.are_alike.Given as goal
 
 abbrev pub invariant-loop-k : goal.invariant-loop-k

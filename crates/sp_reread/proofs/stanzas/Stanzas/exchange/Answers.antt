@@ -1,6 +1,6 @@
 use Rattle.std.proofs.Common.{◌≡◌, ◌≤◌, ◌+◌, ◌∙◌, length, reverse, arith, ap}
 use Rattle.std.proofs.lemmas.List.{length-append, length-reverse}
-use Rattle.sp_piles.specs.Gaps.{gap_list}
+use Rattle.sp_reread.specs.Gaps.{gap_list}
 use Rattle.sp_reread.specs.Cache.{StanzasState}
 use Rattle.sp_reread.proofs.Exchanges.{put-back, PutBack}
 use Rattle.sp_reread.proofs.stanzas.Stanzas.exchange.Goals as goal

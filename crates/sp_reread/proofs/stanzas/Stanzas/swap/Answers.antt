@@ -3,8 +3,8 @@ use Rattle.std.proofs.lemmas.List.{length-append, length-reverse, length-set, se
 use Rattle.spec_text.proofs.ListLaws.{slice_get-front}
 use Rattle.sp_text.proofs.Pairs.{set-behind}
 use Rattle.sp_reread.specs.Cache.{StanzasState}
-use Rattle.sp_piles.specs.Piles.{summaries, summary_of}
-use Rattle.sp_piles.proofs.PileLaws.{same-lines, summaries-set, summary-behind, summary-front, get-behind}
+use Rattle.sp_reread.specs.Piles.{summaries, summary_of}
+use Rattle.sp_reread.proofs.PileLaws.{same-lines, summaries-set, summary-behind, summary-front, get-behind}
 use Rattle.sp_reread.proofs.stanzas.Stanzas.swap.Goals as goal
 
 pub invariant_of-self : goal.invariant_of-self

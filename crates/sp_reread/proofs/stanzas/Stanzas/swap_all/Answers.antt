@@ -4,8 +4,8 @@ use Rattle.std.proofs.lemmas.List.{length-map}
 use Rattle.spec_script.specs.BlockValues.{StanzaOf}
 use Rattle.sp_text.specs.Paired.{IsPaired}
 use Rattle.sp_text.proofs.Pairs.{IsPaired-more}
-use Rattle.sp_piles.specs.Piles.{summaries, summary_of}
-use Rattle.sp_piles.proofs.PileLaws.{summaries-set}
+use Rattle.sp_reread.specs.Piles.{summaries, summary_of}
+use Rattle.sp_reread.proofs.PileLaws.{summaries-set}
 use Rattle.sp_reread.proofs.Exchanges.{summary-at}
 use Rattle.sp_reread.proofs.stanzas.Stanzas.swap_all.Goals as goal
 

@@ -1,6 +1,6 @@
 use Rattle.std.proofs.Common.{◌≡◌, vec_len, vec_capacity}
 use Rattle.sp_text.specs.Paired.{IsPaired}
-use Rattle.sp_piles.specs.Piles.{summaries}
+use Rattle.sp_reread.specs.Piles.{summaries}
 use Rattle.sp_reread.proofs.stanzas.Stanzas.swap_all.Given as goal
 
 abbrev pub invariant-loop-k : goal.invariant-loop-k

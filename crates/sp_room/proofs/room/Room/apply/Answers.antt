@@ -3,8 +3,8 @@ use Rattle.spec_wire.specs.Commands.{CommandOf, undo, redo}
 use Rattle.spec_room.specs.Holding.{Holds}
 use Rattle.spec_room.specs.Kinds.{kind_of}
 use Rattle.spec_room.specs.Rooms.{asked_of}
-use Rattle.sp_commands.specs.Values.{command_of}
-use Rattle.sp_commands.specs.declared.command.Command.{Command}
+use Rattle.sp_wire.specs.Values.{command_of}
+use Rattle.sp_wire.specs.declared.command.Command.{Command}
 use Rattle.sp_desk.specs.Reads.{CommandReads}
 use Rattle.sp_desk.specs.Fills.{CommandFills}
 use Rattle.sp_room.specs.Answers.{line_of, IsRoomAnswer}

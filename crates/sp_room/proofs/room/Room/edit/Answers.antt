@@ -3,19 +3,19 @@ use Rattle.spec_wire.specs.Commands.{CommandOf, edit}
 use Rattle.spec_room.specs.Kinds.{edits}
 use Rattle.spec_room.specs.Rooms.{RoomState, kept_changes, last_of, asked_edit, room_step_of}
 use Rattle.sp_text.specs.Changing.{edit_of}
-use Rattle.sp_commands.specs.Values.{reply_of}
-use Rattle.sp_commands.specs.declared.reply.Reply.{Reply}
+use Rattle.sp_wire.specs.Values.{reply_of}
+use Rattle.sp_wire.specs.declared.reply.Reply.{Reply}
 use Rattle.sp_desk.specs.declared.fault.DeskFault.{DeskFault}
 use Rattle.sp_desk.specs.declared.fault.DeskFault.TheVariants.{NoMemory, Refused}
 use Rattle.sp_desk.specs.Reads.{CommandReads}
 use Rattle.sp_desk.specs.Fills.{CommandFills}
 use Rattle.sp_desk.proofs.Counting.{no-reads, no-fills}
-use Rattle.sp_changes.specs.Changes.{range_of, ranges}
+use Rattle.sp_room.specs.Changes.{range_of, ranges}
 use Rattle.sp_room.specs.Owners.{OwnerOf}
 use Rattle.sp_room.specs.Answers.{line_of}
 use Rattle.sp_room.specs.Counts.{RoomReads, RoomFills}
 use Rattle.sp_room.specs.Inside.{room_of}
-use Rattle.sp_changes.specs.declared.change.Change.{Change}
+use Rattle.sp_room.specs.declared.change.Change.{Change}
 use Rattle.sp_room.proofs.Answering.{Answered, edit_answered}
 use Rattle.sp_room.proofs.Counting.{edit-asks, is-err, of-any, of-edit, of-refused}
 use Rattle.sp_room.proofs.room.Room.edit.Given.{Over}

@@ -2,8 +2,8 @@ use Rattle.std.proofs.Common.{◌≡◌, ℕ, ◌<◌, ◌^◌, List, [], length
 use Rattle.spec_wire.specs.Commands.{CommandOf, RoomLineOf}
 use Rattle.spec_room.specs.Kinds.{kind_of}
 use Rattle.spec_room.specs.Rooms.{RoomState, room_step_to, room_step_of}
-use Rattle.sp_commands.specs.Values.{command_of, reply_of}
-use Rattle.sp_commands.specs.declared.reply.Reply.{Reply}
+use Rattle.sp_wire.specs.Values.{command_of, reply_of}
+use Rattle.sp_wire.specs.declared.reply.Reply.{Reply}
 use Rattle.sp_desk.specs.declared.fault.DeskFault.{DeskFault}
 use Rattle.sp_desk.specs.Reads.{CommandReads}
 use Rattle.sp_desk.specs.Fills.{CommandFills}

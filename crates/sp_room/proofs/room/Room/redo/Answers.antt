@@ -2,12 +2,12 @@ use Rattle.std.proofs.Common.{◌≡◌, ℕ, ◌+◌, ◌<◌, ◌^◌, true, L
 use Rattle.std.specs.Str.{bytes_eq}
 use Rattle.spec_wire.specs.Commands.{redo}
 use Rattle.spec_room.specs.Rooms.{RoomState, kept_changes, last_of, room_step_of}
-use Rattle.sp_commands.specs.Values.{reply_of}
-use Rattle.sp_changes.specs.Changes.{range_of}
+use Rattle.sp_wire.specs.Values.{reply_of}
+use Rattle.sp_room.specs.Changes.{range_of}
 use Rattle.sp_room.specs.Owners.{OwnerOf, IsLast, MovesLast}
 use Rattle.sp_room.specs.Answers.{line_of}
 use Rattle.sp_room.specs.Inside.{room_of}
-use Rattle.sp_changes.specs.declared.change.Change.{Change}
+use Rattle.sp_room.specs.declared.change.Change.{Change}
 use Rattle.sp_room.proofs.Answering.{Answered, redo_answered, not-false, moves_as}
 use Rattle.sp_room.proofs.room.Room.redo.Given.{Over}
 use Rattle.sp_room.proofs.room.Room.redo.Goals as goal

@@ -1,7 +1,7 @@
 use Rattle.spec_wire.specs.Lines.{room_line_of_line}
 use Rattle.spec_session.specs.Runs.{counts_of}
 use Rattle.sp_run.proofs.SeatLaws.{seat-at-most, seat-undone}
-use Rattle.sp_desk_session.proofs.Replies.{err-with, on-err}
+use Rattle.sp_run.proofs.Replies.{err-with, on-err}
 use Rattle.sp_run.proofs.Seats.{seat-none-stops, seat-plain, seat-stops}
 use Rattle.sp_run.proofs.room_lines.RoomLinesResponder.answer.Goals as goal
 

@@ -6,9 +6,9 @@ use Rattle.spec_machine.specs.Refusals.{pages_refusal}
 use Rattle.spec_locked_pages.specs.Segments.{pages_of}
 use Rattle.sp_text.specs.Gap.{LinesState, text_of}
 use Rattle.sp_exchange.specs.Restoring.{text_stanzas}
-use Rattle.sp_made_parts.specs.Made.{IsMadeOf}
-use Rattle.sp_locking.specs.Openings.{IsOpening}
-use Rattle.sp_locking.proofs.OpeningPages.{pages-stay}
+use Rattle.sp_sheets.specs.Made.{IsMadeOf}
+use Rattle.sp_sheets.specs.Openings.{IsOpening}
+use Rattle.sp_sheets.proofs.OpeningPages.{pages-stay}
 use Rattle.sp_state.proofs.script.Script.lock_pages.Goals as goal
 
 pub returns : goal.returns

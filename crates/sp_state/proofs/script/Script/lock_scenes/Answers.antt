@@ -4,8 +4,8 @@ use Rattle.spec_state.specs.Keeping.{state_of}
 use Rattle.spec_state.specs.Openings.{scenes_locked}
 use Rattle.spec_machine.specs.Refusals.{scenes_refusal}
 use Rattle.sp_text.specs.Gap.{text_of}
-use Rattle.sp_locking.specs.Openings.{IsOpening}
-use Rattle.sp_locking.proofs.OpeningPages.{scenes-stay}
+use Rattle.sp_sheets.specs.Openings.{IsOpening}
+use Rattle.sp_sheets.proofs.OpeningPages.{scenes-stay}
 use Rattle.sp_state.proofs.script.Script.lock_scenes.Goals as goal
 
 pub returns : goal.returns

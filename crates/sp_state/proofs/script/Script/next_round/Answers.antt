@@ -4,8 +4,8 @@ use Rattle.spec_state.specs.Keeping.{state_of}
 use Rattle.spec_state.specs.Openings.{round_begun}
 use Rattle.spec_machine.specs.Refusals.{round_refusal}
 use Rattle.sp_text.specs.Gap.{text_of}
-use Rattle.sp_locking.specs.Openings.{IsOpening}
-use Rattle.sp_locking.proofs.OpeningPages.{round-stay}
+use Rattle.sp_sheets.specs.Openings.{IsOpening}
+use Rattle.sp_sheets.proofs.OpeningPages.{round-stay}
 use Rattle.sp_state.proofs.script.Script.next_round.Goals as goal
 
 pub returns : goal.returns

@@ -1,11 +1,11 @@
 use Rattle.std.proofs.Common.{◌≡◌, ◌-◌, length, ap, sym, slice_get, ◌∙◌, arith}
 use Rattle.std.specs.Prelude.{Option, Some, None, IfNone}
-use Rattle.spec_print.specs.Sheets.{Sheet}
+use Rattle.spec_sheets.specs.Sheets.{Sheet}
 use Rattle.spec_state.specs.Keeping.{state_of}
 use Rattle.spec_state.specs.State.{State}
 use Rattle.spec_state.specs.StateSheets.{sheets_of_state}
 use Rattle.sp_text.specs.Gap.{text_of}
-use Rattle.sp_made.proofs.SheetPlaces.{made-places, made-count, made-title, made-found}
+use Rattle.sp_sheets.proofs.SheetPlaces.{made-places, made-count, made-title, made-found}
 use Rattle.sp_state.proofs.script.Script.sheet.Goals as goal
 
 if-none : (P Q : Type 0) (found : Option Sheet) → (P → Q) → IfNone found P → IfNone found Q

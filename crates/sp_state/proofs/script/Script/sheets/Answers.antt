@@ -3,7 +3,7 @@ use Rattle.spec_state.specs.Keeping.{state_of}
 use Rattle.spec_state.specs.State.{State}
 use Rattle.spec_state.specs.StateSheets.{sheets_of_state}
 use Rattle.sp_text.specs.Gap.{text_of}
-use Rattle.sp_made.proofs.SheetPlaces.{made-count}
+use Rattle.sp_sheets.proofs.SheetPlaces.{made-count}
 use Rattle.sp_state.proofs.script.Script.sheets.Goals as goal
 
 pub returns : goal.returns

@@ -1,5 +1,0 @@
-use Rattle.std.proofs.Common.{rules}
-use Rattle.sp_answers.proofs.blocks.kind_name.Goals as goal
-
-pub returns-in-Synopsis : goal.returns-in-Synopsis
-returns-in-Synopsis c = search rules

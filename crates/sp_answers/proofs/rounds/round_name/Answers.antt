@@ -1,6 +1,0 @@
-use Rattle.std.proofs.Common.{rules}
-use Rattle.spec_state.proofs.SheetTexts.{round_name-utf8}
-use Rattle.sp_answers.proofs.rounds.round_name.Goals as goal
-
-pub into_text-requires : goal.into_text-requires
-into_text-requires c = let text = round_name-utf8 c.args.round in search rules

@@ -1,0 +1,5 @@
+pub mod Pairs
+pub mod Texts
+pub mod Gone
+pub mod Sheets
+pub mod Walks

@@ -1,4 +1,0 @@
-pub mod Counted
-pub mod DeskLines
-pub mod Promises
-pub mod DeskEnding

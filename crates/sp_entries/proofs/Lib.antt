@@ -1,6 +1,0 @@
-mod WalkLaws
-pub mod SheetFinds
-pub mod Counts
-mod Pushes
-mod EntryLaws
-mod SaidSteps

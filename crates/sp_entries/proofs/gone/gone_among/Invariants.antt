@@ -1,6 +1,0 @@
-use Rattle.std.proofs.Common.{◌≡◌, take}
-use Rattle.sp_entries.specs.Gone.{gone_among}
-use Rattle.sp_entries.proofs.gone.gone_among.Given as goal
-
-abbrev pub invariant-loop-record : goal.invariant-loop-record
-invariant-loop-record l = l.gone.items ≡ gone_among l.headings (take l.record-index l.records)

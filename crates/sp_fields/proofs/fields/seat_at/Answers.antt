@@ -1,5 +1,0 @@
-use Rattle.std.proofs.Common.{rules}
-use Rattle.sp_fields.proofs.fields.seat_at.Goals as goal
-
-pub returns-in_ok-bad_field-in_default : goal.returns-in_ok-bad_field-in_default
-returns-in_ok-bad_field-in_default c = search rules

@@ -1,5 +1,0 @@
-use Rattle.sp_forms.proofs.Copies.{Copied}
-use Rattle.sp_forms.proofs.parts.copy_parts.Given as goal
-
-abbrev pub invariant-loop-span : goal.invariant-loop-span
-invariant-loop-span l = Copied l.text l.kept l.span-index l.used l.buffer

@@ -1,0 +1,4 @@
+pub mod RunLaws
+pub mod MoveLaws
+pub mod GapLaws
+pub mod GapPlaceLaws

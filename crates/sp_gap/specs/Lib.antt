@@ -1,0 +1,3 @@
+pub mod Runs
+pub mod Moves
+pub mod Gaps

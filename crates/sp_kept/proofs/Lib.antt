@@ -1,5 +1,0 @@
-mod AnswerLaws
-mod PageLaws
-mod PlaceLaws
-mod TestLaws
-mod RuleLaws

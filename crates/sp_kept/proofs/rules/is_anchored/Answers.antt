@@ -1,5 +1,0 @@
-use Rattle.std.proofs.Common.{rules}
-use Rattle.sp_kept.proofs.rules.is_anchored.Goals as goal
-
-pub returns-then-entry-le4095 : goal.returns-then-entry-le4095
-returns-then-entry-le4095 c = search rules

@@ -1,2 +1,0 @@
-mod OpeningMade
-pub mod OpeningPages

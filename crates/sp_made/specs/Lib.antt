@@ -1,4 +1,0 @@
-pub mod Pages
-pub mod Places
-pub mod Titles
-pub mod Headings

@@ -1,3 +1,0 @@
-pub mod FirstsLaws
-pub mod MadePages
-pub mod MadeSheets

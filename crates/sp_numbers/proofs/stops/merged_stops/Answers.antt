@@ -1,5 +1,0 @@
-use Rattle.sp_numbers.proofs.Sorting.{sorted-rises}
-use Rattle.sp_numbers.proofs.stops.merged_stops.Goals as goal
-
-pub returns-clause-order : goal.returns-clause-order
-returns-clause-order c = sorted-rises c.sort.new.self.items c.in_ok-sort.ensures.sorted

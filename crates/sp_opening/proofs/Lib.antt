@@ -1,5 +1,0 @@
-pub mod Held
-pub mod Openings
-pub mod OpenedStates
-pub mod SavedTexts
-pub mod Stores

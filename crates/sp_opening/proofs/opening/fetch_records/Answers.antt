@@ -1,5 +1,0 @@
-use Rattle.std.proofs.Common.{rules}
-use Rattle.sp_opening.proofs.opening.fetch_records.Goals as goal
-
-pub returns-in-Ok-Bytes-clause-given : goal.returns-in-Ok-Bytes-clause-given
-returns-in-Ok-Bytes-clause-given g c = search rules

@@ -1,3 +1,0 @@
-pub mod SettlingLaws
-pub mod PileLaws
-pub mod GapPlaces

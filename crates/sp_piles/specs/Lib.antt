@@ -1,2 +1,0 @@
-pub mod Piles
-pub mod Gaps

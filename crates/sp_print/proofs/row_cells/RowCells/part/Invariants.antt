@@ -1,0 +1,13 @@
+use Rattle.std.proofs.Common.{◌≡◌, ◌<◌, length, drop, map, slice_get}
+use Rattle.spec_text.specs.Lines.{line_texts}
+use Rattle.spec_pages.specs.Rows.{shifted_cell}
+use Rattle.spec_sheets.specs.Cells.{shown_cell}
+use Rattle.sp_print.specs.Views.{kept_cells, cells_views}
+use Rattle.sp_print.proofs.row_cells.RowCells.part.Given as goal
+
+abbrev pub invariant-loop-cell : goal.invariant-loop-cell
+invariant-loop-cell l = record {
+  within : l.left < length (cells_views (map (shown_cell (line_texts l.self-inside.lines.now.lines)) (kept_cells l.self-inside.unnumbered (map (shifted_cell l.self-inside.first) (drop l.cell-index l.self-inside.cells.now)))));
+  part : slice_get (cells_views (map (shown_cell (line_texts l.self-inside.lines.now.lines)) (kept_cells l.self-inside.unnumbered (map (shifted_cell l.self-inside.first) (drop l.cell-index l.self-inside.cells.now))))) l.left
+      ≡ slice_get (cells_views l.self) l.place;
+}

@@ -1,9 +1,0 @@
-use Rattle.std.proofs.Common.{◌≡◌, ◌++◌, drop, map}
-use Rattle.std.specs.Prelude.{option_map}
-use Rattle.serde_json.specs.View.{view, items_of}
-use Rattle.spec_jsonback.specs.Lists.{all_in}
-use Rattle.spec_records.specs.Fields.{scene_in}
-use Rattle.sp_record_file.proofs.reading.scenes_of.Given as goal
-
-abbrev pub invariant-loop-item : goal.invariant-loop-item
-invariant-loop-item l = option_map (λ rest. l.scenes.items ++ rest) (all_in scene_in (items_of (map view (drop l.item-index l.items)))) ≡ all_in scene_in (items_of (map view l.items))

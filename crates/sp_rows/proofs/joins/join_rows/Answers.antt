@@ -1,9 +1,0 @@
-use Rattle.std.proofs.Common.{arith}
-use Rattle.std.proofs.lemmas.Grind.{common_steps}
-use Rattle.sp_rows.proofs.joins.join_rows.Goals as goal
-
-pub loop-row-preserved : goal.loop-row-preserved
-loop-row-preserved c = grind (arith, common_steps)
-
-pub loop-other-preserved : goal.loop-other-preserved
-loop-other-preserved c = grind (arith, common_steps)

@@ -1,0 +1,128 @@
+-- How a session of a desk ends (docs/RULES.md, "Sessions").
+use Rattle.std.specs.Prelude.{◌≡◌, ℕ, ◌+◌, ◌-◌, ◌^◌, ◌<◌, ◌≤◌, ◌⊎◌, Bool, List, string_bytes, Option, Some, None}
+use Rattle.std.specs.Io.KnownBytes.{Appends, Consumes, IsAtEnd}
+use Rattle.spec_state.specs.State.{State}
+use Rattle.spec_machine.specs.Machine.{Memory, opened_memory}
+use Rattle.spec_session.specs.CommandLines.{KeepsLimits, IsFirstLong, IsFull, command_lines}
+use Rattle.spec_session.specs.Runs.{Answered, AtShelf, Counts, Runs, left_by, output_of}
+use Rattle.spec_session.specs.Sessions.{SessionEnds, streams}
+use Rattle.spec_session.specs.declared.SessionEnd.{SessionEnd}
+use Rattle.spec_session.specs.declared.SessionEnd.TheVariants as endings
+use Rattle.spec_state.specs.Printing.{no_utf8, long_line, printing_of}
+use Rattle.sp_kit.specs.Files.{ShelfState}
+use Rattle.sp_text.specs.declared.fault.TextFault.TheVariants as faults
+use Rattle.sp_run.specs.declared.status.Status.{Status}
+use Rattle.sp_run.specs.declared.status.Status.TheVariants as statuses
+use Rattle.sp_run.specs.Forms.{from_file}
+use Rattle.spec_machine.specs.KeptMemories.{IsWholeMemory}
+use Rattle.spec_locked_pages.specs.Chains.{AreLinked}
+use Rattle.sp_run.specs.CountedLines.{LackingCounts}
+use Rattle.sp_run.specs.Counted.{OpeningCounts}
+use Rattle.sp_run.specs.DeskLines.{AnswersLine, NamedDesk, StopsAtLine, answered_lines, desk_at, desk_itself, memories_of, saves, shelf_behind, unsaved_count}
+use Rattle.sp_run.specs.Promises.{ArePromised}
+use Rattle.sp_run.specs.Opening.{SameShelf, HasState}
+use Rattle.sp_run.specs.Records.{OpensAs, RefusesRecords}
+use Rattle.sp_run.specs.Unopened.{Outside, FetchFailed, FoundNone, NotOpened, RecordsRefused, Refused, Refuses, SaysNoFile, TooLong}
+
+-- Each save, by this test, that failed raised the shelf's count of faults, where the count can tell.
+abbrev pub CountsUnsaved : {R : Type 0} → (List ℕ → Bool) → ShelfState → ShelfState → List (List ℕ) → List (Answered R) → Type 0
+CountsUnsaved test old new asked steps = new.faults < 2 ^ 64 - 1 → old.faults + unsaved_count test asked steps ≤ new.faults
+
+-- The shelf has a script under the name; it was opened as a desk with what stands beside it, and so its session ended, which
+-- left the shelf and the counts as they are now. All memories that the desk had keep what is promised.
+pub record HeldSession (name : List ℕ) (old new : Outside) (from to : Counts) (end : SessionEnd) : Type 0 where
+  pub state : State
+  pub has : HasState old.shelf name state
+  pub opened : Counts
+  pub opening : OpeningCounts state from opened
+  pub after : AtShelf NamedDesk
+  pub ends : SessionEnds AnswersLine StopsAtLine (streams old.source old.sink) (streams new.source new.sink) (desk_at name (opened_memory state) old.shelf opened) after end
+  pub left : new.shelf ≡ after.shelf
+  pub counts : to ≡ after.counts
+  pub promised : ArePromised (memories_of desk_itself (opened_memory state) ends.course.steps)
+  pub counted : CountsUnsaved saves old.shelf new.shelf ends.course.lines ends.course.steps
+
+-- The shelf has a script under the name and was left as it was, and this is the memory of its desk.
+pub record OpensDesk (shelf after : ShelfState) (name : List ℕ) (memory : Memory) : Type 0 where
+  pub state : State
+  pub has : HasState shelf name state
+  pub same : SameShelf shelf after
+  pub is : memory ≡ opened_memory state
+  pub whole : IsWholeMemory memory
+  pub linked : AreLinked memory
+
+-- How a run ends that answers commands, where a session is held so: a session that doesn't begin reads and fills nothing, or where
+-- there is no memory, no more than its opening asks.
+abbrev pub CommandsEnd : (SessionEnd → Type 0) → List ℕ → Outside → Outside → Counts → Counts → Status → Type 0
+CommandsEnd held name old new from to statuses.Done = held endings.Done
+CommandsEnd held name old new from to statuses.Usage = ⊥
+CommandsEnd held name old new from to (statuses.NoFile given) = FoundNone (from_file name) old new (string_bytes given) × (to ≡ from)
+CommandsEnd held name old new from to (statuses.BadText (faults.NotUtf8 place)) = Refused (from_file name) old new (no_utf8 place) × (to ≡ from)
+CommandsEnd held name old new from to (statuses.BadText (faults.LineFull place)) = Refused (from_file name) old new (long_line place) × (to ≡ from)
+CommandsEnd held name old new from to (statuses.BadText faults.TextFull) = TooLong (from_file name) old new × (to ≡ from)
+CommandsEnd held name old new from to (statuses.BadText faults.NoMemory) = ⊥
+CommandsEnd held name old new from to statuses.ReadFault = held endings.ReadFault
+CommandsEnd held name old new from to statuses.WriteFault = held endings.WriteFault
+CommandsEnd held name old new from to statuses.ShelfFault = FetchFailed (from_file name) old new × (to ≡ from)
+CommandsEnd held name old new from to (statuses.BadRecords fault) = RecordsRefused (from_file name) old new fault × (to ≡ from)
+CommandsEnd held name old new from to statuses.NoMemory = (NotOpened (from_file name) old new × LackingCounts old.shelf name from to) ⊎ held endings.NoMemory
+CommandsEnd held name old new from to (statuses.CommandLong number) = held (endings.CommandLong number)
+CommandsEnd held name old new from to statuses.InputFull = held endings.InputFull
+CommandsEnd held name old new from to (statuses.BadSheets file sheet) = ⊥
+CommandsEnd held name old new from to statuses.NotLocked = ⊥
+
+-- How a run ends that answers commands by a desk, and by a room.
+abbrev pub DeskEnds : List ℕ → Outside → Outside → Counts → Counts → Status → Type 0
+DeskEnds name old new from to status = CommandsEnd (HeldSession name old new from to) name old new from to status
+
+-- All command lines of the input were answered by a desk of the script, in order, what was written are the replies, and all
+-- memories that the desk had keep what is promised.
+pub record AnsweredAll (name : List ℕ) (old new : Outside) (from to : Counts) : Type 0 where
+  pub state : State
+  pub has : HasState old.shelf name state
+  pub opened : Counts
+  pub opening : OpeningCounts state from opened
+  pub input : List ℕ
+  pub gave : Consumes old.source.unread new.source.unread input
+  pub at_end : IsAtEnd new.source.unread
+  pub steps : List (Answered (AtShelf NamedDesk))
+  pub runs : Runs AnswersLine (desk_at name (opened_memory state) old.shelf opened) (command_lines input) steps
+  pub counts : to ≡ (left_by (desk_at name (opened_memory state) old.shelf opened) steps).counts
+  pub wrote : Appends old.sink.taken new.sink.taken (output_of steps)
+  pub left : new.shelf ≡ shelf_behind saves old.shelf (command_lines input) steps
+  pub promised : ArePromised (memories_of desk_itself (opened_memory state) steps)
+  pub counted : CountsUnsaved saves old.shelf new.shelf (command_lines input) steps
+
+-- All command lines of the input were answered by a desk of the script, and each save was done.
+pub record AnsweredCalmly (name : List ℕ) (old new : Outside) : Type 0 where
+  pub state : State
+  pub has : HasState old.shelf name state
+  pub input : List ℕ
+  pub gave : Consumes old.source.unread new.source.unread input
+  pub at_end : IsAtEnd new.source.unread
+  pub wrote : Appends old.sink.taken new.sink.taken (output_of (answered_lines (opened_memory state) (command_lines input)))
+
+-- A script opens with what stands beside it.
+abbrev pub Opens : List ℕ → Option (List ℕ) → Type 0
+Opens script records = (state : State) × OpensAs script records state
+
+-- The status is the one that the command lines of an input ask for, or there is no memory.
+abbrev pub AnswersInput : List ℕ → Status → Type 0
+AnswersInput input statuses.Done = KeepsLimits input
+AnswersInput input (statuses.CommandLong number) = IsFirstLong input number
+AnswersInput input statuses.InputFull = IsFull input
+AnswersInput input statuses.NoMemory = Unit {0}
+AnswersInput input _ = ⊥
+
+-- The status answers a script, what stands beside it, and the commands of an input: the first two are refused, or they open
+-- and the commands are answered.
+abbrev pub AnswersSession : List ℕ → Option (List ℕ) → List ℕ → Status → Type 0
+AnswersSession script records input (statuses.BadText fault) = Refuses (printing_of script) (statuses.BadText fault)
+AnswersSession script records input (statuses.BadRecords fault) = RefusesRecords script records fault
+AnswersSession script records input statuses.NoMemory = Unit {0}
+AnswersSession script records input status = Opens script records × AnswersInput input status
+
+-- The status answers what stands under a name and under that of its records, and the commands of an input.
+abbrev pub AnswersDesk : List ℕ → Option (List ℕ) → Option (List ℕ) → List ℕ → Status → Type 0
+AnswersDesk name None records input status = SaysNoFile name status
+AnswersDesk name (Some script) records input status = AnswersSession script records input status

@@ -1,3 +1,0 @@
-pub mod OpenedSamples
-pub mod SampleLaws
-pub mod ToldSamples

@@ -1,5 +1,0 @@
-use Rattle.std.proofs.Common.{◌≡◌, map, codes, replicate, string_bytes}
-use Rattle.sp_sample_script.proofs.commands.adding.Given as goal
-
-abbrev pub invariant-loop : goal.invariant-loop
-invariant-loop l = map string_bytes l.lines.items ≡ replicate l.counter (codes "A new line of action.")

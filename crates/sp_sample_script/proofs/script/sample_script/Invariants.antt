@@ -1,6 +1,0 @@
-use Rattle.std.proofs.Common.{◌≡◌}
-use Rattle.spec_sample.specs.Sample.{sample_script}
-use Rattle.sp_sample_script.proofs.script.sample_script.Given as goal
-
-abbrev pub invariant-loop-before : goal.invariant-loop-before
-invariant-loop-before l = l.script.items ≡ sample_script l.before

@@ -1,0 +1,13 @@
+pub mod Numbered
+pub mod Locked
+pub mod HeadingLines
+pub mod HeadingIds
+pub mod Stops
+pub mod States
+pub mod Firsts
+pub mod Made
+pub mod Pages
+pub mod Places
+pub mod Titles
+pub mod Headings
+pub mod Openings

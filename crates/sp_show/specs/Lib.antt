@@ -1,4 +1,0 @@
-pub mod Views
-pub mod Showing
-pub mod SheetForms
-pub mod ShowCounted

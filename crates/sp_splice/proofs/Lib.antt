@@ -1,3 +1,0 @@
-pub mod MoveLaws
-pub mod GapLaws
-pub mod GapPlaceLaws

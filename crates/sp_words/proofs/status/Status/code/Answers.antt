@@ -1,5 +1,0 @@
-use Rattle.std.proofs.Common.{rules}
-use Rattle.sp_words.proofs.status.Status.code.Goals as goal
-
-pub returns-in-NotLocked : goal.returns-in-NotLocked
-returns-in-NotLocked c = search rules

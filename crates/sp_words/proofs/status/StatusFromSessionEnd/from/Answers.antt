@@ -1,5 +1,0 @@
-use Rattle.std.proofs.Common.{rules}
-use Rattle.sp_words.proofs.status.StatusFromSessionEnd.from.Goals as goal
-
-pub returns-in-InputFull : goal.returns-in-InputFull
-returns-in-InputFull c = search rules

@@ -1,0 +1,13 @@
+pub mod Windows
+pub mod WindowBlocks
+pub mod Displaced
+pub mod Settling
+pub mod Items
+pub mod Touched
+pub mod TextItems
+pub mod Standing
+pub mod RowLines
+pub mod Moved
+pub mod RelaidBlocks
+pub mod RelaidStanzas
+pub mod PageWindows

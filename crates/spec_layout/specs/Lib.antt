@@ -1,4 +1,0 @@
-pub mod Cells
-pub mod Speakers
-pub mod Layout
-pub mod Shown

@@ -1,3 +1,0 @@
-//! What stands in a text: its elements laid out in rows, which speakers go on, and what a page shows of each row.
-//! Definitions and laws about them, no program.
-#![tactic(auto)]

@@ -1,4 +1,0 @@
-pub mod PageHeights
-pub mod PageParts
-pub mod PrintRows
-pub mod RoundBytes

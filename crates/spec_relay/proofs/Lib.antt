@@ -1,9 +1,0 @@
-pub mod Parts
-pub mod RowShifts
-pub mod MovedElements
-pub mod LayoutParts
-pub mod StayingRows
-pub mod RelaidParts
-pub mod StanzaBlocks
-pub mod RelaidStanzas
-pub mod PlacedElements

@@ -1,5 +1,0 @@
-pub mod Items
-pub mod Touched
-pub mod TextItems
-pub mod Standing
-pub mod RowLines

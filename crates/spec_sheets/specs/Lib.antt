@@ -1,0 +1,9 @@
+pub mod Cells
+pub mod Speakers
+pub mod Layout
+pub mod Shown
+pub mod RowBytes
+pub mod PageRows
+pub mod PageTexts
+pub mod Rounds
+pub mod Sheets
