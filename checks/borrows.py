@@ -19,15 +19,14 @@ USES = """\
 #![tactic(auto)]
 
 use sp_blocks::PlacedBlock;
-use sp_wire::Command;
 use sp_desk::Desk;
 use sp_kit::Counter;
-use sp_print::PageView;
+use sp_print::{CellText, PageView, RowView, SheetLabel};
 use sp_records::Records;
 use sp_reread::{Stanzas, Swapped, placed_blocks};
 use sp_state::{Entry, Script};
 use sp_text::{Displaced, Edit, Lines};
-use sp_print::{CellText, RowView, SheetLabel};
+use sp_wire::Command;
 use std::alloc::{AllocError, Global};
 
 fn rows(page: &Option<PageView<'_>>) -> usize {

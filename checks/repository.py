@@ -14,23 +14,11 @@ from report import tell
 TOP = pathlib.Path(__file__).resolve().parent.parent
 CRATES = TOP / "crates"
 MOST_LINES = 800
-# How many edits that must fail a crate of the program has at least; not those that are tests alone, or types without a function.
+# How many edits that must fail a crate of the program has at least; not those that are tests alone.
 LEAST_EDITS = 3
-NO_EDITS = ("sp_case", "sp_cases", "sp_wire")
-# Crates of the program that have none: for all but two, what theirs would try is a call of a smaller crate below (docs/DECISIONS.md).
-WITHOUT_EDITS = (
-    "sp_blocks",
-    "sp_reread",
-    "sp_columns",
-    "sp_print",
-    "sp_records",
-    "sp_sheets",
-    "sp_text_entry",
-    "sp_sheets",
-    "sp_state",
-    "sp_room",
-    "sp_run",
-)
+NO_EDITS = ("sp_case", "sp_cases")
+# Crates of the program that have none: what theirs would try is a call of a crate below (docs/DECISIONS.md).
+WITHOUT_EDITS = ("sp_text_entry", "sp_state")
 # The calls that make steps; all others count what they read and fill by those of their caller.
 COUNTING = ("fountain_cli/src/main.rt", "sp_case/src/ran.rt")
 
