@@ -39,6 +39,11 @@ TYPED = 10_000
 # How many lines go and come at one place, and how often they do.
 STRETCHES = (33, 100, 1_000)
 STRETCHED = 1_000
+# How many pages of a line a script has whose pages are locked, how many of them go, and how many come in each of so many rounds.
+PAGES = 48_000
+PAGES_OUT = 100
+PAGES_IN = 40
+ROUNDS = 40
 # How many rooms the large sample has.
 ROOMS = 2_000
 # A script has at most 16,777,216 bytes with a line end behind its last line.
@@ -239,7 +244,7 @@ def session_peak(path, commands):
 
 def main():
     others = {
-        "session": time_sessions, "edits": time_edits, "stretches": time_stretches, "sample": time_sample, "locks": time_locks, "cast": time_cast, "collate": time_collate, "room": time_rooms,
+        "session": time_sessions, "edits": time_edits, "pages": time_pages, "stretches": time_stretches, "sample": time_sample, "locks": time_locks, "cast": time_cast, "collate": time_collate, "room": time_rooms,
     }
     parser = argparse.ArgumentParser()
     parser.add_argument("--kind", choices=sorted([*KINDS, *LINES, *others]), action="append")
@@ -345,6 +350,39 @@ def time_edits(folder, options):
             f"{kind:24} {printed:9.4f} {undone:9.4f} {undone / printed:8.2f} {(edited - opened) / len(edits):9.6f} {(undone - edited) / len(edits):9.6f} {(peaks[2] - peaks[0]) / 1e6:8.1f}",
             flush=True,
         )
+
+
+def pages_out():
+    """Pages that are far from one another go, each with its page break."""
+    return [{"do": "replace", "first": 4 * (PAGES // PAGES_OUT - 1) * k, "count": 4, "lines": []} for k in range(PAGES_OUT)]
+
+
+def pages_in():
+    """Pages come far from one another, some in each round."""
+    page = {"do": "replace", "count": 0, "lines": ["!b", "", "===", ""]}
+    for number in range(ROUNDS):
+        yield from ({**page, "first": 4 * (PAGES // PAGES_IN * k + number)} for k in range(PAGES_IN))
+        yield {"do": "next_round"}
+
+
+def time_pages(folder, options):
+    """Times edits of many locked pages of a line beside `print` of the same script in the same run, and prints the memory that they add."""
+    print(f"{'kind':24} {'print s':>9} {'session s':>9} {'/ print':>8} {'more MB':>8}")
+    path = folder / "pages"
+    commands = folder / f"{path.name}.commands"
+    path.write_text("!a\n\n===\n\n" * PAGES)
+    printed = least('"$PROGRAM" print "$FILE" > /dev/null', path, options.runs)
+    peaks = []
+    for kind, edits in (
+        ("locked", UNDO),
+        ("pages out, each undone", [step for edit in pages_out() for step in (edit, *UNDO)]),
+        ("pages out, then undone", turned(pages_out())),
+        ("pages in, by rounds", [*pages_in()]),
+    ):
+        commands.write_text("".join(json.dumps(command) + "\n" for command in LOCKS + edits))
+        seconds = least(DESK, path, options.runs)
+        peaks.append(session_peak(path, commands))
+        print(f"{kind:24} {printed:9.4f} {seconds:9.4f} {seconds / printed:8.2f} {(peaks[-1] - peaks[0]) / 1e6:8.1f}", flush=True)
 
 
 def time_stretches(folder, options):
