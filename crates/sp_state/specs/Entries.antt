@@ -1,12 +1,12 @@
 -- The entry of an edit, and the states that it leads to (docs/RULES.md, "The desk").
 use Rattle.std.specs.Prelude.{◌≡◌}
-use Rattle.spec_text.specs.Lines.{TextState}
+use Rattle.spec_text.specs.Lines.{TextState, line_texts}
 use Rattle.spec_text.specs.Ranges.{RangeOf}
 use Rattle.spec_state.specs.State.{State}
 use Rattle.spec_locked_pages.specs.Segments.{pages_of}
 use Rattle.sp_reflow.specs.Starts.{Taken}
 use Rattle.sp_reflow.specs.Updates.{CanPutBack, with_taken}
-use Rattle.sp_exchange.specs.Restoring.{text_stanzas}
+use Rattle.sp_exchange.specs.Restoring.{AreDisplaced, text_stanzas}
 use Rattle.sp_layout.specs.Changes.{CanChange, ChangeOf, with_change}
 use Rattle.sp_layout.specs.Edited.{KeepsToWindow}
 use Rattle.sp_layout.specs.Kept.{KeptOf, laid_of, places_back}
@@ -58,13 +58,18 @@ pub record LeadsBack (before after : State) (entry : EntryState) : Type 0 where
   pub can : CanUndo after entry
   pub back : undone_state after entry ≡ before
 
--- The edit that led to a text laid out few elements, and its entry keeps few: at most two more than its window has and had blocks.
+-- Of elements that stand at its part an entry tells of at most two more than the stanzas of its window have blocks in a text, and of the
+-- part it keeps at most two more than the stanzas had blocks that it displaced.
 abbrev pub HoldsFew : TextState → EntryState → Type 0
 HoldsFew text entry = KeepsToWindow (text_stanzas text) entry.text.stanzas entry.layout
 
 -- Where the part of a change was put in, that of the change that leads back is to be put in.
 abbrev pub StandsBack : ChangeOf → ChangeOf → Type 0
 StandsBack change other = other.part.places ≡ places_back change.part.places (laid_of change.part.kept)
+
+-- The stanzas that an entry displaced are those of the window of an edit of this range, by which one text became another.
+abbrev pub HoldsWindow : TextState → TextState → RangeOf → EntryState → Type 0
+HoldsWindow before after range entry = AreDisplaced (line_texts before.lines) (line_texts after.lines) range entry.text.stanzas
 
 -- The entry that undoing left: it can be redone, and that leads forth.
 pub record LeadsForth (before after : State) (entry : EntryState) : Type 0 where

@@ -12,7 +12,7 @@ ghost use Rattle.sp_layout.specs.Kept.{laid_of};
 ghost use Rattle.sp_sheets.specs.Firsts.{IsLaidOf, first_rows};
 ghost use Rattle.sp_sheets.specs.Made.{IsMadeOf, IsNumberedOf};
 ghost use Rattle.sp_text_entry.specs.TextEntries.{CanRedoText, CanUndoText, HasTextRoom, IsTextRedone, IsTextUndone, redone_text, undone_text, edited_by};
-ghost use Rattle.sp_state.specs.Entries.{CanRedo, CanUndo, HoldsFew, IsSameEntry, LeadsBack, LeadsForth, done_range, redone_state, undone_range, undone_state};
+ghost use Rattle.sp_state.specs.Entries.{CanRedo, CanUndo, HoldsFew, HoldsWindow, IsSameEntry, LeadsBack, LeadsForth, done_range, redone_state, undone_range, undone_state};
 ghost use Rattle.sp_text_entry.specs.Reads.{ReadsEdit, ReadsEditAtMost};
 ghost use Rattle.sp_state.specs.Fills.{FillsEdit, FillsEditAtMost};
 ghost use Rattle.sp_sheets.specs.States.{state_in};
@@ -260,6 +260,7 @@ pub(crate) fn edit_made<S: Steps>(
     ensures whole { OnOk result (IsWhole (state_in lines.new records.new)) }
     ensures back { IfOk result (LeadsBack (state_in lines.old records.old) (state_in lines.new records.new)) }
     ensures range { IfOk result (λ it. done_range it ≡ range_in lines.old edit) }
+    ensures window { IfOk result (HoldsWindow (text_of lines.old) (text_of lines.new) (range_in lines.old edit)) }
     ensures few { IfOk result (HoldsFew (text_of lines.new)) }
     ensures laid { IsLaidOf (state_in lines.new records.new) (laid_of layout.new) }
     ensures numbered { IsNumberedOf (state_in lines.new records.new) numbered.new }

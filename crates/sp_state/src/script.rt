@@ -18,7 +18,7 @@ ghost use Rattle.sp_sheets.specs.Made.{IsMadeOf};
 ghost use Rattle.sp_sheets.specs.Openings.{IsOpening};
 ghost use Rattle.sp_text_entry.specs.Reads.{ReadsEdit, ReadsEditAtMost};
 ghost use Rattle.sp_state.specs.Fills.{FillsEdit, FillsEditAtMost};
-ghost use Rattle.sp_state.specs.Entries.{CanRedo, CanUndo, HoldsFew, IsSameEntry, LeadsBack, LeadsForth, done_range, redone_state, undone_range, undone_state};
+ghost use Rattle.sp_state.specs.Entries.{CanRedo, CanUndo, HoldsFew, HoldsWindow, IsSameEntry, LeadsBack, LeadsForth, done_range, redone_state, undone_range, undone_state};
 ghost use Rattle.sp_sheets.specs.States.{state_in};
 ghost use Rattle.sp_sheets.specs.Pages.{FillsAll, FillsAtMostAll, locked_starts_in};
 ghost use Rattle.sp_text_entry.specs.TextEntries.{edited_by, refusal_at};
@@ -235,6 +235,8 @@ impl Script {
         ensures state { OnOk result (self.new ≡ edited_by self.old edit) }
         ensures back { IfOk result (LeadsBack self.old self.new) }
         ensures range { IfOk result (λ it. done_range it ≡ range_of (replacement_of self.old.lines (edit_of edit))) }
+        ensures window { IfOk result (HoldsWindow (state_text self.old) (state_text self.new)
+            (range_of (replacement_of self.old.lines (edit_of edit)))) }
         ensures few { IfOk result (HoldsFew (state_text self.new)) }
         ensures same { OnErr result (self.new ≡ self.old) }
         ensures reads { OnOk result (ReadsEdit self.old edit (S.reads steps.old) (S.reads steps.new)) }

@@ -4,7 +4,7 @@ ghost use Rattle.spec_state.specs.Keeping.{IsWhole};
 ghost use Rattle.sp_text.specs.Changing.{Refuses};
 ghost use Rattle.sp_text.specs.Gap.{text_of};
 ghost use Rattle.sp_exchange.specs.Reads.{IsRefused};
-ghost use Rattle.sp_exchange.specs.Restoring.{CanRestoreText, HasRoomFor, text_before, text_stanzas, replacement_in, range_in, refusal_in};
+ghost use Rattle.sp_exchange.specs.Restoring.{CanRestoreText, DisplacesStanzas, HasRoomFor, text_before, text_stanzas, replacement_in, range_in, refusal_in};
 ghost use Rattle.sp_text_entry.specs.TextEntries.{CanUndoText, CanRedoText, HasTextRoom, IsTextRedone, IsSameTextEntry, IsTextUndone, LeadsTextBack, LeadsTextForth, undone_text, redone_text, undone_lines, done_lines, edited_by};
 ghost use Rattle.sp_layout.specs.Changes.{CanChange, HasChangeRoom, with_change};
 ghost use Rattle.sp_layout.specs.Edited.{KeepsToWindow};
@@ -104,6 +104,7 @@ pub fn edit_entry<S: Steps>(
     ensures layout_back { IfOk result (λ it. with_change (laid_of layout.new) it.layout ≡ laid_of layout.old) }
     ensures can_change { IfOk result (λ it. CanChange (laid_of layout.new) it.layout) }
     ensures layout_room { IfOk result (λ it. HasChangeRoom layout.new it.layout) }
+    ensures window { IfOk result (λ it. DisplacesStanzas lines.old lines.new edit it.text.stanzas) }
     ensures few { IfOk result (λ it. KeepsToWindow (text_stanzas (text_of lines.new)) it.text.stanzas it.layout) }
     ensures rows { IfOk result (λ it.
         IsExchangeOf (state_in lines.old records.old) (replacement_in lines.old edit) it.rows) }

@@ -8,7 +8,7 @@ use Rattle.spec_state.specs.Keeping.{IsWhole, state_of}
 use Rattle.sp_text.specs.Changing.{Refuses, edit_of}
 use Rattle.sp_text.specs.Gap.{text_of}
 use Rattle.sp_exchange.specs.Reads.{IsRefused}
-use Rattle.sp_state.specs.Entries.{EntryState, LeadsBack}
+use Rattle.sp_state.specs.Entries.{EntryState, HoldsWindow, LeadsBack}
 use Rattle.sp_state.specs.Fills.{EditFills, EditFillsAtMost}
 use Rattle.sp_text_entry.specs.Reads.{EditReads, EditReadsAtMost}
 use Rattle.sp_state.proofs.EditedScripts.{before-is}
@@ -29,6 +29,7 @@ returns-in_err-entry g c =
       state = tt;
       back = tt;
       range = tt;
+      window = tt;
       few = tt;
       same = left.same ∙ before;
       reads = tt;
@@ -54,6 +55,7 @@ returns g c =
       state = done.state ∙ ap (λ (state : State). edited_state state (replacement_of state.lines edit)) before;
       back = subst (λ (state : State). LeadsBack state new c.in_ok-entry.entry) before done.back;
       range = done.range ∙ ap (λ (state : State). range_of (replacement_of state.lines edit)) before;
+      window = subst (λ (state : State). HoldsWindow (state_text state) (state_text new) (range_of (replacement_of state.lines edit)) c.in_ok-entry.entry) before done.window;
       few = done.few;
       same = tt;
       reads = subst (λ (state : State). EditReads state (replacement_of state.lines edit) reads (g.S.Steps.reads c.edit_made.new.steps)) before done.reads;
