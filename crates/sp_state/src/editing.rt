@@ -27,9 +27,7 @@ use sp_reflow::Pages;
 use sp_reread::Stanzas;
 use sp_sheets::{Made, Numbered, keeps_headings, laid_firsts, lay, leaves_titles, make, number};
 use sp_text::{Edit, EditFault, Lines};
-use sp_text_entry::{
-    EditedText, TextEntry, UnturnedText, change_in_room, edit_entry, turn_entry,
-};
+use sp_text_entry::{EditedText, TextEntry, UnturnedText, change_in_room, edit_entry, turn_entry};
 use spec_pages::Paper;
 use std::alloc::{AllocError, Global};
 use std::mem;
