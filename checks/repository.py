@@ -17,8 +17,6 @@ MOST_LINES = 800
 # How many edits that must fail a crate of the program has at least; not those that are tests alone.
 LEAST_EDITS = 3
 NO_EDITS = ("sp_case", "sp_cases")
-# Crates of the program that have none: what theirs would try is a call of a crate below (docs/DECISIONS.md).
-WITHOUT_EDITS = ("sp_text_entry", "sp_state")
 # The calls that make steps; all others count what they read and fill by those of their caller.
 COUNTING = ("fountain_cli/src/main.rt", "sp_case/src/ran.rt")
 
@@ -132,7 +130,7 @@ def edits():
         if not name.startswith("sp_") or name in NO_EDITS:
             continue
         count = len(list((CRATES / name / "must-fail").glob("*.edit")))
-        if name in WITHOUT_EDITS and count or name not in WITHOUT_EDITS and count < LEAST_EDITS:
+        if count < LEAST_EDITS:
             yield f"{name} has {count} edits that must fail"
     for name in re.findall(r"`(\w+/\w+)`", (TOP / "docs/PROMISES.md").read_text()):
         crate, edit = name.split("/")

@@ -28,7 +28,7 @@ use Rattle.spec_locked_pages.specs.Promises.{KeepsPages}
 use Rattle.spec_locked_pages.proofs.ChainLaws.{step-linked}
 use Rattle.spec_locked_pages.proofs.PageLaws.{command-keeps, unchanged-keeps}
 use Rattle.spec_machine.proofs.RefusalLaws.{free-scenes, free-pages, free-round}
-use Rattle.sp_state.specs.Entries.{EntryState, undone_state, redone_state, done_range, undone_range, CanUndo, CanRedo, LeadsBack, LeadsForth}
+use Rattle.sp_state.specs.Entries.{CanTurn, EntryState, Leads, done_range, turned_range, turned_state}
 use Rattle.sp_wire.specs.declared.reply.Reply.{Reply}
 use Rattle.sp_wire.specs.Values.{reply_of}
 use Rattle.sp_wire.specs.Values as values
@@ -39,6 +39,7 @@ use Rattle.sp_records.specs.declared.opening_fault.OpeningFault.{OpeningFault}
 use Rattle.sp_records.specs.declared.opening_fault.OpeningFault.TheVariants as faults
 use Rattle.sp_sheets.specs.Openings.{IsReason}
 use Rattle.sp_desk.specs.Answers.{IsAnswer, opening_fault_of, step_to}
+use Rattle.sp_state.proofs.EntryLaws.{turned-range}
 use Rattle.sp_desk.proofs.EntryLaws.{last-more, front-more, entries-more, can-more, can-last, can-front, entries-same, can-same}
 
 -- ---- steps
@@ -64,58 +65,67 @@ memory-same state done undone other others more s d u = cc
 -- ---- one entry
 
 -- One that leads from the new state to the old one is added.
-added : (turn : State → EntryState → State) (range : EntryState → RangeOf) (old new : State) (entries : List EntryState) (entry : EntryState) (place : RangeOf)
-    → turn new entry ≡ old → range entry ≡ place → entries_by turn range new (entries ++ entry ∷ []) ≡ entries_by turn range old entries ++ entry_of old place ∷ []
-added turn range old new entries entry place back is =
-    entries-more turn range new entries entry
-    ∙ ap (λ (s : State). entries_by turn range s entries ++ entry_of s (range entry) ∷ []) back
-    ∙ ap (λ (r : RangeOf). entries_by turn range old entries ++ entry_of old r ∷ []) is
+added : (range : EntryState → RangeOf) (old new : State) (entries : List EntryState) (entry : EntryState) (place : RangeOf)
+    → turned_state new entry ≡ old → range entry ≡ place → entries_by range new (entries ++ entry ∷ []) ≡ entries_by range old entries ++ entry_of old place ∷ []
+added range old new entries entry place back is =
+    entries-more range new entries entry
+    ∙ ap (λ (s : State). entries_by range s entries ++ entry_of s (range entry) ∷ []) back
+    ∙ ap (λ (r : RangeOf). entries_by range old entries ++ entry_of old r ∷ []) is
+
+can-added : (old new : State) (entries : List EntryState) (entry : EntryState) → Leads new old entry → CanTurnAll old entries → CanTurnAll new (entries ++ entry ∷ [])
+can-added old new entries entry leads all = can-more new entries entry leads.can (subst (λ (s : State). CanTurnAll s entries) (sym leads.there) all)
 
 -- The last one is taken.
-taken : (turn : State → EntryState → State) (range : EntryState → RangeOf) (old new : State) (entries : List EntryState) (entry : EntryState)
-    → new ≡ turn old entry → entries_by turn range new entries ≡ without_last (entries_by turn range old (entries ++ entry ∷ []))
-taken turn range old new entries entry is =
-    ap (λ (s : State). entries_by turn range s entries) is
-    ∙ sym (front-more (entries_by turn range (turn old entry) entries) (entry_of (turn old entry) (range entry)))
-    ∙ ap without_last (sym (entries-more turn range old entries entry))
+taken : (range : EntryState → RangeOf) (old new : State) (entries : List EntryState) (entry : EntryState)
+    → new ≡ turned_state old entry → entries_by range new entries ≡ without_last (entries_by range old (entries ++ entry ∷ []))
+taken range old new entries entry is =
+    ap (λ (s : State). entries_by range s entries) is
+    ∙ sym (front-more (entries_by range (turned_state old entry) entries) (entry_of (turned_state old entry) (range entry)))
+    ∙ ap without_last (sym (entries-more range old entries entry))
 
-last-of : (turn : State → EntryState → State) (range : EntryState → RangeOf) (state : State) (entries : List EntryState) (entry : EntryState)
-    → last_entry (entries_by turn range state (entries ++ entry ∷ [])) ≡ Some (entry_of (turn state entry) (range entry))
-last-of turn range state entries entry =
-    ap last_entry (entries-more turn range state entries entry) ∙ last-more (entries_by turn range (turn state entry) entries) (entry_of (turn state entry) (range entry))
+can-taken : (old new : State) (entries : List EntryState) (entry : EntryState) → new ≡ turned_state old entry → CanTurnAll old (entries ++ entry ∷ []) → CanTurnAll new entries
+can-taken old new entries entry is all = subst (λ (s : State). CanTurnAll s entries) (sym is) (can-front old entries entry all)
+
+last-of : (range : EntryState → RangeOf) (state : State) (entries : List EntryState) (entry : EntryState)
+    → last_entry (entries_by range state (entries ++ entry ∷ [])) ≡ Some (entry_of (turned_state state entry) (range entry))
+last-of range state entries entry =
+    ap last_entry (entries-more range state entries entry) ∙ last-more (entries_by range (turned_state state entry) entries) (entry_of (turned_state state entry) (range entry))
 
 -- Where there is an entry, the list isn't empty.
-longer : (turn : State → EntryState → State) (range : EntryState → RangeOf) (state : State) (entries : List EntryState) (entry : EntryState)
-    → 0 < length (entries_by turn range state (entries ++ entry ∷ []))
-longer turn range state [] entry = omega arith
-longer turn range state (it ∷ entries) entry = omega arith
+longer : (range : EntryState → RangeOf) (state : State) (entries : List EntryState) (entry : EntryState) → 0 < length (entries_by range state (entries ++ entry ∷ []))
+longer range state [] entry = omega arith
+longer range state (it ∷ entries) entry = omega arith
 
-some-of : (turn : State → EntryState → State) (range : EntryState → RangeOf) (state : State) (entries : List EntryState) (entry : EntryState) (reason : RefusalOf)
-    → reason_if (length (entries_by turn range state (entries ++ entry ∷ [])) == 0) reason ≡ None
-some-of turn range state entries entry reason = ap (λ (b : Bool). reason_if b reason) (not-none (length (entries_by turn range state (entries ++ entry ∷ []))) (longer turn range state entries entry))
+some-of : (range : EntryState → RangeOf) (state : State) (entries : List EntryState) (entry : EntryState) (reason : RefusalOf)
+    → reason_if (length (entries_by range state (entries ++ entry ∷ [])) == 0) reason ≡ None
+some-of range state entries entry reason = ap (λ (b : Bool). reason_if b reason) (not-none (length (entries_by range state (entries ++ entry ∷ []))) (longer range state entries entry))
   where
     not-none : (n : ℕ) → 0 < n → (n == 0) ≡ false
     not-none n positive = grind (arith, nat_tests)
 
 -- The state that the last entry leads to is whole.
-last-whole : (turn : State → EntryState → State) (range : EntryState → RangeOf) (state other : State) (entries : List EntryState) (entry : EntryState)
-    → All (IsEntry other) (entries_by turn range state (entries ++ entry ∷ [])) → IsWhole (turn state entry)
-last-whole turn range state other entries entry all =
-    let front = entries_by turn range (turn state entry) entries in
-    let last = entry_of (turn state entry) (range entry) in
-    let those : All (IsEntry other) (front ++ last ∷ []) = subst (All (IsEntry other)) (entries-more turn range state entries entry) all in
+last-whole : (range : EntryState → RangeOf) (state other : State) (entries : List EntryState) (entry : EntryState)
+    → All (IsEntry other) (entries_by range state (entries ++ entry ∷ [])) → IsWhole (turned_state state entry)
+last-whole range state other entries entry all =
+    let front = entries_by range (turned_state state entry) entries in
+    let last = entry_of (turned_state state entry) (range entry) in
+    let those : All (IsEntry other) (front ++ last ∷ []) = subst (All (IsEntry other)) (entries-more range state entries entry) all in
     let here : IsEntry other (get_or (front ++ last ∷ []) (length front) last) = those (length front) last (omega (arith, length-append front (last ∷ []))) in
     (subst (IsEntry other) (get_or-append_seam front last [] last) here).whole
 
+-- Lists as the journal has them.
+listed : (P : List EntryState → List EntryState → Type 0) (dones undones done undone : List EntryState) → dones ≡ done → undones ≡ undone → P done undone → P dones undones
+listed P dones undones done undone first second it = subst (λ (es : List EntryState). P es undones) (sym first) (subst (P done) (sym second) it)
+
 -- ---- an edit
 
-edited-memory : (old new : State) (done undone : List EntryState) (entry : EntryState) (it : Replacement) → new ≡ edited_state old it → LeadsBack old new entry → done_range entry ≡ range_of it
+edited-memory : (old new : State) (done undone : List EntryState) (entry : EntryState) (it : Replacement) → new ≡ edited_state old it → Leads new old entry → done_range entry ≡ range_of it
     → memory_by new (done ++ entry ∷ []) [] ≡ edited_memory (memory_by old done undone) it
 edited-memory old new done undone entry it is leads range =
-    memory-same _ _ _ _ _ _ is (added undone_state done_range old new done entry (range_of it) leads.back range) refl
+    memory-same _ _ _ _ _ _ is (added done_range old new done entry (range_of it) leads.there range) refl
 
-pub edit-step : (old new : State) (done undone : List EntryState) (entry : EntryState) (it : EditOf) → IsDesk old done undone → refusal_of (text_of old) it ≡ None
-    → new ≡ edited_state old (replacement_of old.lines it) → IsText (text_of new) → LeadsBack old new entry → done_range entry ≡ range_of (replacement_of old.lines it)
+edit-step : (old new : State) (done undone : List EntryState) (entry : EntryState) (it : EditOf) → IsDesk old done undone → refusal_of (text_of old) it ≡ None
+    → new ≡ edited_state old (replacement_of old.lines it) → IsText (text_of new) → Leads new old entry → done_range entry ≡ range_of (replacement_of old.lines it)
     → IsStep (memory_by old done undone) (edit it) new (done ++ entry ∷ []) []
 edit-step old new done undone entry it desk free is text leads range =
     let memory = memory_by old done undone in
@@ -126,145 +136,126 @@ edit-step old new done undone entry it desk free is text leads range =
       desk = record {
         whole = subst IsWholeMemory (sym same) (step-whole memory (edit it) desk.whole (record { taken = free; text = there }));
         linked = subst AreLinked (sym same) (step-linked memory (edit it) desk.linked (record { taken = free; text = there }));
-        can_undo = can-more CanUndo undone_state new done entry leads.can (subst (λ (s : State). CanTurnAll CanUndo undone_state s done) (sym leads.back) desk.can_undo);
+        can_undo = can-added old new done entry leads desk.can_undo;
         can_redo = tt;
       };
     }
 
--- ---- undo
+pub edited-step : (old new : State) (done undone dones undones : List EntryState) (entry : EntryState) (it : EditOf) → IsDesk old done undone → refusal_of (text_of old) it ≡ None
+    → new ≡ edited_state old (replacement_of old.lines it) → IsText (text_of new) → Leads new old entry → done_range entry ≡ range_of (replacement_of old.lines it) → dones ≡ done ++ entry ∷ [] → undones ≡ []
+    → IsStep (memory_by old done undone) (edit it) new dones undones
+edited-step old new done undone dones undones entry it desk free is text leads range more none =
+    listed (IsStep (memory_by old done undone) (edit it) new) dones undones (done ++ entry ∷ []) [] more none (edit-step old new done undone entry it desk free is text leads range)
 
-undone-memory : (old new : State) (done undone : List EntryState) (entry again : EntryState) → new ≡ undone_state old entry → LeadsForth old new again → undone_range again ≡ done_range entry
+-- ---- undo and redo
+
+undone-memory : (old new : State) (done undone : List EntryState) (entry again : EntryState) → new ≡ turned_state old entry → Leads new old again → done_range again ≡ turned_range entry
     → memory_by new done (undone ++ again ∷ []) ≡ memory_after (memory_by old (done ++ entry ∷ []) undone) undo
 undone-memory old new done undone entry again is leads range =
     let memory = memory_by old (done ++ entry ∷ []) undone in
-    memory-same _ _ _ _ _ _ is (taken undone_state done_range old new done entry is) (added redone_state undone_range old new undone again (done_range entry) leads.forth range)
-    ∙ ap (undone_to memory) (sym (last-of undone_state done_range old done entry))
+    memory-same _ _ _ _ _ _ is (taken done_range old new done entry is) (added turned_range old new undone again (done_range entry) leads.there (turned-range again entry range))
+    ∙ ap (undone_to memory) (sym (last-of done_range old done entry))
 
-pub undo-step : (old new : State) (done undone : List EntryState) (entry again : EntryState) → IsDesk old (done ++ entry ∷ []) undone
-    → new ≡ undone_state old entry → LeadsForth old new again → undone_range again ≡ done_range entry
+undo-step : (old new : State) (done undone : List EntryState) (entry again : EntryState) → IsDesk old (done ++ entry ∷ []) undone
+    → new ≡ turned_state old entry → Leads new old again → done_range again ≡ turned_range entry
     → IsStep (memory_by old (done ++ entry ∷ []) undone) undo new done (undone ++ again ∷ [])
 undo-step old new done undone entry again desk is leads range =
     let memory = memory_by old (done ++ entry ∷ []) undone in
     let same = undone-memory old new done undone entry again is leads range in
     record {
-      step = accepted-step memory (memory_by new done (undone ++ again ∷ [])) undo (some-of undone_state done_range old done entry nothing_to_undo) same;
+      step = accepted-step memory (memory_by new done (undone ++ again ∷ [])) undo (some-of done_range old done entry nothing_to_undo) same;
       desk = record {
-        whole = subst IsWholeMemory (sym same) (step-whole memory undo desk.whole (longer undone_state done_range old done entry));
-        linked = subst AreLinked (sym same) (step-linked memory undo desk.linked (longer undone_state done_range old done entry));
-        can_undo = subst (λ (s : State). CanTurnAll CanUndo undone_state s done) (sym is) (can-front CanUndo undone_state old done entry desk.can_undo);
-        can_redo = can-more CanRedo redone_state new undone again leads.can (subst (λ (s : State). CanTurnAll CanRedo redone_state s undone) (sym leads.forth) desk.can_redo);
+        whole = subst IsWholeMemory (sym same) (step-whole memory undo desk.whole (longer done_range old done entry));
+        linked = subst AreLinked (sym same) (step-linked memory undo desk.linked (longer done_range old done entry));
+        can_undo = can-taken old new done entry is desk.can_undo;
+        can_redo = can-added old new undone again leads desk.can_redo;
       };
     }
 
-redone-memory : (old new : State) (done undone : List EntryState) (entry again : EntryState) → new ≡ redone_state old entry → LeadsBack old new again → done_range again ≡ undone_range entry
+pub undone-step : (old new : State) (done undone front dones undones : List EntryState) (entry again : EntryState) → IsDesk old done undone
+    → done ≡ front ++ entry ∷ [] → new ≡ turned_state old entry → Leads new old again → done_range again ≡ turned_range entry → dones ≡ front → undones ≡ undone ++ again ∷ []
+    → IsStep (memory_by old done undone) undo new dones undones
+undone-step old new done undone front dones undones entry again desk last is leads range there more =
+    let desks : IsDesk old (front ++ entry ∷ []) undone = subst (λ (es : List EntryState). IsDesk old es undone) last desk in
+    subst (λ (es : List EntryState). IsStep (memory_by old es undone) undo new dones undones) (sym last)
+    (listed (IsStep (memory_by old (front ++ entry ∷ []) undone) undo new) dones undones front (undone ++ again ∷ []) there more (undo-step old new front undone entry again desks is leads range))
+
+redone-memory : (old new : State) (done undone : List EntryState) (entry again : EntryState) → new ≡ turned_state old entry → Leads new old again → done_range again ≡ turned_range entry
     → memory_by new (done ++ again ∷ []) undone ≡ memory_after (memory_by old done (undone ++ entry ∷ [])) redo
 redone-memory old new done undone entry again is leads range =
     let memory = memory_by old done (undone ++ entry ∷ []) in
-    memory-same _ _ _ _ _ _ is (added undone_state done_range old new done again (undone_range entry) leads.back range) (taken redone_state undone_range old new undone entry is)
-    ∙ ap (redone_to memory) (sym (last-of redone_state undone_range old undone entry))
+    memory-same _ _ _ _ _ _ is (added done_range old new done again (turned_range entry) leads.there range) (taken turned_range old new undone entry is)
+    ∙ ap (redone_to memory) (sym (last-of turned_range old undone entry))
 
-pub redo-step : (old new : State) (done undone : List EntryState) (entry again : EntryState) → IsDesk old done (undone ++ entry ∷ [])
-    → new ≡ redone_state old entry → LeadsBack old new again → done_range again ≡ undone_range entry
+redo-step : (old new : State) (done undone : List EntryState) (entry again : EntryState) → IsDesk old done (undone ++ entry ∷ [])
+    → new ≡ turned_state old entry → Leads new old again → done_range again ≡ turned_range entry
     → IsStep (memory_by old done (undone ++ entry ∷ [])) redo new (done ++ again ∷ []) undone
 redo-step old new done undone entry again desk is leads range =
     let memory = memory_by old done (undone ++ entry ∷ []) in
     let same = redone-memory old new done undone entry again is leads range in
     record {
-      step = accepted-step memory (memory_by new (done ++ again ∷ []) undone) redo (some-of redone_state undone_range old undone entry nothing_to_redo) same;
+      step = accepted-step memory (memory_by new (done ++ again ∷ []) undone) redo (some-of turned_range old undone entry nothing_to_redo) same;
       desk = record {
-        whole = subst IsWholeMemory (sym same) (step-whole memory redo desk.whole (longer redone_state undone_range old undone entry));
-        linked = subst AreLinked (sym same) (step-linked memory redo desk.linked (longer redone_state undone_range old undone entry));
-        can_undo = can-more CanUndo undone_state new done again leads.can (subst (λ (s : State). CanTurnAll CanUndo undone_state s done) (sym leads.back) desk.can_undo);
-        can_redo = subst (λ (s : State). CanTurnAll CanRedo redone_state s undone) (sym is) (can-front CanRedo redone_state old undone entry desk.can_redo);
+        whole = subst IsWholeMemory (sym same) (step-whole memory redo desk.whole (longer turned_range old undone entry));
+        linked = subst AreLinked (sym same) (step-linked memory redo desk.linked (longer turned_range old undone entry));
+        can_undo = can-added old new done again leads desk.can_undo;
+        can_redo = can-taken old new undone entry is desk.can_redo;
       };
     }
 
-pub edited-step : (old new : State) (done undone dones undones : List EntryState) (entry : EntryState) (it : EditOf) → IsDesk old done undone → refusal_of (text_of old) it ≡ None
-    → new ≡ edited_state old (replacement_of old.lines it) → IsText (text_of new) → LeadsBack old new entry → done_range entry ≡ range_of (replacement_of old.lines it) → dones ≡ done ++ entry ∷ [] → undones ≡ []
-    → IsStep (memory_by old done undone) (edit it) new dones undones
-edited-step old new done undone dones undones entry it desk free is text leads range more none =
-    subst (λ (es : List EntryState). IsStep (memory_by old done undone) (edit it) new es undones) (sym more)
-    (subst (λ (es : List EntryState). IsStep (memory_by old done undone) (edit it) new (done ++ entry ∷ []) es) (sym none)
-    (edit-step old new done undone entry it desk free is text leads range))
-
-pub undone-step : (old new : State) (done undone front dones undones : List EntryState) (entry again : EntryState) → IsDesk old done undone
-    → done ≡ front ++ entry ∷ [] → new ≡ undone_state old entry → LeadsForth old new again → undone_range again ≡ done_range entry → dones ≡ front → undones ≡ undone ++ again ∷ []
-    → IsStep (memory_by old done undone) undo new dones undones
-undone-step old new done undone front dones undones entry again desk last is leads range there more =
-    let desks : IsDesk old (front ++ entry ∷ []) undone = subst (λ (es : List EntryState). IsDesk old es undone) last desk in
-    subst (λ (es : List EntryState). IsStep (memory_by old es undone) undo new dones undones) (sym last)
-    (subst (λ (es : List EntryState). IsStep (memory_by old (front ++ entry ∷ []) undone) undo new es undones) (sym there)
-    (subst (λ (es : List EntryState). IsStep (memory_by old (front ++ entry ∷ []) undone) undo new front es) (sym more)
-    (undo-step old new front undone entry again desks is leads range)))
-
 pub redone-step : (old new : State) (done undone front dones undones : List EntryState) (entry again : EntryState) → IsDesk old done undone
-    → undone ≡ front ++ entry ∷ [] → new ≡ redone_state old entry → LeadsBack old new again → done_range again ≡ undone_range entry → undones ≡ front → dones ≡ done ++ again ∷ []
+    → undone ≡ front ++ entry ∷ [] → new ≡ turned_state old entry → Leads new old again → done_range again ≡ turned_range entry → undones ≡ front → dones ≡ done ++ again ∷ []
     → IsStep (memory_by old done undone) redo new dones undones
 redone-step old new done undone front dones undones entry again desk last is leads range there more =
     let desks : IsDesk old done (front ++ entry ∷ []) = subst (λ (es : List EntryState). IsDesk old done es) last desk in
     subst (λ (es : List EntryState). IsStep (memory_by old done es) redo new dones undones) (sym last)
-    (subst (λ (es : List EntryState). IsStep (memory_by old done (front ++ entry ∷ [])) redo new dones es) (sym there)
-    (subst (λ (es : List EntryState). IsStep (memory_by old done (front ++ entry ∷ [])) redo new es front) (sym more)
-    (redo-step old new done front entry again desks is leads range)))
+    (listed (IsStep (memory_by old done (front ++ entry ∷ [])) redo new) dones undones (done ++ again ∷ []) front more there (redo-step old new done front entry again desks is leads range))
 
 -- ---- what is asked of a script
 
-pub record CanTurn (may : State → EntryState → Type 0) (turn : State → EntryState → State) (state : State) (entry : EntryState) : Type 0 where
-  pub can : may state entry
-  pub whole : IsWhole (turn state entry)
+pub record MayTurn (state : State) (entry : EntryState) : Type 0 where
+  pub can : CanTurn state entry
+  pub whole : IsWhole (turned_state state entry)
 
-pub can-undo : (state : State) (done undone front : List EntryState) (entry : EntryState) → IsDesk state done undone → done ≡ front ++ entry ∷ [] → CanTurn CanUndo undone_state state entry
-can-undo state done undone front entry desk last =
-    let desks : IsDesk state (front ++ entry ∷ []) undone = subst (λ (es : List EntryState). IsDesk state es undone) last desk in
-    record { can = can-last CanUndo undone_state state front entry desks.can_undo; whole = last-whole undone_state done_range state state front entry (desks.whole).done }
-
-pub can-redo : (state : State) (done undone front : List EntryState) (entry : EntryState) → IsDesk state done undone → undone ≡ front ++ entry ∷ [] → CanTurn CanRedo redone_state state entry
-can-redo state done undone front entry desk last =
-    let desks : IsDesk state done (front ++ entry ∷ []) = subst (λ (es : List EntryState). IsDesk state done es) last desk in
-    record { can = can-last CanRedo redone_state state front entry desks.can_redo; whole = last-whole redone_state undone_range state state front entry (desks.whole).undone }
+pub may-turn : (range : EntryState → RangeOf) (state : State) (entries front : List EntryState) (entry : EntryState)
+    → entries ≡ front ++ entry ∷ [] → CanTurnAll state entries → All (IsEntry state) (entries_by range state entries) → MayTurn state entry
+may-turn range state entries front entry last can all = record {
+  can = can-last state front entry (subst (CanTurnAll state) last can);
+  whole = last-whole range state state front entry (subst (λ (es : List EntryState). All (IsEntry state) (entries_by range state es)) last all);
+}
 
 -- ---- an entry is handed back
+
+-- Entries lead where others led.
+pub record AreSame (range : EntryState → RangeOf) (state : State) (entries others : List EntryState) : Type 0 where
+  pub same : entries_by range state others ≡ entries_by range state entries
+  pub can : CanTurnAll state others
+
+pub unchanged : (range : EntryState → RangeOf) (state : State) (entries others : List EntryState) → others ≡ entries → CanTurnAll state entries → AreSame range state entries others
+unchanged range state entries others is can = record { same = ap (entries_by range state) is; can = subst (CanTurnAll state) (sym is) can }
+
+-- The last one is handed back as another that leads to the same state.
+pub handed-back : (range : EntryState → RangeOf) (state : State) (entries front others : List EntryState) (entry back : EntryState) → entries ≡ front ++ entry ∷ [] → others ≡ front ++ back ∷ []
+    → CanTurn state back → turned_state state back ≡ turned_state state entry → range back ≡ range entry → CanTurnAll state entries → AreSame range state entries others
+handed-back range state entries front others entry back last more can there same all = record {
+  same = ap (entries_by range state) more ∙ entries-same range state front back entry there same ∙ ap (entries_by range state) (sym last);
+  can = subst (CanTurnAll state) (sym more) (can-same state front back entry can there (subst (CanTurnAll state) last all));
+}
 
 -- A desk stands for the memory that it stood for.
 pub record IsSameDesk (memory : Memory) (state : State) (done undone : List EntryState) : Type 0 where
   pub same : memory_by state done undone ≡ memory
   pub desk : IsDesk state done undone
 
-handed-desk : (state new : State) (done undone dones undones : List EntryState) → new ≡ state
-    → memory_by state dones undones ≡ memory_by state done undone → CanTurnAll CanUndo undone_state state dones → CanTurnAll CanRedo redone_state state undones → IsDesk state done undone
+pub same-desk : (state new : State) (done undone dones undones : List EntryState) → new ≡ state → AreSame done_range state done dones → AreSame turned_range state undone undones → IsDesk state done undone
     → IsSameDesk (memory_by state done undone) new dones undones
-handed-desk state new done undone dones undones is same undos redos desk =
+same-desk state new done undone dones undones is first second desk =
+    let same = memory-same _ _ _ _ _ _ refl first.same second.same in
     subst (λ (s : State). IsSameDesk (memory_by state done undone) s dones undones) (sym is)
     (record {
       same = same;
-      desk = record { whole = subst IsWholeMemory (sym same) desk.whole; linked = subst AreLinked (sym same) desk.linked; can_undo = undos; can_redo = redos };
+      desk = record { whole = subst IsWholeMemory (sym same) desk.whole; linked = subst AreLinked (sym same) desk.linked; can_undo = first.can; can_redo = second.can };
     })
-
-pub undo-back : (old new : State) (done undone front dones undones : List EntryState) (entry back : EntryState) → IsDesk old done undone → done ≡ front ++ entry ∷ [] → new ≡ old
-    → CanUndo old back → undone_state old back ≡ undone_state old entry → done_range back ≡ done_range entry → dones ≡ front ++ back ∷ [] → undones ≡ undone
-    → IsSameDesk (memory_by old done undone) new dones undones
-undo-back old new done undone front dones undones entry back desk last is can there range more rest =
-    let all = entries-same undone_state done_range old front back entry there range in
-    let entries : entries_by undone_state done_range old dones ≡ entries_by undone_state done_range old done =
-    ap (entries_by undone_state done_range old) more ∙ all ∙ ap (entries_by undone_state done_range old) (sym last) in
-    let turns : CanTurnAll CanUndo undone_state old dones =
-    subst (CanTurnAll CanUndo undone_state old) (sym more)
-    (can-same CanUndo undone_state old front back entry can there (subst (CanTurnAll CanUndo undone_state old) last desk.can_undo)) in
-    handed-desk old new done undone dones undones is (memory-same _ _ _ _ _ _ refl entries (ap (entries_by redone_state undone_range old) rest)) turns
-    (subst (CanTurnAll CanRedo redone_state old) (sym rest) desk.can_redo) desk
-
-pub redo-back : (old new : State) (done undone front dones undones : List EntryState) (entry back : EntryState) → IsDesk old done undone → undone ≡ front ++ entry ∷ [] → new ≡ old
-    → CanRedo old back → redone_state old back ≡ redone_state old entry → undone_range back ≡ undone_range entry → undones ≡ front ++ back ∷ [] → dones ≡ done
-    → IsSameDesk (memory_by old done undone) new dones undones
-redo-back old new done undone front dones undones entry back desk last is can there range more rest =
-    let all = entries-same redone_state undone_range old front back entry there range in
-    let entries : entries_by redone_state undone_range old undones ≡ entries_by redone_state undone_range old undone =
-    ap (entries_by redone_state undone_range old) more ∙ all ∙ ap (entries_by redone_state undone_range old) (sym last) in
-    let turns : CanTurnAll CanRedo redone_state old undones =
-    subst (CanTurnAll CanRedo redone_state old) (sym more)
-    (can-same CanRedo redone_state old front back entry can there (subst (CanTurnAll CanRedo redone_state old) last desk.can_redo)) in
-    handed-desk old new done undone dones undones is (memory-same _ _ _ _ _ _ refl (ap (entries_by undone_state done_range old) rest) entries)
-    (subst (CanTurnAll CanUndo undone_state old) (sym rest) desk.can_undo) turns desk
 
 -- ---- locks, rounds and settings, and what is opened
 
@@ -283,26 +274,20 @@ opening-step old new done undone command desk free can same =
       };
     }
 
--- The lists as the journal has them.
-emptied : (old new : State) (done undone dones undones : List EntryState) (command : CommandOf) → dones ≡ [] → undones ≡ [] → IsStep (memory_by old done undone) command new [] [] → IsStep (memory_by old done undone) command new dones undones
-emptied old new done undone dones undones command first second step =
-    subst (λ (es : List EntryState). IsStep (memory_by old done undone) command new es undones) (sym first)
-    (subst (λ (es : List EntryState). IsStep (memory_by old done undone) command new [] es) (sym second) step)
-
 pub scenes-step : (old new : State) (done undone dones undones : List EntryState) → IsDesk old done undone → scenes_refusal old ≡ None → new ≡ scenes_locked old → dones ≡ [] → undones ≡ []
     → IsStep (memory_by old done undone) lock_scenes new dones undones
 scenes-step old new done undone dones undones desk free is first second =
-    emptied old new done undone dones undones lock_scenes first second (opening-step old new done undone lock_scenes desk free (free-scenes old free) (ap opened_memory is))
+    listed (IsStep (memory_by old done undone) lock_scenes new) dones undones [] [] first second (opening-step old new done undone lock_scenes desk free (free-scenes old free) (ap opened_memory is))
 
 pub pages-step : (old new : State) (done undone dones undones : List EntryState) → IsDesk old done undone → pages_refusal old ≡ None → new ≡ pages_locked old → dones ≡ [] → undones ≡ []
     → IsStep (memory_by old done undone) lock_pages new dones undones
 pages-step old new done undone dones undones desk free is first second =
-    emptied old new done undone dones undones lock_pages first second (opening-step old new done undone lock_pages desk free (free-pages old free) (ap opened_memory is))
+    listed (IsStep (memory_by old done undone) lock_pages new) dones undones [] [] first second (opening-step old new done undone lock_pages desk free (free-pages old free) (ap opened_memory is))
 
 pub round-step : (old new : State) (done undone dones undones : List EntryState) → IsDesk old done undone → round_refusal old ≡ None → new ≡ round_begun old → dones ≡ [] → undones ≡ []
     → IsStep (memory_by old done undone) next_round new dones undones
 round-step old new done undone dones undones desk free is first second =
-    emptied old new done undone dones undones next_round first second (opening-step old new done undone next_round desk free (free-round old free) (ap opened_memory is))
+    listed (IsStep (memory_by old done undone) next_round new) dones undones [] [] first second (opening-step old new done undone next_round desk free (free-round old free) (ap opened_memory is))
 
 -- What refuses a lock or a round is told.
 pub refused-opening : (memory : Memory) (command : CommandOf) (fault : OpeningFault) → IsReason (refusal_to memory command) fault → IsAnswer memory command memory (Err (opening_fault_of fault))

@@ -189,7 +189,7 @@ impl Desk {
         let Some(entry) = self.journal.take_done() else {
             return Err(DeskFault::Refused(Refusal::NothingToUndo));
         };
-        match self.script.undo(alloc, entry) {
+        match self.script.turn(alloc, entry) {
             Ok(again) => {
                 self.journal.keep_undone(again);
                 Ok(edited_reply(&self.script))
@@ -208,7 +208,7 @@ impl Desk {
         let Some(entry) = self.journal.take_undone() else {
             return Err(DeskFault::Refused(Refusal::NothingToRedo));
         };
-        match self.script.redo(alloc, entry) {
+        match self.script.turn(alloc, entry) {
             Ok(again) => {
                 self.journal.keep_done(again);
                 Ok(edited_reply(&self.script))

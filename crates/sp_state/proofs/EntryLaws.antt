@@ -1,5 +1,6 @@
 -- An entry leads to the state before it, and the same entry to the same state.
 use Rattle.std.proofs.Common.{◌≡◌, ℕ, Option, List, sym, ap, ap₂, subst, ◌∙◌}
+use Rattle.spec_text.specs.Ranges.{RangeOf}
 use Rattle.spec_state.specs.State.{State}
 use Rattle.spec_locked_pages.specs.Segments.{pages_of}
 use Rattle.sp_reflow.specs.Starts.{Taken, CanExchange, exchanged}
@@ -9,9 +10,9 @@ use Rattle.sp_layout.specs.declared.kept.PartPlaces.{PartPlaces}
 use Rattle.sp_layout.specs.Changes.{CanChange, CanSpeak, ChangeOf, IsSameChange, SpeechOf, with_change, with_speech}
 use Rattle.sp_layout.specs.Kept.{CanSwap, laid_of, with_part}
 use Rattle.sp_sheets.specs.Firsts.{IsLaidOf, laid_in}
-use Rattle.sp_text_entry.specs.TextEntries.{TextEntryState, LeadsTextBack, LeadsTextForth, redone_text, undone_text}
-use Rattle.sp_state.specs.Entries.{EntryState, CanRedo, CanUndo, IsSameEntry, LayoutLeads, LeadsBack, LeadsForth, PagesLead, done_range, redone_state, undone_range, undone_state}
-use Rattle.sp_text_entry.proofs.TextEntryLaws.{same-CanRedoText, same-CanUndoText, same-done_lines, same-redone_text, same-undone_lines, same-undone_text}
+use Rattle.sp_text_entry.specs.TextEntries.{TextEntryState, LeadsText, turned_text}
+use Rattle.sp_state.specs.Entries.{EntryState, CanTurn, IsSameEntry, LayoutLeads, Leads, PagesLead, done_range, turned_range, turned_state}
+use Rattle.sp_text_entry.proofs.TextEntryLaws.{same-CanTurnText, same-done_lines, same-turned_lines, same-turned_text}
 
 pages-lead : (state other : State) (pages : Taken) (now : List ℕ) → now ≡ pages_of state → CanPutBack now pages → with_taken now pages ≡ pages_of other → PagesLead state other pages
 pages-lead state other pages now is can are = record {
@@ -25,28 +26,16 @@ layout-leads state other change now is can are = record {
   are = subst (λ layout. with_change layout change ≡ laid_in other) is are;
 }
 
-pub leads-back : (before after : State) (text : TextEntryState) (layout : ChangeOf) (pages : Taken) (was laid : LayoutOf) (now : List ℕ) → LeadsTextBack before after text
-    → IsLaidOf before was → IsLaidOf after laid → CanChange laid layout → with_change laid layout ≡ was
-    → now ≡ pages_of after → CanPutBack now pages → with_taken now pages ≡ pages_of before → LeadsBack before after (record { text = text; layout = layout; pages = pages })
-leads-back before after text layout pages was laid now leads was_is laid_is change_can change is can are = record {
+pub entry-leads : (state other : State) (text : TextEntryState) (layout : ChangeOf) (pages : Taken) (laid was : LayoutOf) (now : List ℕ) → LeadsText state other text
+    → IsLaidOf state laid → IsLaidOf other was → CanChange laid layout → with_change laid layout ≡ was
+    → now ≡ pages_of state → CanPutBack now pages → with_taken now pages ≡ pages_of other → Leads state other (record { text = text; layout = layout; pages = pages })
+entry-leads state other text layout pages laid was now leads laid_is was_is change_can change is can are = record {
   can = record {
     text = leads.can;
-    layout = layout-leads after (undone_text after text) layout laid laid_is change_can (change ∙ was_is ∙ ap laid_in (sym leads.back));
-    pages = pages-lead after (undone_text after text) pages now is can (are ∙ ap pages_of (sym leads.back));
+    layout = layout-leads state (turned_text state text) layout laid laid_is change_can (change ∙ was_is ∙ ap laid_in (sym leads.there));
+    pages = pages-lead state (turned_text state text) pages now is can (are ∙ ap pages_of (sym leads.there));
   };
-  back = leads.back;
-}
-
-pub leads-forth : (before after : State) (text : TextEntryState) (layout : ChangeOf) (pages : Taken) (was laid : LayoutOf) (now : List ℕ) → LeadsTextForth before after text
-    → IsLaidOf before was → IsLaidOf after laid → CanChange laid layout → with_change laid layout ≡ was
-    → now ≡ pages_of after → CanPutBack now pages → with_taken now pages ≡ pages_of before → LeadsForth before after (record { text = text; layout = layout; pages = pages })
-leads-forth before after text layout pages was laid now leads was_is laid_is change_can change is can are = record {
-  can = record {
-    text = leads.can;
-    layout = layout-leads after (redone_text after text) layout laid laid_is change_can (change ∙ was_is ∙ ap laid_in (sym leads.forth));
-    pages = pages-lead after (redone_text after text) pages now is can (are ∙ ap pages_of (sym leads.forth));
-  };
-  forth = leads.forth;
+  there = leads.there;
 }
 
 -- ---- the same entry
@@ -77,29 +66,23 @@ layout-again state one_to other_to now one other is again to lead =
     let here = subst (λ layout. LeadsAgain layout one other) is again in
     record { can = here.can; are = here.same ∙ lead.are ∙ ap laid_in (sym to) }
 
-pub same-undone_state : (state : State) (one other : EntryState) → IsSameEntry one other → undone_state state one ≡ undone_state state other
-same-undone_state state one other same = same-undone_text state one.text other.text same
-
-pub same-redone_state : (state : State) (one other : EntryState) → IsSameEntry one other → redone_state state one ≡ redone_state state other
-same-redone_state state one other same = same-redone_text state one.text other.text same
+pub same-turned_state : (state : State) (one other : EntryState) → IsSameEntry one other → turned_state state one ≡ turned_state state other
+same-turned_state state one other same = same-turned_text state one.text other.text same
 
 pub same-done_range : (one other : EntryState) → IsSameEntry one other → done_range one ≡ done_range other
 same-done_range one other same = same-done_lines one.text other.text same
 
-pub same-undone_range : (one other : EntryState) → IsSameEntry one other → undone_range one ≡ undone_range other
-same-undone_range one other same = same-undone_lines one.text other.text same
+pub same-turned_range : (one other : EntryState) → IsSameEntry one other → turned_range one ≡ turned_range other
+same-turned_range one other same = same-turned_lines one.text other.text same
 
--- What is handed back can be undone, or done again, as what was given.
-pub undo-again : (state : State) (now : LayoutOf) (one other : EntryState) → IsLaidOf state now → IsSameEntry one other → LeadsAgain now one.layout other.layout → taken_of one.pages ≡ taken_of other.pages → CanUndo state other → CanUndo state one
-undo-again state now one other is same again pages can = record {
-  text = same-CanUndoText state one.text other.text same can.text;
-  layout = layout-again state (undone_state state one) (undone_state state other) now one.layout other.layout is again (same-undone_state state one other same) can.layout;
-  pages = same-lead state (undone_state state one) (undone_state state other) one.pages other.pages pages (same-undone_state state one other same) can.pages;
-}
+-- What an entry exchanges is what the one that it left did, and the other way round.
+pub turned-range : (one other : EntryState) → done_range one ≡ turned_range other → turned_range one ≡ done_range other
+turned-range one other is = ap (λ (range : RangeOf). let back : RangeOf = record { first = range.first; old = range.new; new = range.old } in back) is
 
-pub redo-again : (state : State) (now : LayoutOf) (one other : EntryState) → IsLaidOf state now → IsSameEntry one other → LeadsAgain now one.layout other.layout → taken_of one.pages ≡ taken_of other.pages → CanRedo state other → CanRedo state one
-redo-again state now one other is same again pages can = record {
-  text = same-CanRedoText state one.text other.text same can.text;
-  layout = layout-again state (redone_state state one) (redone_state state other) now one.layout other.layout is again (same-redone_state state one other same) can.layout;
-  pages = same-lead state (redone_state state one) (redone_state state other) one.pages other.pages pages (same-redone_state state one other same) can.pages;
+-- What is handed back can be turned as what was given.
+pub turn-again : (state : State) (now : LayoutOf) (one other : EntryState) → IsLaidOf state now → IsSameEntry one other → LeadsAgain now one.layout other.layout → taken_of one.pages ≡ taken_of other.pages → CanTurn state other → CanTurn state one
+turn-again state now one other is same again pages can = record {
+  text = same-CanTurnText state one.text other.text same can.text;
+  layout = layout-again state (turned_state state one) (turned_state state other) now one.layout other.layout is again (same-turned_state state one other same) can.layout;
+  pages = same-lead state (turned_state state one) (turned_state state other) one.pages other.pages pages (same-turned_state state one other same) can.pages;
 }

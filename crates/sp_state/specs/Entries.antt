@@ -11,7 +11,7 @@ use Rattle.sp_layout.specs.Changes.{CanChange, ChangeOf, with_change}
 use Rattle.sp_layout.specs.Edited.{KeepsToWindow}
 use Rattle.sp_layout.specs.Kept.{KeptOf, laid_of, places_back}
 use Rattle.sp_sheets.specs.Firsts.{laid_in}
-use Rattle.sp_text_entry.specs.TextEntries.{TextEntryState, CanRedoText, CanUndoText, IsSameTextEntry, done_lines, redone_text, undone_lines, undone_text}
+use Rattle.sp_text_entry.specs.TextEntries.{TextEntryState, CanTurnText, IsSameTextEntry, done_lines, turned_lines, turned_text}
 
 -- What an edit displaced of the text and of the page records, of the layout, and first rows of pages.
 pub record EntryState : Type 0 where
@@ -19,19 +19,16 @@ pub record EntryState : Type 0 where
   pub layout : ChangeOf
   pub pages : Taken
 
--- The state that undoing an entry, or redoing it, leads to.
-abbrev pub undone_state : State → EntryState → State
-undone_state state entry = undone_text state entry.text
+-- The state that turning an entry leads to.
+abbrev pub turned_state : State → EntryState → State
+turned_state state entry = turned_text state entry.text
 
-abbrev pub redone_state : State → EntryState → State
-redone_state state entry = redone_text state entry.text
-
--- The range of the edit whose entry this is, where it can be undone, or redone.
+-- The range of the edit or the turn that left an entry, and the range that turning it exchanges.
 abbrev pub done_range : EntryState → RangeOf
 done_range entry = done_lines entry.text
 
-abbrev pub undone_range : EntryState → RangeOf
-undone_range entry = undone_lines entry.text
+abbrev pub turned_range : EntryState → RangeOf
+turned_range entry = turned_lines entry.text
 
 -- The change can be made of the layout of one state, which is then that of the other.
 pub record LayoutLeads (state other : State) (change : ChangeOf) : Type 0 where
@@ -43,20 +40,15 @@ pub record PagesLead (state other : State) (pages : Taken) : Type 0 where
   pub can : CanPutBack (pages_of state) pages
   pub are : with_taken (pages_of state) pages ≡ pages_of other
 
-pub record CanUndo (state : State) (entry : EntryState) : Type 0 where
-  pub text : CanUndoText state entry.text
-  pub layout : LayoutLeads state (undone_state state entry) entry.layout
-  pub pages : PagesLead state (undone_state state entry) entry.pages
+pub record CanTurn (state : State) (entry : EntryState) : Type 0 where
+  pub text : CanTurnText state entry.text
+  pub layout : LayoutLeads state (turned_state state entry) entry.layout
+  pub pages : PagesLead state (turned_state state entry) entry.pages
 
-pub record CanRedo (state : State) (entry : EntryState) : Type 0 where
-  pub text : CanRedoText state entry.text
-  pub layout : LayoutLeads state (redone_state state entry) entry.layout
-  pub pages : PagesLead state (redone_state state entry) entry.pages
-
--- The entry of an edit that led from one state to another: it can be undone, and that leads back.
-pub record LeadsBack (before after : State) (entry : EntryState) : Type 0 where
-  pub can : CanUndo after entry
-  pub back : undone_state after entry ≡ before
+-- An entry leads from one state to another: it can be turned, and that makes the other state.
+pub record Leads (state other : State) (entry : EntryState) : Type 0 where
+  pub can : CanTurn state entry
+  pub there : turned_state state entry ≡ other
 
 -- Of elements that stand at its part an entry tells of at most two more than the stanzas of its window have blocks in a text, and of the
 -- part it keeps at most two more than the stanzas had blocks that it displaced.
@@ -70,11 +62,6 @@ StandsBack change other = other.part.places ≡ places_back change.part.places (
 -- The stanzas that an entry displaced are those of the window of an edit of this range, by which one text became another.
 abbrev pub HoldsWindow : TextState → TextState → RangeOf → EntryState → Type 0
 HoldsWindow before after range entry = AreDisplaced (line_texts before.lines) (line_texts after.lines) range entry.text.stanzas
-
--- The entry that undoing left: it can be redone, and that leads forth.
-pub record LeadsForth (before after : State) (entry : EntryState) : Type 0 where
-  pub can : CanRedo after entry
-  pub forth : redone_state after entry ≡ before
 
 -- The entry of the same edit. Its vectors may have other room, and it need not have the same part of the layout: it is told that it
 -- leads to the same state.

@@ -11,15 +11,15 @@ ghost use Rattle.sp_layout.specs.Changes.{CanChange, HasChangeRoom, with_change}
 ghost use Rattle.sp_layout.specs.Kept.{laid_of};
 ghost use Rattle.sp_sheets.specs.Firsts.{IsLaidOf, first_rows};
 ghost use Rattle.sp_sheets.specs.Made.{IsMadeOf, IsNumberedOf};
-ghost use Rattle.sp_text_entry.specs.TextEntries.{CanRedoText, CanUndoText, HasTextRoom, IsTextRedone, IsTextUndone, redone_text, undone_text, edited_by};
-ghost use Rattle.sp_state.specs.Entries.{CanRedo, CanUndo, HoldsFew, HoldsWindow, IsSameEntry, LeadsBack, LeadsForth, done_range, redone_state, undone_range, undone_state};
+ghost use Rattle.sp_text_entry.specs.TextEntries.{CanTurnText, HasTextRoom, IsTextTurned, edited_by, turned_text};
+ghost use Rattle.sp_state.specs.Entries.{CanTurn, HoldsFew, HoldsWindow, IsSameEntry, Leads, done_range, turned_range, turned_state};
 ghost use Rattle.sp_text_entry.specs.Reads.{ReadsEdit, ReadsEditAtMost};
 ghost use Rattle.sp_state.specs.Fills.{FillsEdit, FillsEditAtMost};
 ghost use Rattle.sp_sheets.specs.States.{state_in};
 ghost use Rattle.sp_sheets.specs.Pages.{FillsAll, FillsAtMostAll};
 
 use crate::entry::{Entry, Unturned};
-use crate::turning::{Turned, UnturnedPages, refilled, turn_made};
+use crate::turning::{Turned, UnturnedPages, refilled, turn_layout};
 use sp_kit::Steps;
 use sp_layout::{KeptLayout, LayoutChange};
 use sp_records::Records;
@@ -27,9 +27,7 @@ use sp_reflow::Pages;
 use sp_reread::Stanzas;
 use sp_sheets::{Made, Numbered, keeps_headings, laid_firsts, lay, leaves_titles, make, number};
 use sp_text::{Edit, EditFault, Lines};
-use sp_text_entry::{
-    EditedText, TextEntry, UnturnedText, change_in_room, edit_entry, redo_entry, undo_entry,
-};
+use sp_text_entry::{EditedText, TextEntry, UnturnedText, change_in_room, edit_entry, turn_entry};
 use spec_pages::Paper;
 use std::alloc::{AllocError, Global};
 use std::mem;
@@ -150,41 +148,21 @@ pub(crate) fn made_on<S: Steps>(
     }
 }
 
-/// Undoes an edit where there is room.
-fn undo_in_room(
+/// Turns an entry where there is room.
+fn turn_in_room(
     lines: &mut Lines,
     stanzas: &mut Stanzas,
     records: &mut Records,
     entry: TextEntry,
 ) -> TextEntry
-    requires can { CanUndoText (state_in lines.old records.old) entry }
+    requires can { CanTurnText (state_in lines.old records.old) entry }
     requires stanzas { stanzas.old.stanzas ≡ text_stanzas (text_of lines.old) }
     requires room { HasTextRoom lines.old stanzas.old entry }
-    ensures state { state_in lines.new records.new ≡ undone_text (state_in lines.old records.old) entry }
-    ensures entry { IsTextUndone (state_in lines.old records.old) entry result }
+    ensures state { state_in lines.new records.new ≡ turned_text (state_in lines.old records.old) entry }
+    ensures entry { IsTextTurned (state_in lines.old records.old) entry result }
     ensures stanzas { stanzas.new.stanzas ≡ text_stanzas (text_of lines.new) }
 {
-    match undo_entry(lines, stanzas, records, entry) {
-        Ok(other) => other,
-        Err(_) => unreachable!(),
-    }
-}
-
-/// Does an edit again where there is room.
-fn redo_in_room(
-    lines: &mut Lines,
-    stanzas: &mut Stanzas,
-    records: &mut Records,
-    entry: TextEntry,
-) -> TextEntry
-    requires can { CanRedoText (state_in lines.old records.old) entry }
-    requires stanzas { stanzas.old.stanzas ≡ text_stanzas (text_of lines.old) }
-    requires room { HasTextRoom lines.old stanzas.old entry }
-    ensures state { state_in lines.new records.new ≡ redone_text (state_in lines.old records.old) entry }
-    ensures entry { IsTextRedone (state_in lines.old records.old) entry result }
-    ensures stanzas { stanzas.new.stanzas ≡ text_stanzas (text_of lines.new) }
-{
-    match redo_entry(lines, stanzas, records, entry) {
+    match turn_entry(lines, stanzas, records, entry) {
         Ok(other) => other,
         Err(_) => unreachable!(),
     }
@@ -199,17 +177,17 @@ fn take_back(
     text: TextEntry,
     change: LayoutChange,
 )
-    requires can { CanUndoText (state_in lines.old records.old) text }
+    requires can { CanTurnText (state_in lines.old records.old) text }
     requires stanzas { stanzas.old.stanzas ≡ text_stanzas (text_of lines.old) }
     requires room { HasTextRoom lines.old stanzas.old text }
     requires can_change { CanChange (laid_of layout.old) change }
     requires layout_room { HasChangeRoom layout.old change }
-    ensures state { state_in lines.new records.new ≡ undone_text (state_in lines.old records.old) text }
+    ensures state { state_in lines.new records.new ≡ turned_text (state_in lines.old records.old) text }
     ensures stanzas { stanzas.new.stanzas ≡ text_stanzas (text_of lines.new) }
     ensures layout { laid_of layout.new ≡ with_change (laid_of layout.old) change }
 {
     let _change = change_in_room(layout, change);
-    let _text = undo_in_room(lines, stanzas, records, text);
+    let _text = turn_in_room(lines, stanzas, records, text);
 }
 
 /// The first rows of page records: those that are known, or else those that are found. They are known no longer.
@@ -258,7 +236,7 @@ pub(crate) fn edit_made<S: Steps>(
     ensures refuses { Refuses (refusal_in lines.old edit) result }
     ensures state { OnOk result (state_in lines.new records.new ≡ edited_by (state_in lines.old records.old) edit) }
     ensures whole { OnOk result (IsWhole (state_in lines.new records.new)) }
-    ensures back { IfOk result (LeadsBack (state_in lines.old records.old) (state_in lines.new records.new)) }
+    ensures back { IfOk result (Leads (state_in lines.new records.new) (state_in lines.old records.old)) }
     ensures range { IfOk result (λ it. done_range it ≡ range_in lines.old edit) }
     ensures window { IfOk result (HoldsWindow (text_of lines.old) (text_of lines.new) (range_in lines.old edit)) }
     ensures few { IfOk result (HoldsFew (text_of lines.new)) }
@@ -320,10 +298,11 @@ pub(crate) fn edit_made<S: Steps>(
     }
 }
 
-/// Undoes an edit. Nothing is laid out and no page filled; sheets are made those of the new state, and so are labels where a
-/// heading comes or goes, and title sheets where an element of a title page does. The first rows of page records are looked for
-/// once. On an error there was no memory, nothing is changed, and an entry that can be undone is handed back.
-pub(crate) fn undo_made(
+/// Turns an entry: undoes an edit, or does it again. Nothing is laid out and no page filled; sheets are made those of the new
+/// state, and so are labels where a heading comes or goes, and title sheets where an element of a title page does. The first rows of
+/// page records are looked for once. On an error there was no memory, nothing is changed, and an entry that can be turned is handed
+/// back.
+pub(crate) fn turn_made(
     alloc: Global,
     lines: &mut Lines,
     stanzas: &mut Stanzas,
@@ -334,17 +313,17 @@ pub(crate) fn undo_made(
     firsts: &mut Option<Vec<usize>>,
     entry: Entry,
 ) -> Result<Entry, Unturned>
-    requires can { CanUndo (state_in lines.old records.old) entry }
+    requires can { CanTurn (state_in lines.old records.old) entry }
     requires stanzas { stanzas.old.stanzas ≡ text_stanzas (text_of lines.old) }
     requires laid { IsLaidOf (state_in lines.old records.old) (laid_of layout.old) }
     requires pages { pages.old.starts ≡ pages_of (state_in lines.old records.old) }
     requires numbered { IsNumberedOf (state_in lines.old records.old) numbered.old }
     requires firsts { IfSome firsts.old (λ those. those.items ≡ first_rows (state_in lines.old records.old)) }
     requires was_whole { IsWhole (state_in lines.old records.old) }
-    requires whole { IsWhole (undone_state (state_in lines.old records.old) entry) }
-    ensures state { OnOk result (state_in lines.new records.new ≡ undone_state (state_in lines.old records.old) entry) }
-    ensures forth { IfOk result (LeadsForth (state_in lines.old records.old) (state_in lines.new records.new)) }
-    ensures range { IfOk result (λ it. undone_range it ≡ done_range entry) }
+    requires whole { IsWhole (turned_state (state_in lines.old records.old) entry) }
+    ensures state { OnOk result (state_in lines.new records.new ≡ turned_state (state_in lines.old records.old) entry) }
+    ensures back { IfOk result (Leads (state_in lines.new records.new) (state_in lines.old records.old)) }
+    ensures range { IfOk result (λ it. done_range it ≡ turned_range entry) }
     ensures few { HoldsFew (text_of lines.old) entry → IfOk result (HoldsFew (text_of lines.new)) }
     ensures laid { IsLaidOf (state_in lines.new records.new) (laid_of layout.new) }
     ensures numbered { IsNumberedOf (state_in lines.new records.new) numbered.new }
@@ -353,7 +332,7 @@ pub(crate) fn undo_made(
     ensures stanzas { stanzas.new.stanzas ≡ text_stanzas (text_of lines.new) }
     ensures same { OnErr result (state_in lines.new records.new ≡ state_in lines.old records.old) }
     ensures handed_back { IfErr result (λ error. IsSameEntry error.back entry) }
-    ensures again { IfErr result (λ error. CanUndo (state_in lines.old records.old) error.back) }
+    ensures again { IfErr result (λ error. CanTurn (state_in lines.old records.old) error.back) }
 {
     let _count = lines.len();
     let Entry {
@@ -361,8 +340,8 @@ pub(crate) fn undo_made(
         layout: change,
         pages: back,
     } = entry;
-    match undo_entry(lines, stanzas, records, text) {
-        Ok(other) => match turn_made(
+    match turn_entry(lines, stanzas, records, text) {
+        Ok(other) => match turn_layout(
             alloc, lines, stanzas, records, layout, firsts, pages, change, back, numbered,
         ) {
             Ok(
@@ -386,96 +365,7 @@ pub(crate) fn undo_made(
                 },
             ) => {
                 *firsts = None;
-                let text = redo_in_room(lines, stanzas, records, other);
-                Err(Unturned {
-                    back: Entry {
-                        text,
-                        layout: change,
-                        pages: back,
-                    },
-                })
-            }
-        },
-        Err(UnturnedText { back: text }) => {
-            *firsts = None;
-            Err(Unturned {
-                back: Entry {
-                    text,
-                    layout: change,
-                    pages: back,
-                },
-            })
-        }
-    }
-}
-
-/// Does an edit again. Nothing is laid out and no page filled; sheets are made those of the new state, and so are labels where a
-/// heading comes or goes, and title sheets where an element of a title page does. The first rows of page records are looked for
-/// once. On an error there was no memory, nothing is changed, and an entry that can be done again is handed back.
-pub(crate) fn redo_made(
-    alloc: Global,
-    lines: &mut Lines,
-    stanzas: &mut Stanzas,
-    records: &mut Records,
-    layout: &mut KeptLayout,
-    pages: &mut Pages,
-    numbered: &mut Numbered,
-    firsts: &mut Option<Vec<usize>>,
-    entry: Entry,
-) -> Result<Entry, Unturned>
-    requires can { CanRedo (state_in lines.old records.old) entry }
-    requires stanzas { stanzas.old.stanzas ≡ text_stanzas (text_of lines.old) }
-    requires laid { IsLaidOf (state_in lines.old records.old) (laid_of layout.old) }
-    requires pages { pages.old.starts ≡ pages_of (state_in lines.old records.old) }
-    requires numbered { IsNumberedOf (state_in lines.old records.old) numbered.old }
-    requires firsts { IfSome firsts.old (λ those. those.items ≡ first_rows (state_in lines.old records.old)) }
-    requires was_whole { IsWhole (state_in lines.old records.old) }
-    requires whole { IsWhole (redone_state (state_in lines.old records.old) entry) }
-    ensures state { OnOk result (state_in lines.new records.new ≡ redone_state (state_in lines.old records.old) entry) }
-    ensures back { IfOk result (LeadsBack (state_in lines.old records.old) (state_in lines.new records.new)) }
-    ensures range { IfOk result (λ it. done_range it ≡ undone_range entry) }
-    ensures few { HoldsFew (text_of lines.old) entry → IfOk result (HoldsFew (text_of lines.new)) }
-    ensures laid { IsLaidOf (state_in lines.new records.new) (laid_of layout.new) }
-    ensures numbered { IsNumberedOf (state_in lines.new records.new) numbered.new }
-    ensures firsts { IfSome firsts.new (λ those. those.items ≡ first_rows (state_in lines.new records.new)) }
-    ensures pages { pages.new.starts ≡ pages_of (state_in lines.new records.new) }
-    ensures stanzas { stanzas.new.stanzas ≡ text_stanzas (text_of lines.new) }
-    ensures same { OnErr result (state_in lines.new records.new ≡ state_in lines.old records.old) }
-    ensures handed_back { IfErr result (λ error. IsSameEntry error.back entry) }
-    ensures again { IfErr result (λ error. CanRedo (state_in lines.old records.old) error.back) }
-{
-    let _count = lines.len();
-    let Entry {
-        text,
-        layout: change,
-        pages: back,
-    } = entry;
-    match redo_entry(lines, stanzas, records, text) {
-        Ok(other) => match turn_made(
-            alloc, lines, stanzas, records, layout, firsts, pages, change, back, numbered,
-        ) {
-            Ok(
-                Turned {
-                    layout: change,
-                    pages: swapped,
-                    firsts: after,
-                },
-            ) => {
-                *firsts = Some(after);
-                Ok(Entry {
-                    text: other,
-                    layout: change,
-                    pages: swapped,
-                })
-            }
-            Err(
-                UnturnedPages {
-                    layout: change,
-                    pages: back,
-                },
-            ) => {
-                *firsts = None;
-                let text = undo_in_room(lines, stanzas, records, other);
+                let text = turn_in_room(lines, stanzas, records, other);
                 Err(Unturned {
                     back: Entry {
                         text,

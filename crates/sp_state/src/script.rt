@@ -18,12 +18,12 @@ ghost use Rattle.sp_sheets.specs.Made.{IsMadeOf};
 ghost use Rattle.sp_sheets.specs.Openings.{IsOpening};
 ghost use Rattle.sp_text_entry.specs.Reads.{ReadsEdit, ReadsEditAtMost};
 ghost use Rattle.sp_state.specs.Fills.{FillsEdit, FillsEditAtMost};
-ghost use Rattle.sp_state.specs.Entries.{CanRedo, CanUndo, HoldsFew, HoldsWindow, IsSameEntry, LeadsBack, LeadsForth, done_range, redone_state, undone_range, undone_state};
+ghost use Rattle.sp_state.specs.Entries.{CanTurn, HoldsFew, HoldsWindow, IsSameEntry, Leads, done_range, turned_range, turned_state};
 ghost use Rattle.sp_sheets.specs.States.{state_in};
 ghost use Rattle.sp_sheets.specs.Pages.{FillsAll, FillsAtMostAll, locked_starts_in};
 ghost use Rattle.sp_text_entry.specs.TextEntries.{edited_by, refusal_at};
 
-use crate::editing::{edit_made, made_on, made_with_speakers, put_made, redo_made, undo_made};
+use crate::editing::{edit_made, made_on, made_with_speakers, put_made, turn_made};
 use crate::entry::{Entry, Unturned};
 use sp_kit::Steps;
 use sp_locks::Sheet;
@@ -233,7 +233,7 @@ impl Script {
         ensures whole { IsWhole self.old }
         ensures refuses { Refuses (refusal_at self.old edit) result }
         ensures state { OnOk result (self.new ≡ edited_by self.old edit) }
-        ensures back { IfOk result (LeadsBack self.old self.new) }
+        ensures back { IfOk result (Leads self.new self.old) }
         ensures range { IfOk result (λ it. done_range it ≡ range_of (replacement_of self.old.lines (edit_of edit))) }
         ensures window { IfOk result (HoldsWindow (state_text self.old) (state_text self.new)
             (range_of (replacement_of self.old.lines (edit_of edit)))) }
@@ -261,52 +261,23 @@ impl Script {
         Ok(entry)
     }
 
-    /// Undoes an edit by its entry, and answers the entry that does it again. No stanza is read, nothing laid out and no page
-    /// filled; sheets are made those of the new state, and so are labels where a heading comes or goes. On an error there was no
-    /// memory, nothing is changed, and an entry of the same edit is handed back, which can be undone (docs/RULES.md, "The desk").
-    pub fn undo(&mut self, alloc: Global, entry: Entry) -> Result<Entry, Unturned>
-        requires can { CanUndo self.old entry }
-        requires whole { IsWhole (undone_state self.old entry) }
+    /// Turns an entry, and answers the one that leads back: the entry of an edit undoes it, the one answered does it again, and so
+    /// on. No stanza is read, nothing laid out and no page filled; sheets are made those of the new state, and so are labels where a
+    /// heading comes or goes. On an error there was no memory, nothing is changed, and an entry of the same edit is handed back,
+    /// which can be turned (docs/RULES.md, "The desk").
+    pub fn turn(&mut self, alloc: Global, entry: Entry) -> Result<Entry, Unturned>
+        requires can { CanTurn self.old entry }
+        requires whole { IsWhole (turned_state self.old entry) }
         ensures whole { IsWhole self.old }
-        ensures state { OnOk result (self.new ≡ undone_state self.old entry) }
-        ensures forth { IfOk result (LeadsForth self.old self.new) }
-        ensures range { IfOk result (λ it. undone_range it ≡ done_range entry) }
+        ensures state { OnOk result (self.new ≡ turned_state self.old entry) }
+        ensures back { IfOk result (Leads self.new self.old) }
+        ensures range { IfOk result (λ it. done_range it ≡ turned_range entry) }
         ensures few { HoldsFew (state_text self.old) entry → IfOk result (HoldsFew (state_text self.new)) }
         ensures same { OnErr result (self.new ≡ self.old) }
         ensures handed_back { IfErr result (λ error. IsSameEntry error.back entry) }
-        ensures again { IfErr result (λ error. CanUndo self.old error.back) }
+        ensures again { IfErr result (λ error. CanTurn self.old error.back) }
     {
-        let other = undo_made(
-            alloc,
-            &mut self.lines,
-            &mut self.stanzas,
-            &mut self.records,
-            &mut self.made.layout,
-            &mut self.pages,
-            &mut self.made.numbered,
-            &mut self.firsts,
-            entry,
-        )?;
-        Ok(other)
-    }
-
-    /// Does an edit again by the entry that undoing it left, and answers the entry that undoes it. No stanza is read, nothing
-    /// laid out and no page filled; sheets are made those of the new state, and so are labels where a heading comes or goes. On
-    /// an error there was no memory, nothing is changed, and an entry of the same edit is handed back, which can be done again
-    /// (docs/RULES.md, "The desk").
-    pub fn redo(&mut self, alloc: Global, entry: Entry) -> Result<Entry, Unturned>
-        requires can { CanRedo self.old entry }
-        requires whole { IsWhole (redone_state self.old entry) }
-        ensures whole { IsWhole self.old }
-        ensures state { OnOk result (self.new ≡ redone_state self.old entry) }
-        ensures back { IfOk result (LeadsBack self.old self.new) }
-        ensures range { IfOk result (λ it. done_range it ≡ undone_range entry) }
-        ensures few { HoldsFew (state_text self.old) entry → IfOk result (HoldsFew (state_text self.new)) }
-        ensures same { OnErr result (self.new ≡ self.old) }
-        ensures handed_back { IfErr result (λ error. IsSameEntry error.back entry) }
-        ensures again { IfErr result (λ error. CanRedo self.old error.back) }
-    {
-        let other = redo_made(
+        let other = turn_made(
             alloc,
             &mut self.lines,
             &mut self.stanzas,

@@ -265,7 +265,7 @@ pub(crate) struct UnturnedPages {
 /// nothing and fills no page, and keeps the labels where no heading comes or goes, and the title sheets where no element of a title
 /// page does. Where known first rows and page starts stay, the sheets of locked pages may be kept but for their rounds. On an error
 /// there was no memory, all four are as they were, and what is handed back leads where what was to be put back led.
-pub(crate) fn turn_made(
+pub(crate) fn turn_layout(
     alloc: Global,
     lines: &Lines,
     stanzas: &Stanzas,

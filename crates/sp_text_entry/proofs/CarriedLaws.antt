@@ -42,7 +42,7 @@ use Rattle.sp_layout.specs.Bodies.{KeyedElements, row_count}
 use Rattle.sp_compare.specs.BareRows.{AreLaid, Both}
 use Rattle.sp_compare.specs.Raised.{AreSegments, raises}
 use Rattle.sp_exchange.specs.Restoring.{CanRestoreText}
-use Rattle.sp_text_entry.specs.TextEntries.{TextEntryState, FitRecords, LeadsTextBack, displaced, undone_records, with_text}
+use Rattle.sp_text_entry.specs.TextEntries.{TextEntryState, FitRecords, LeadsText, displaced, turned_records, with_text}
 use Rattle.sp_sheets.specs.Firsts.{first_rows, key_starts}
 use Rattle.sp_text_entry.specs.Raised.{AreCarried, CanCarry, FitPages, put_back_in, raises_in, records_carried, records_raised, state_before, with_pages}
 use Rattle.sp_sheets.proofs.FirstsLaws.{count-rows}
@@ -235,9 +235,9 @@ raised-fit olds state records moved is = by records.pages is
 
 -- ---- taken back
 
-pub undone-pages : (raised moved : List Moved) (pages : Option (List PageRecordOf)) → option_map (put_back_records moved) (option_map (put_back_records raised) pages) ≡ option_map (λ (records : List PageRecordOf). put_back_records moved (put_back_records raised records)) pages
-undone-pages raised moved None = refl
-undone-pages raised moved (Some records) = refl
+turned-pages : (first second : List Moved) (pages : Option (List PageRecordOf)) → option_map (put_back_records second) (option_map (put_back_records first) pages) ≡ option_map (λ (records : List PageRecordOf). put_back_records second (put_back_records first records)) pages
+turned-pages first second None = refl
+turned-pages first second (Some records) = refl
 
 -- Starts of segments of a whole state.
 pub starts-segments : (state : State) (pages : Option (List PageRecordOf)) (place : ℕ) (lines : List LineState) (starts : List ℕ) → IsWhole state → state.pages ≡ pages → starts ≡ key_starts state.lines (keys_in state) pages
@@ -353,16 +353,16 @@ edited-whole old text records after edit taken is kept whole same =
     subst IsWhole (sym same) (edit-whole (state_of old records) it whole (record { inside = taken-inside old edit taken; text = subst IsText is kept }))
 
 -- Its entry leads back.
-second-fits : (raised moved : List Moved) (pages : Option (List PageRecordOf)) → IfSome (option_map (put_back_records raised) pages) (FitRecords moved) → IfSome pages (λ records. FitRecords moved (put_back_records raised records))
-second-fits raised moved None fits = tt
-second-fits raised moved (Some records) fits = fits
+second-fits : (first second : List Moved) (pages : Option (List PageRecordOf)) → IfSome (option_map (put_back_records first) pages) (FitRecords second) → IfSome pages (λ records. FitRecords second (put_back_records first records))
+second-fits first second None fits = tt
+second-fits first second (Some records) fits = fits
 
 pub leads-back : (old text : TextState) (records after : RecordsOf) (entry : TextEntryState) → CanRestoreText text entry.lines entry.stanzas → restored text (displaced entry) ≡ old
-    → FitPages after entry.raised → FitPages (put_back_in entry.raised after) entry.moved → put_back_in entry.moved (put_back_in entry.raised after) ≡ records
-    → LeadsTextBack (state_of old records) (state_of text after) entry
-leads-back old text records after entry can leads fit_raised fit_moved back = record {
-  can = record { text = can; first_fits = fit_raised; second_fits = second-fits entry.raised entry.moved after.pages fit_moved };
-  back = ap (λ (t : TextState). with_text (state_of text after) t (option_map (undone_records entry) after.pages)) leads
-      ∙ ap (λ (ps : Option (List PageRecordOf)). with_text (state_of text after) old ps) (sym (undone-pages entry.raised entry.moved after.pages))
+    → FitPages after entry.first → FitPages (put_back_in entry.first after) entry.second → put_back_in entry.second (put_back_in entry.first after) ≡ records
+    → LeadsText (state_of text after) (state_of old records) entry
+leads-back old text records after entry can leads first_fits second_fits back = record {
+  can = record { text = can; first_fits = first_fits; second_fits = second-fits entry.first entry.second after.pages second_fits };
+  there = ap (λ (t : TextState). with_text (state_of text after) t (option_map (turned_records entry) after.pages)) leads
+      ∙ ap (λ (ps : Option (List PageRecordOf)). with_text (state_of text after) old ps) (sym (turned-pages entry.first entry.second after.pages))
       ∙ ap (λ (r : RecordsOf). state_of old r) back;
 }

@@ -1,4 +1,4 @@
--- Undoing and redoing are each other's opposites, the same entry leads to the same state, and an entry has the range of its edit.
+-- An entry that is turned twice is the same again, the same entry leads to the same state, and an entry has the range of its edit.
 use Rattle.std.proofs.Common.{◌≡◌, ◌≢◌, ℕ, zero, suc, ◌+◌, ◌<◌, Bool, cond, Option, Some, None, List, [], ◌∷◌, length, map, get_or, ne_eqb, eq-eqb, refl, ap, ap₂, sym, ◌∙◌, subst, arith}
 use Rattle.std.specs.Prelude.{All, AllPairs, IfSome, slice_get, unwrap_or, option_map}
 use Rattle.std.proofs.lemmas.List.Elements.{All-head, All-tail}
@@ -11,8 +11,8 @@ use Rattle.spec_labels.specs.declared.Moved.{Moved}
 use Rattle.spec_labels.specs.PageRecords.{PageRecordOf, moved_of, moved_at, with_anchor, put_back_from, put_back_records, taken_back}
 use Rattle.spec_labels.proofs.PutBackLaws.{put_back-twice}
 use Rattle.spec_state.specs.State.{State, text_of}
-use Rattle.sp_exchange.proofs.RestoreLaws.{turned-twice, same-can as same-restores}
-use Rattle.sp_text_entry.specs.TextEntries.{TextEntryState, displaced, undone_text, redone_text, done_lines, undone_lines, with_text, FitRecords, CanRestore, CanUndoText, CanRedoText, had_by, IsTextUndone, IsTextRedone, IsSameTextEntry}
+use Rattle.sp_exchange.proofs.RestoreLaws.{turned-twice as text-twice, same-can as same-restores}
+use Rattle.sp_text_entry.specs.TextEntries.{TextEntryState, CanTurnText, FitRecords, IsSameTextEntry, IsTextTurned, displaced, done_lines, had_by, turned_lines, turned_text, with_text}
 
 -- ---- turning twice
 
@@ -78,62 +78,37 @@ had-twice (Some records) first second fits later_fits =
       taken-twice middle second later_fits.distinct,
     )
 
--- An edit undone and done again has its entry again.
-pub undone-redone : (state : State) (entry other back : TextEntryState) → CanUndoText state entry → IsTextUndone state entry other → IsTextRedone (undone_text state entry) other back → IsSameTextEntry back entry
-undone-redone state entry other back can undone redone =
-    let both = had-twice state.pages entry.raised entry.moved can.first_fits can.second_fits in
-    let after = (undone_text state entry).pages in
+-- What turning an entry left leads back to that entry.
+pub turned-twice : (state : State) (entry other back : TextEntryState) → CanTurnText state entry → IsTextTurned state entry other → IsTextTurned (turned_text state entry) other back → IsSameTextEntry back entry
+turned-twice state entry other back can turned again =
+    let both = had-twice state.pages entry.first entry.second can.first_fits can.second_fits in
+    let after = (turned_text state entry).pages in
     record {
-      text = turned-twice (text_of state) entry.lines other.lines back.lines entry.stanzas other.stanzas back.stanzas can.text undone.text redone.text;
-      moved = redone.moved ∙ ap (had_by after) undone.moved ∙ both.1;
-      raised = redone.raised ∙ ap₂ (λ (ms rs : List Moved). had_by (option_map (put_back_records ms) after) rs) undone.moved undone.raised ∙ both.0;
-    }
-
--- An edit done again and undone has the entry that undoing it had left.
-pub redone-undone : (state : State) (entry other back : TextEntryState) → CanRedoText state entry → IsTextRedone state entry other → IsTextUndone (redone_text state entry) other back → IsSameTextEntry back entry
-redone-undone state entry other back can redone undone =
-    let both = had-twice state.pages entry.moved entry.raised can.first_fits can.second_fits in
-    let after = (redone_text state entry).pages in
-    record {
-      text = turned-twice (text_of state) entry.lines other.lines back.lines entry.stanzas other.stanzas back.stanzas can.text redone.text undone.text;
-      moved = undone.moved ∙ ap₂ (λ (rs ms : List Moved). had_by (option_map (put_back_records rs) after) ms) redone.raised redone.moved ∙ both.0;
-      raised = undone.raised ∙ ap (had_by after) redone.raised ∙ both.1;
+      text = text-twice (text_of state) entry.lines other.lines back.lines entry.stanzas other.stanzas back.stanzas can.text turned.text again.text;
+      first = again.first ∙ ap₂ (λ (first second : List Moved). had_by (option_map (put_back_records first) after) second) turned.first turned.second ∙ both.0;
+      second = again.second ∙ ap (had_by after) turned.first ∙ both.1;
     }
 
 -- ---- the same entry
 
-pub same-undone_text : (state : State) (one other : TextEntryState) → IsSameTextEntry one other → undone_text state one ≡ undone_text state other
-same-undone_text state one other same =
+pub same-turned_text : (state : State) (one other : TextEntryState) → IsSameTextEntry one other → turned_text state one ≡ turned_text state other
+same-turned_text state one other same =
     ap₂ (λ (d : Displacement) (pages : Option (List PageRecordOf)). with_text state (restored (text_of state) d) pages) same.text.lines
-    (ap₂ (λ (ms rs : List Moved). option_map (λ records. put_back_records ms (put_back_records rs records)) state.pages) same.moved same.raised)
-
-pub same-redone_text : (state : State) (one other : TextEntryState) → IsSameTextEntry one other → redone_text state one ≡ redone_text state other
-same-redone_text state one other same =
-    ap₂ (λ (d : Displacement) (pages : Option (List PageRecordOf)). with_text state (restored (text_of state) d) pages) same.text.lines
-    (ap₂ (λ (ms rs : List Moved). option_map (λ records. put_back_records rs (put_back_records ms records)) state.pages) same.moved same.raised)
+    (ap₂ (λ (first second : List Moved). option_map (λ records. put_back_records second (put_back_records first records)) state.pages) same.first same.second)
 
 pub same-done_lines : (one other : TextEntryState) → IsSameTextEntry one other → done_lines one ≡ done_lines other
 same-done_lines one other same = ap (λ (d : Displacement). record { first = d.first; old = length d.lines; new = d.stands }) same.text.lines
 
-pub same-undone_lines : (one other : TextEntryState) → IsSameTextEntry one other → undone_lines one ≡ undone_lines other
-same-undone_lines one other same = ap (λ (d : Displacement). record { first = d.first; old = d.stands; new = length d.lines }) same.text.lines
+pub same-turned_lines : (one other : TextEntryState) → IsSameTextEntry one other → turned_lines one ≡ turned_lines other
+same-turned_lines one other same = ap (λ (d : Displacement). record { first = d.first; old = d.stands; new = length d.lines }) same.text.lines
 
-same-can : (state : State) (one other : TextEntryState) (first second : List Moved) → IsSameTextEntry one other → CanRestore state other first second → CanRestore state one first second
-same-can state one other first second same can = record {
+pub same-CanTurnText : (state : State) (one other : TextEntryState) → IsSameTextEntry one other → CanTurnText state other → CanTurnText state one
+same-CanTurnText state one other same can = record {
   text = same-restores (text_of state) one.lines other.lines one.stanzas other.stanzas same.text can.text;
-  first_fits = can.first_fits;
-  second_fits = can.second_fits;
+  first_fits = subst (λ (first : List Moved). IfSome state.pages (FitRecords first)) (sym same.first) can.first_fits;
+  second_fits = subst (λ (first : List Moved). IfSome state.pages (λ records. FitRecords one.second (put_back_records first records))) (sym same.first)
+      (subst (λ (second : List Moved). IfSome state.pages (λ records. FitRecords second (put_back_records other.first records))) (sym same.second) can.second_fits);
 }
-
-pub same-CanUndoText : (state : State) (one other : TextEntryState) → IsSameTextEntry one other → CanUndoText state other → CanUndoText state one
-same-CanUndoText state one other same can =
-    subst (λ (rs : List Moved). CanRestore state one rs one.moved) (sym same.raised)
-    (subst (λ (ms : List Moved). CanRestore state one other.raised ms) (sym same.moved) (same-can state one other other.raised other.moved same can))
-
-pub same-CanRedoText : (state : State) (one other : TextEntryState) → IsSameTextEntry one other → CanRedoText state other → CanRedoText state one
-same-CanRedoText state one other same can =
-    subst (λ (ms : List Moved). CanRestore state one ms one.raised) (sym same.moved)
-    (subst (λ (rs : List Moved). CanRestore state one other.moved rs) (sym same.raised) (same-can state one other other.moved other.raised same can))
 
 -- ---- the entry of an edit
 

@@ -6,4 +6,4 @@ mod relaying;
 mod text_entry;
 
 pub use relaying::change_in_room;
-pub use text_entry::{EditedText, TextEntry, UnturnedText, edit_entry, redo_entry, undo_entry};
+pub use text_entry::{EditedText, TextEntry, UnturnedText, edit_entry, turn_entry};

@@ -5,7 +5,7 @@ ghost use Rattle.sp_text.specs.Changing.{Refuses};
 ghost use Rattle.sp_text.specs.Gap.{text_of};
 ghost use Rattle.sp_exchange.specs.Reads.{IsRefused};
 ghost use Rattle.sp_exchange.specs.Restoring.{CanRestoreText, DisplacesStanzas, HasRoomFor, text_before, text_stanzas, replacement_in, range_in, refusal_in};
-ghost use Rattle.sp_text_entry.specs.TextEntries.{CanUndoText, CanRedoText, HasTextRoom, IsTextRedone, IsSameTextEntry, IsTextUndone, LeadsTextBack, LeadsTextForth, undone_text, redone_text, undone_lines, done_lines, edited_by};
+ghost use Rattle.sp_text_entry.specs.TextEntries.{CanTurnText, HasTextRoom, IsSameTextEntry, IsTextTurned, LeadsText, done_lines, edited_by, turned_lines, turned_text};
 ghost use Rattle.sp_layout.specs.Changes.{CanChange, HasChangeRoom, with_change};
 ghost use Rattle.sp_layout.specs.Edited.{KeepsToWindow};
 ghost use Rattle.sp_layout.specs.Kept.{laid_of};
@@ -27,14 +27,14 @@ use spec_labels::Moved;
 use std::alloc::Global;
 use std::marker::Model;
 
-/// What an edit displaced: lines, stanzas, the anchors of page records that it carried, and the rounds of those that it
-/// raised.
+/// What an edit displaced, or what was displaced when that was put back: lines, stanzas, and the anchors and rounds of page
+/// records in two lists, of which `first` is put back before `second`.
 #[derive(Drop)]
 pub struct TextEntry {
     pub lines: Displaced,
     pub stanzas: Swapped,
-    pub moved: Vec<Moved>,
-    pub raised: Vec<Moved>,
+    pub first: Vec<Moved>,
+    pub second: Vec<Moved>,
 }
 
 impl Model for TextEntry {
@@ -42,7 +42,7 @@ impl Model for TextEntry {
 
     ghost Value = { TextEntryState };
 
-    ghost view = { λ e. record { lines = e.lines; stanzas = e.stanzas; moved = e.moved.items; raised = e.raised.items } };
+    ghost view = { λ e. record { lines = e.lines; stanzas = e.stanzas; first = e.first.items; second = e.second.items } };
 }
 
 /// There was no memory; what was to be put back is handed back.
@@ -96,7 +96,7 @@ pub fn edit_entry<S: Steps>(
     ensures state { OnOk result (state_in lines.new records.new ≡ edited_by (state_in lines.old records.old) edit) }
     ensures whole { OnOk result (IsWhole (state_in lines.new records.new)) }
     ensures back { IfOk result (λ it.
-        LeadsTextBack (state_in lines.old records.old) (state_in lines.new records.new) it.text) }
+        LeadsText (state_in lines.new records.new) (state_in lines.old records.old) it.text) }
     ensures range { IfOk result (λ it. done_lines it.text ≡ range_in lines.old edit) }
     ensures room { IfOk result (λ it. HasTextRoom lines.new stanzas.new it.text) }
     ensures stanzas { stanzas.new.stanzas ≡ text_stanzas (text_of lines.new) }
@@ -135,8 +135,8 @@ pub fn edit_entry<S: Steps>(
             text: TextEntry {
                 lines: displaced,
                 stanzas: swapped,
-                moved,
-                raised,
+                first: raised,
+                second: moved,
             },
             layout: change,
             rows,
@@ -149,22 +149,22 @@ pub fn edit_entry<S: Steps>(
     }
 }
 
-/// Undoes an edit by its entry, and answers the entry that does it again. No stanza is read.
-/// It takes memory only where the lines, the stanzas or the entry have no room for what they get. On an error there was
-/// none, nothing is changed, and the entry is handed back.
-pub fn undo_entry(
+/// Puts back what an entry displaced, and answers the entry of what stood in its place, which leads back. So the entry of an edit
+/// undoes it, the one answered does it again, and so on. No stanza is read. It takes memory only where the lines, the stanzas or
+/// the entry have no room for what they get. On an error there was none, nothing is changed, and the entry is handed back.
+pub fn turn_entry(
     lines: &mut Lines,
     stanzas: &mut Stanzas,
     records: &mut Records,
     entry: TextEntry,
 ) -> Result<TextEntry, UnturnedText>
     requires stanzas { stanzas.old.stanzas ≡ text_stanzas (text_of lines.old) }
-    requires can { CanUndoText (state_in lines.old records.old) entry }
-    ensures state { OnOk result (state_in lines.new records.new ≡ undone_text (state_in lines.old records.old) entry) }
-    ensures forth { IfOk result (LeadsTextForth (state_in lines.old records.old) (state_in lines.new records.new)) }
-    ensures range { IfOk result (λ it. undone_lines it ≡ done_lines entry) }
+    requires can { CanTurnText (state_in lines.old records.old) entry }
+    ensures state { OnOk result (state_in lines.new records.new ≡ turned_text (state_in lines.old records.old) entry) }
+    ensures back { IfOk result (LeadsText (state_in lines.new records.new) (state_in lines.old records.old)) }
+    ensures range { IfOk result (λ it. done_lines it ≡ turned_lines entry) }
     ensures same { OnErr result (state_in lines.new records.new ≡ state_in lines.old records.old) }
-    ensures entry { IfOk result (IsTextUndone (state_in lines.old records.old) entry) }
+    ensures entry { IfOk result (IsTextTurned (state_in lines.old records.old) entry) }
     ensures handed_back { IfErr result (λ error. IsSameTextEntry error.back entry) }
     ensures stanzas { stanzas.new.stanzas ≡ text_stanzas (text_of lines.new) }
     ensures room { IfOk result (HasTextRoom lines.new stanzas.new) }
@@ -173,18 +173,18 @@ pub fn undo_entry(
     let TextEntry {
         lines: back,
         stanzas: swapped,
-        mut moved,
-        mut raised,
+        mut first,
+        mut second,
     } = entry;
     match restore_text(lines, stanzas, back, swapped) {
         Ok((displaced, others)) => {
-            put_back_pages(records, &mut raised);
-            put_back_pages(records, &mut moved);
+            put_back_pages(records, &mut first);
+            put_back_pages(records, &mut second);
             Ok(TextEntry {
                 lines: displaced,
                 stanzas: others,
-                moved,
-                raised,
+                first: second,
+                second: first,
             })
         }
         Err(
@@ -196,62 +196,8 @@ pub fn undo_entry(
             back: TextEntry {
                 lines: back,
                 stanzas: swapped,
-                moved,
-                raised,
-            },
-        }),
-    }
-}
-
-/// Does an edit again by the entry that undoing it left, and answers the entry that undoes it. No stanza is
-/// read. It takes memory only where the lines, the stanzas or the entry have no room for what they get. On an error there
-/// was none, nothing is changed, and the entry is handed back.
-pub fn redo_entry(
-    lines: &mut Lines,
-    stanzas: &mut Stanzas,
-    records: &mut Records,
-    entry: TextEntry,
-) -> Result<TextEntry, UnturnedText>
-    requires stanzas { stanzas.old.stanzas ≡ text_stanzas (text_of lines.old) }
-    requires can { CanRedoText (state_in lines.old records.old) entry }
-    ensures state { OnOk result (state_in lines.new records.new ≡ redone_text (state_in lines.old records.old) entry) }
-    ensures back { IfOk result (LeadsTextBack (state_in lines.old records.old) (state_in lines.new records.new)) }
-    ensures range { IfOk result (λ it. done_lines it ≡ undone_lines entry) }
-    ensures same { OnErr result (state_in lines.new records.new ≡ state_in lines.old records.old) }
-    ensures entry { IfOk result (IsTextRedone (state_in lines.old records.old) entry) }
-    ensures handed_back { IfErr result (λ error. IsSameTextEntry error.back entry) }
-    ensures stanzas { stanzas.new.stanzas ≡ text_stanzas (text_of lines.new) }
-    ensures room { IfOk result (HasTextRoom lines.new stanzas.new) }
-    ensures succeeds { HasTextRoom lines.old stanzas.old entry → IsOk result }
-{
-    let TextEntry {
-        lines: back,
-        stanzas: swapped,
-        mut moved,
-        mut raised,
-    } = entry;
-    match restore_text(lines, stanzas, back, swapped) {
-        Ok((displaced, others)) => {
-            put_back_pages(records, &mut moved);
-            put_back_pages(records, &mut raised);
-            Ok(TextEntry {
-                lines: displaced,
-                stanzas: others,
-                moved,
-                raised,
-            })
-        }
-        Err(
-            UnrestoredText {
-                lines: back,
-                stanzas: swapped,
-            },
-        ) => Err(UnturnedText {
-            back: TextEntry {
-                lines: back,
-                stanzas: swapped,
-                moved,
-                raised,
+                first,
+                second,
             },
         }),
     }

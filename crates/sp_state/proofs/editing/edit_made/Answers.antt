@@ -25,7 +25,7 @@ use Rattle.sp_state.proofs.TitleLaws.{titles-after, titles-were}
 use Rattle.sp_state.proofs.SheetLaws.{edited-unlocked, locked-before, sheets-before}
 use Rattle.std.proofs.lemmas.Result.{err_from_is_err_and}
 use Rattle.sp_text_entry.specs.Reads.{EditReads, EditReadsAtMost}
-use Rattle.sp_state.proofs.EntryLaws.{leads-back}
+use Rattle.sp_state.proofs.EntryLaws.{entry-leads}
 use Rattle.sp_exchange.specs.Reads.{IsRefused}
 use Rattle.sp_state.proofs.editing.edit_made.Goals as goal
 
@@ -125,8 +125,8 @@ returns-in-Ok g c =
       refuses = done.refuses;
       state = done.state;
       whole = done.whole;
-      back = leads-back old new c.in_ok-text.field-0.text c.in_ok-text.field-0.layout c.in-Ok.swapped (laid_of c.args.layout.now) (laid_of c.edit_entry.new.layout) c.refilled.new.pages.starts
-          done.back c.requires.laid done.laid done.can_change done.layout_back filled.pages filled.can (filled.back ∙ c.requires.pages);
+      back = entry-leads new old c.in_ok-text.field-0.text c.in_ok-text.field-0.layout c.in-Ok.swapped (laid_of c.edit_entry.new.layout) (laid_of c.args.layout.now) c.refilled.new.pages.starts
+          done.back done.laid c.requires.laid done.can_change done.layout_back filled.pages filled.can (filled.back ∙ c.requires.pages);
       range = done.range;
       window = done.window;
       few = done.few;
@@ -156,7 +156,7 @@ returns g c =
     let done = c.in_ok-text.ensures in
     let left = c.in-Err.ensures in
     let found : IsExchangeOf old it edit = subst (IsExchangeOf old it) (sym c.rows.view_is) done.rows in
-    let same : now ≡ old = c.take_back.ensures.state ∙ done.back.back in
+    let same : now ≡ old = c.take_back.ensures.state ∙ done.back.there in
     record {
       refuses = tt;
       state = tt;

@@ -111,7 +111,7 @@ returns-in-Ok g c =
     let edit = edit_of c.args.edit in
     let it = replacement_of old.lines edit in
     let back = displaced_of c.in_ok-displaced.displaced in
-    let entry : TextEntryState = record { lines = c.in_ok-displaced.displaced; stanzas = c.in_ok-displaced.swapped; moved = c.in-Ok.field-0.moved.items; raised = c.in-Ok.field-0.raised.items } in
+    let entry : TextEntryState = record { lines = c.in_ok-displaced.displaced; stanzas = c.in_ok-displaced.swapped; first = c.in-Ok.field-0.raised.items; second = c.in-Ok.field-0.moved.items } in
     let ensures = c.in_ok-displaced.ensures in
     let relaid = c.in-Ok.ensures in
     let is = ensures.text ∙ ap (λ (those : RecordsOf). changed old it those.round) c.records.view_is in

@@ -8,7 +8,7 @@ use Rattle.spec_state.specs.Keeping.{IsWhole, state_of}
 use Rattle.sp_text.specs.Changing.{Refuses, edit_of}
 use Rattle.sp_text.specs.Gap.{text_of}
 use Rattle.sp_exchange.specs.Reads.{IsRefused}
-use Rattle.sp_state.specs.Entries.{EntryState, HoldsWindow, LeadsBack}
+use Rattle.sp_state.specs.Entries.{EntryState, HoldsWindow, Leads}
 use Rattle.sp_state.specs.Fills.{EditFills, EditFillsAtMost}
 use Rattle.sp_text_entry.specs.Reads.{EditReads, EditReadsAtMost}
 use Rattle.sp_state.proofs.EditedScripts.{before-is}
@@ -53,7 +53,7 @@ returns g c =
       whole = subst IsWhole c.self.view_is c.self.invariant.0;
       refuses = subst (λ (state : State). refusal_of (state_text state) edit ≡ None) before done.refuses;
       state = done.state ∙ ap (λ (state : State). edited_state state (replacement_of state.lines edit)) before;
-      back = subst (λ (state : State). LeadsBack state new c.in_ok-entry.entry) before done.back;
+      back = subst (λ (state : State). Leads new state c.in_ok-entry.entry) before done.back;
       range = done.range ∙ ap (λ (state : State). range_of (replacement_of state.lines edit)) before;
       window = subst (λ (state : State). HoldsWindow (state_text state) (state_text new) (range_of (replacement_of state.lines edit)) c.in_ok-entry.entry) before done.window;
       few = done.few;

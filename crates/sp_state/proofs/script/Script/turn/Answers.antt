@@ -3,9 +3,9 @@ use Rattle.std.proofs.lemmas.Result.{err_from_is_err_and}
 use Rattle.spec_state.specs.State.{State, text_of as state_text}
 use Rattle.spec_state.specs.Keeping.{IsWhole, state_of}
 use Rattle.sp_text.specs.Gap.{text_of}
-use Rattle.sp_state.specs.Entries.{CanUndo, HoldsFew, LeadsForth, undone_state}
+use Rattle.sp_state.specs.Entries.{CanTurn, HoldsFew, Leads, turned_state}
 use Rattle.sp_state.proofs.EditedScripts.{before-is}
-use Rattle.sp_state.proofs.script.Script.undo.Goals as goal
+use Rattle.sp_state.proofs.script.Script.turn.Goals as goal
 
 pub returns-in_err-other : goal.returns-in_err-other
 returns-in_err-other c =
@@ -15,23 +15,23 @@ returns-in_err-other c =
     rw (p.1, p.2) (record {
       whole = subst IsWhole c.self.view_is c.self.invariant.0;
       state = tt;
-      forth = tt;
+      back = tt;
       range = tt;
       few = λ held. tt;
       same = left.same ∙ before;
       handed_back = left.handed_back;
-      again = subst (λ (state : State). CanUndo state c.in_err-other.field-0.0.back) before left.again;
+      again = subst (λ (state : State). CanTurn state c.in_err-other.field-0.0.back) before left.again;
     })
 
 pub returns : goal.returns
 returns c =
-    let new : State = state_of (text_of c.undo_made.new.lines) c.undo_made.new.records in
+    let new : State = state_of (text_of c.turn_made.new.lines) c.turn_made.new.records in
     let done = c.in_ok-other.ensures in
     let before = before-is c.self-inside.view_is c.self.view_is in
     record {
       whole = subst IsWhole c.self.view_is c.self.invariant.0;
-      state = done.state ∙ ap (λ (state : State). undone_state state c.args.entry) before;
-      forth = subst (λ (state : State). LeadsForth state new c.in_ok-other.other) before done.forth;
+      state = done.state ∙ ap (λ (state : State). turned_state state c.args.entry) before;
+      back = subst (λ (state : State). Leads new state c.in_ok-other.other) before done.back;
       range = done.range;
       few = subst (λ (state : State). HoldsFew (state_text state) c.args.entry → HoldsFew (state_text new) c.in_ok-other.other) before done.few;
       same = tt;

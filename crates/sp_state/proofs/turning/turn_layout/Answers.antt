@@ -10,7 +10,7 @@ use Rattle.sp_sheets.proofs.LaidHeadings.{labels-stay}
 use Rattle.sp_sheets.specs.Titles.{laid_titles}
 use Rattle.sp_state.proofs.EntryLaws.{same-leads}
 use Rattle.sp_state.proofs.TitleLaws.{titles-after}
-use Rattle.sp_state.proofs.turning.turn_made.Goals as goal
+use Rattle.sp_state.proofs.turning.turn_layout.Goals as goal
 
 pub turned_pages-requires-clause-labels : goal.turned_pages-requires-clause-labels
 turned_pages-requires-clause-labels c keeps =
