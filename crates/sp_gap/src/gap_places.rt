@@ -10,6 +10,7 @@ use crate::places::exchange_places;
 use crate::{make_room, reserve_more};
 use std::alloc::{AllocError, Global};
 use std::marker::Model;
+use std::mem;
 
 /// Places, none of them behind an end, that are exchanged mostly near one another. Those behind a gap stand in a list of their
 /// own, the last first, and count from the end; so an exchange at the gap that moves all later ones changes none of them.
@@ -68,9 +69,14 @@ fn pour_mirrored(from: &mut Vec<usize>, to: &mut Vec<usize>, count: usize, end: 
     ensures from_room { vec_capacity from.new ≡ vec_capacity from.old }
     ensures to_room { vec_capacity to.new ≡ vec_capacity to.old }
 {
+    let alloc = *from.allocator();
+    let mut source = mem::replace(from, Vec::new(alloc));
+    let mut target = mem::replace(to, Vec::new(alloc));
     for _ in 0..count {
-        to.push_reserved(end - from.take_last());
+        target.push_reserved(end - source.take_last());
     }
+    mem::replace(from, source).destroy_empty();
+    mem::replace(to, target).destroy_empty();
 }
 
 /// Moves the gap behind the last place.

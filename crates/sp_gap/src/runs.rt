@@ -3,6 +3,7 @@ ghost use Rattle.std.specs.Prelude.{◌≡◌, ◌+◌, ◌-◌, ◌<◌, ◌≤
 ghost use Rattle.sp_gap.specs.Runs.{Poured, exchanged};
 
 use std::alloc::AllocError;
+use std::mem;
 
 /// One part of so many is the room that a list gets beside what is asked for.
 const MORE_ROOM: usize = 16;
@@ -38,7 +39,8 @@ pub fn reserve_more<T>(list: &mut Vec<T>, count: usize) -> Result<(), AllocError
     }
 }
 
-/// Takes so many items off the end of a list and puts them behind another, the last first. It takes no memory.
+/// Takes so many items off the end of a list and puts them behind another, the last first. It takes no memory. Both lists are held
+/// while it goes on, so that an item costs no look at where they are kept.
 pub fn pour<T>(from: &mut Vec<T>, to: &mut Vec<T>, count: usize)
     requires there { count ≤ vec_len from.old }
     requires room { vec_len to.old + count ≤ vec_capacity to.old }
@@ -48,9 +50,14 @@ pub fn pour<T>(from: &mut Vec<T>, to: &mut Vec<T>, count: usize)
     ensures from_room { vec_capacity from.new ≡ vec_capacity from.old }
     ensures to_room { vec_capacity to.new ≡ vec_capacity to.old }
 {
+    let alloc = *from.allocator();
+    let mut source = mem::replace(from, Vec::new(alloc));
+    let mut target = mem::replace(to, Vec::new(alloc));
     for _ in 0..count {
-        to.push_reserved(from.take_last());
+        target.push_reserved(source.take_last());
     }
+    mem::replace(from, source).destroy_empty();
+    mem::replace(to, target).destroy_empty();
 }
 
 /// Turns the items of a list from a place on.
