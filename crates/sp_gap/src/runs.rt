@@ -8,6 +8,14 @@ use std::mem;
 /// One part of so many is the room that a list gets beside what is asked for.
 const MORE_ROOM: usize = 16;
 
+/// For how many items room is made where there is none for so many: a list that was made whole would else take twice its memory at
+/// its first change.
+pub fn roomy(total: usize) -> usize
+    ensures { total ≤ result }
+{
+    total.saturating_add(total / MORE_ROOM)
+}
+
 /// Makes room for so many items in all, and where there was none for some more: a list that was made whole would else take twice
 /// its memory at its first change. On an error the list has the room that it had.
 pub fn make_room<T>(list: &mut Vec<T>, total: usize) -> Result<(), AllocError>
@@ -21,8 +29,7 @@ pub fn make_room<T>(list: &mut Vec<T>, total: usize) -> Result<(), AllocError>
     if total <= list.capacity() {
         return Ok(());
     }
-    let more = total.saturating_add(total / MORE_ROOM);
-    list.reserve_exact(more.saturating_sub(list.len()))
+    list.reserve_exact(roomy(total).saturating_sub(list.len()))
 }
 
 /// Makes room for so many more items. A list that has no room gets it for just these, since most lists of what an edit keeps stay

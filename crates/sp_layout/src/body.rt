@@ -436,9 +436,6 @@ impl Body {
     pub fn make_gaps(&mut self)
         ensures { self.new ≡ self.old }
     {
-        self.shapes.make_gap();
-        self.marks.make_gap();
-        self.keys.make_gap();
         self.row_starts.make_gap();
         self.heading_starts.make_gap();
     }
