@@ -30,6 +30,7 @@ impl<T> Model for GapList<T> {
 }
 
 /// Where in a ring of so many items, so many of them behind the gap, the item at a place of the list stands.
+#[inline(always)]
 fn slot(count: usize, behind: usize, place: usize) -> usize
     requires behind { behind ≤ count }
     requires place { place < count }
@@ -61,6 +62,21 @@ fn seek<T>(ring: &mut VecDeque<T>, behind: &mut usize, place: usize)
     }
     ring.rotate_left(place - ahead);
     *behind -= place - ahead;
+}
+
+/// Moves the gap behind the last item.
+fn close<T>(ring: &mut VecDeque<T>, behind: &mut usize)
+    requires behind { behind.old ≤ deque_len ring.old }
+    ensures items { ring.new.items ≡ turned behind.old ring.old.items }
+    ensures len { deque_len ring.new ≡ deque_len ring.old }
+    ensures behind { behind.new ≡ 0 }
+    ensures room { deque_capacity ring.new ≡ deque_capacity ring.old }
+{
+    let count = *behind;
+    if count > 0 {
+        ring.rotate_left(count);
+        *behind = 0;
+    }
 }
 
 /// Takes so many items off the end of a ring and puts them behind those of another, in their order.
@@ -176,6 +192,7 @@ impl<T> GapList<T> {
     }
 
     /// Lends the item at a place, from 0.
+    #[inline(always)]
     pub fn at(&self, place: usize) -> &T
         requires { place < length self.now.items }
         ensures { slice_get self.now.items place ≡ Some result.now }
@@ -216,8 +233,7 @@ impl<T> GapList<T> {
         ensures items { self.new.items ≡ self.old.items ++ item ∷ [] }
         ensures room { self.new.room ≡ self.old.room }
     {
-        let end = self.ring.len();
-        seek(&mut self.ring, &mut self.behind, end);
+        close(&mut self.ring, &mut self.behind);
         self.ring.push_back_reserved(item);
     }
 }
@@ -235,8 +251,7 @@ impl<T: Copy> GapList<T> {
         ensures room { self.new.room ≡ self.old.room }
         ensures other_room { other.new.room ≡ other.old.room }
     {
-        let end = other.ring.len();
-        seek(&mut other.ring, &mut other.behind, end);
+        close(&mut other.ring, &mut other.behind);
         exchange_round(&mut self.ring, &mut self.behind, from, to, &mut other.ring);
     }
 }

@@ -93,7 +93,9 @@ fn close(front: &mut Vec<usize>, back: &mut Vec<usize>, end: usize)
     ensures front_room { vec_capacity front.new ≡ vec_capacity front.old }
 {
     let count = back.len();
-    pour_mirrored(back, front, count, end);
+    if count > 0 {
+        pour_mirrored(back, front, count, end);
+    }
 }
 
 /// Moves the gap behind so many places; further, where there is no room behind it for those between, or where it may stay behind
