@@ -13,4 +13,4 @@ loop-row-preserved c =
     let low = slice_get_within marks row mark c.at.ensures in
     let more = fold_more max 0 (drop from marks) (row - from) 0 (omega (arith, low, length-drop from marks)) in
     let read : get_or (drop from marks) (row - from) 0 ≡ mark = get_or-drop from marks (row - from) 0 ∙ ap (λ n. get_or marks n 0) (let same : from + (row - from) ≡ row = omega arith in same) ∙ get_or_from_slice_get marks row mark 0 c.at.ensures in
-    c.max.ensures ∙ ap₂ max c.loop-row.invariant (sym read) ∙ sym more ∙ ap (λ n. fold max 0 (take n (drop from marks))) (let next : row - from + 1 ≡ row + 1 - from = omega arith in next)
+    c.max-greatest.ensures ∙ ap₂ max c.loop-row.invariant (sym read) ∙ sym more ∙ ap (λ n. fold max 0 (take n (drop from marks))) (let next : row - from + 1 ≡ row + 1 - from = omega arith in next)
