@@ -1,11 +1,9 @@
 -- Runs of a list round a gap.
-use Rattle.std.proofs.Common.{◌≡◌, ℕ, ◌+◌, ◌-◌, ◌≤◌, List, [], ◌++◌, inl, inr, refl, append-nil, length, take, drop, reverse, slice_range, sym, ap, ap₂, ◌∙◌, arith, append_assoc, length-append, length-drop, take_at, drop_at}
+use Rattle.std.proofs.Common.{◌≡◌, ℕ, ◌+◌, ◌-◌, ◌≤◌, List, ◌++◌, length, take, drop, reverse, slice_range, sym, ap, ap₂, ◌∙◌, arith, append_assoc, length-append, length-drop, take_at, drop_at}
 use Rattle.std.proofs.Math.Seq.{take-append-add, drop-append-add}
-use Rattle.std.proofs.lemmas.List.{reverse-append, reverse-reverse, length-reverse, length-take-le, take-append-le, drop-append-le}
+use Rattle.std.proofs.lemmas.List.{reverse-append, reverse-reverse, length-reverse, length-take-le}
 use Rattle.sp_gap.specs.Runs.{exchanged}
-use Rattle.std.specs.Prelude.{min, max}
-use Rattle.std.proofs.lemmas.Bool.{cases_lt}
-use Rattle.sp_gap.proofs.RunLaws.{in-three, slice-parts}
+use Rattle.sp_gap.proofs.RunLaws.{in-three}
 
 -- A list of so many items and a run of it, both turned round.
 pub turned-exchanged : {X : Type 0} (list items turned now : List X) (count from to : ℕ) → count ≡ length list → from ≤ to → to ≤ count → turned ≡ reverse items → now ≡ exchanged list from to turned

@@ -1,5 +1,5 @@
 -- A list in a ring, round a gap.
-use Rattle.std.proofs.Common.{◌≡◌, ℕ, suc, ◌+◌, ◌-◌, ◌<◌, ◌≤◌, List, [], ◌∷◌, ◌++◌, Some, inl, inr, refl, append-nil, length, take, drop, get_or, set, slice_range, slice_get, sym, ap, ap₂, ◌∙◌, arith, append_assoc, length-append, length-drop, length-set, take_at, take_all, drop_at, drop-drop, take-take, get_or-drop, get_or-take}
+use Rattle.std.proofs.Common.{◌≡◌, ℕ, suc, ◌+◌, ◌-◌, ◌<◌, ◌≤◌, List, [], ◌∷◌, ◌++◌, Some, inl, inr, length, take, drop, get_or, set, slice_range, slice_get, sym, ap, ap₂, ◌∙◌, arith, append_assoc, length-append, length-drop, length-set, take_at, drop_at, drop-drop, take-take, get_or-drop, get_or-take}
 use Rattle.std.proofs.Math.Seq.{take-append-add, drop-append-add, drop-cons}
 use Rattle.std.proofs.lemmas.List.{get_or_at, set_at, set-append_left, drop-set-add, take-set-le, drop-set-lt, get_or_append_left, length-take-le, take-append-le, drop-append-le, take-append-drop, get_or-append_right, set-append_right, take_more}
 use Rattle.std.proofs.lemmas.Option.{slice_get_read}

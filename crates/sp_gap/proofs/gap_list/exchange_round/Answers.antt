@@ -1,4 +1,4 @@
-use Rattle.std.proofs.Common.{◌≡◌, ◌≤◌, ◌+◌, ◌-◌, ◌++◌, [], length, take, drop, slice_range, refl, sym, ap, ap₂, ◌∙◌, arith, append-nil, length-drop, drop_at, take_all}
+use Rattle.std.proofs.Common.{◌≡◌, ◌≤◌, ◌+◌, ◌-◌, ◌++◌, [], length, take, drop, slice_range, refl, sym, ap, ◌∙◌, arith, append-nil, length-drop, drop_at, take_all}
 use Rattle.sp_gap.specs.Runs.{exchanged}
 use Rattle.sp_gap.specs.Gaps.{turned}
 use Rattle.sp_gap.proofs.RingLaws.{fewer-round, more-round, turned-length}

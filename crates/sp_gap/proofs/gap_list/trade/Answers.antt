@@ -1,4 +1,4 @@
-use Rattle.std.proofs.Common.{◌+◌, slice_set, refl, arith}
+use Rattle.std.proofs.Common.{slice_set, refl, arith}
 use Rattle.sp_gap.specs.Gaps.{turned}
 use Rattle.sp_gap.proofs.RingLaws.{traded-one, turned-length}
 use Rattle.sp_gap.proofs.gap_list.trade.Goals as goal
