@@ -1,11 +1,9 @@
 -- Runs of a list round a gap.
-use Rattle.std.proofs.Common.{◌≡◌, ℕ, ◌+◌, ◌-◌, ◌≤◌, List, [], ◌++◌, inl, inr, refl, append-nil, length, take, drop, reverse, slice_range, sym, ap, ap₂, ◌∙◌, arith, append_assoc, length-append, length-drop, take_at, drop_at}
+use Rattle.std.proofs.Common.{◌≡◌, ℕ, ◌+◌, ◌-◌, ◌≤◌, List, ◌++◌, length, take, drop, reverse, slice_range, sym, ap, ap₂, ◌∙◌, arith, append_assoc, length-append, length-drop, take_at, drop_at}
 use Rattle.std.proofs.Math.Seq.{take-append-add, drop-append-add}
-use Rattle.std.proofs.lemmas.List.{reverse-append, reverse-reverse, length-reverse, length-take-le, take-append-le, drop-append-le}
+use Rattle.std.proofs.lemmas.List.{reverse-append, reverse-reverse, length-reverse, length-take-le}
 use Rattle.sp_gap.specs.Runs.{exchanged}
-use Rattle.std.specs.Prelude.{min, max}
-use Rattle.std.proofs.lemmas.Bool.{cases_lt}
-use Rattle.sp_gap.proofs.RunLaws.{in-three, slice-parts}
+use Rattle.sp_gap.proofs.RunLaws.{in-three}
 
 -- A list of so many items and a run of it, both turned round.
 pub turned-exchanged : {X : Type 0} (list items turned now : List X) (count from to : ℕ) → count ≡ length list → from ≤ to → to ≤ count → turned ≡ reverse items → now ≡ exchanged list from to turned
@@ -43,52 +41,3 @@ behind-exchanged front rest items now ahead from to ahead_is behind order now_is
       ap (λ xs. front ++ xs) now_is ∙ sym (append_assoc front (take n rest) (items ++ drop m rest)) ∙ sym (ap₂ (λ xs ys. xs ++ (items ++ ys)) begin end),
       ap₂ (λ k xs. take k xs) count (sym inner),
     )
-
--- A run before the gap, and one behind it.
-run-before : {X : Type 0} (front rest : List X) (from to : ℕ) → from ≤ to → to ≤ length front → slice_range (front ++ rest) from to ≡ slice_range front from to
-run-before front rest from to order within =
-    ap (take (to - from)) (drop-append-le from front rest (omega (arith, order, within)))
-    ∙ take-append-le (to - from) (drop from front) rest (omega (arith, length-drop from front, within))
-
-run-behind : {X : Type 0} (front back : List X) (end from to : ℕ) → end ≡ length front + length back → length front ≤ from → from ≤ to → to ≤ end → slice_range (front ++ reverse back) from to ≡ reverse (slice_range back (end - to) (end - from))
-run-behind front back end from to end_is behind order within =
-    let rest = reverse back in
-    let start : length back - (end - from) ≡ from - length front = omega (arith, end_is, behind, order, within) in
-    let stop : length back - (end - to) ≡ to - length front = omega (arith, end_is, behind, order, within) in
-    sym ((turned-exchanged back [] (reverse []) (exchanged back (end - to) (end - from) (reverse [])) (length back) (end - to) (end - from) refl (omega (arith, order)) (omega (arith, end_is, behind)) refl refl).1
-    ∙ ap₂ (slice_range rest) start stop
-    ∙ (behind-exchanged front rest [] (exchanged rest (from - length front) (to - length front) []) (length front) from to refl behind order refl).1)
-
--- A run of a list, in what is of it before the gap and behind it.
-pub run-parts : {X : Type 0} (front back : List X) (from to ahead end : ℕ) → from ≤ to → to ≤ end → ahead ≡ length front → end ≡ ahead + length back
-    → slice_range (front ++ reverse back) from to ≡ slice_range front (min from ahead) (min to ahead) ++ reverse (slice_range back (end - max to ahead) (end - max from ahead))
-run-parts front back from to ahead end order within ahead_is end_is =
-    let rest = reverse back in
-    let all_is : end ≡ length front + length back = omega (arith, end_is, ahead_is) in
-    let all = front ++ rest in
-    elim (cases_lt to ahead) [
-      | inl low ↦
-          let near : slice_range front (min from ahead) (min to ahead) ≡ slice_range front from to =
-          ap₂ (slice_range front) (let n : min from ahead ≡ from = omega (arith, order, low) in n) (let m : min to ahead ≡ to = omega (arith, low) in m) in
-          let none : end - max from ahead - (end - max to ahead) ≡ 0 = omega (arith, order, low) in
-          let far : slice_range back (end - max to ahead) (end - max from ahead) ≡ [] = ap (λ k. take k (drop (end - max to ahead) back)) none in
-          run-before front rest from to order (omega (arith, low, ahead_is)) ∙ sym (append-nil (slice_range front from to)) ∙ ap₂ (λ xs ys. xs ++ reverse ys) (sym near) (sym far)
-      | inr high ↦
-          let last : end - max to ahead ≡ end - to = omega (arith, high) in
-          elim (cases_lt from ahead) [
-            | inl below ↦
-                let near : slice_range front (min from ahead) (min to ahead) ≡ slice_range front from ahead =
-                ap₂ (slice_range front) (let n : min from ahead ≡ from = omega (arith, below) in n) (let m : min to ahead ≡ ahead = omega (arith, high) in m) in
-                let far : slice_range back (end - max to ahead) (end - max from ahead) ≡ slice_range back (end - to) (end - ahead) =
-                ap₂ (slice_range back) last (let l : end - max from ahead ≡ end - ahead = omega (arith, below) in l) in
-                sym (slice-parts all from ahead to (omega (arith, below)) high)
-                ∙ ap₂ (λ xs ys. xs ++ ys) (run-before front rest from ahead (omega (arith, below)) (omega (arith, ahead_is))) (run-behind front back end ahead to all_is (omega (arith, ahead_is)) high within)
-                ∙ ap₂ (λ xs ys. xs ++ reverse ys) (sym near) (sym far)
-            | inr above ↦
-                let none : min to ahead - min from ahead ≡ 0 = omega (arith, above, high) in
-                let near : slice_range front (min from ahead) (min to ahead) ≡ [] = ap (λ k. take k (drop (min from ahead) front)) none in
-                let far : slice_range back (end - max to ahead) (end - max from ahead) ≡ slice_range back (end - to) (end - from) =
-                ap₂ (slice_range back) last (let l : end - max from ahead ≡ end - from = omega (arith, above) in l) in
-                run-behind front back end from to all_is (omega (arith, above, ahead_is)) order within ∙ ap₂ (λ xs ys. xs ++ reverse ys) (sym near) (sym far)
-          ]
-    ]

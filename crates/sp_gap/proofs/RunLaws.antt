@@ -32,7 +32,7 @@ in-three list from to order =
     sym (ap (λ xs. take from list ++ (slice_range list from to ++ xs)) (sym rest) ∙ ap (λ xs. take from list ++ xs) (take-append-drop (to - from) (drop from list)) ∙ take-append-drop from list)
 
 -- So many items, and so many of those behind them.
-take-then-take : {X : Type 0} (m n : ℕ) (xs : List X) → take m xs ++ take n (drop m xs) ≡ take (m + n) xs
+pub take-then-take : {X : Type 0} (m n : ℕ) (xs : List X) → take m xs ++ take n (drop m xs) ≡ take (m + n) xs
 take-then-take zero n xs = ap (λ k. take k xs) (let same : n ≡ 0 + n = omega arith in same)
 take-then-take (suc m) n [] = take_all n [] (omega arith) ∙ sym (take_all (suc m + n) [] (omega arith))
 take-then-take (suc m) n (x ∷ xs) = ap (λ ys. x ∷ ys) (take-then-take m n xs) ∙ ap (λ k. take k (x ∷ xs)) (let same : suc (m + n) ≡ suc m + n = omega arith in same)

@@ -1,5 +1,5 @@
 -- Lists round a gap.
-use Rattle.std.specs.Prelude.{ℕ, ◌+◌, ◌-◌, ◌<◌, ◌≤◌, ◌^◌, ◌++◌, List, All, drop, map, reverse, slice_range, take}
+use Rattle.std.specs.Prelude.{◌≡◌, ℕ, ◌+◌, ◌-◌, ◌<◌, ◌≤◌, ◌^◌, ◌++◌, List, All, drop, map, reverse, slice_range, take}
 use Rattle.sp_gap.specs.Moves.{shifted}
 
 -- The items of a list in order, and for how many it has room without taking memory.
@@ -12,6 +12,15 @@ pub record GapPlacesOf : Type 0 where
   pub items : List ℕ
   pub end : ℕ
   pub room : ℕ
+
+-- The items behind a gap stand first in a ring, so many, and then those before it. In order:
+abbrev pub turned : {X : Type 0} → ℕ → List X → List X
+turned behind ring = drop behind ring ++ take behind ring
+
+-- Where in a ring of so many items, so many of them behind the gap, the item at a place stands.
+pub record IsSlot (count behind place slot : ℕ) : Type 0 where
+  pub before : place < count - behind → slot ≡ behind + place
+  pub later : count - behind ≤ place → slot ≡ place - (count - behind)
 
 -- A place counted from an end, backwards.
 abbrev pub mirrored : ℕ → ℕ → ℕ

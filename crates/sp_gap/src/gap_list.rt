@@ -1,122 +1,174 @@
 //! A list round a gap.
-ghost use Rattle.std.specs.Prelude.{◌≡◌, ◌+◌, ◌-◌, ◌<◌, ◌≤◌, ◌++◌, ◌∷◌, [], Some, length, reverse, slice_get, slice_range, vec_len, vec_capacity, IsOk, OnOk};
+ghost use Rattle.std.specs.Prelude.{◌≡◌, ◌+◌, ◌-◌, ◌<◌, ◌≤◌, ◌++◌, ◌∷◌, [], Some, length, take, drop, slice_get, slice_index_or, slice_range, slice_set, IsOk, OnOk};
+ghost use Rattle.std.specs.VecDeque.{deque_len, deque_capacity};
 ghost use Rattle.sp_gap.specs.Runs.{exchanged};
+ghost use Rattle.sp_gap.specs.Gaps.{IsSlot, turned};
 
-use crate::{exchange, make_room, pour, reserve_more, trade};
+use crate::runs::roomy;
 use std::alloc::{AllocError, Global};
+use std::collections::VecDeque;
 use std::marker::Model;
 
-/// A list of so few items gets no room behind its gap: to move them takes no time.
-pub const FEW: usize = 256;
-
-/// A list whose items are exchanged mostly near one another. Those behind a gap stand in a list of their own, the last first; so
-/// an exchange at the gap moves none of them.
+/// A list whose items are exchanged mostly near one another. It stands in a ring, from the gap round to the gap: so many items
+/// behind the gap first, and then those before it. So an exchange at the gap moves no other item, and the gap moves at once.
 #[derive(Drop)]
 pub struct GapList<T> {
-    front: Vec<T>,
-    back: Vec<T>,
+    ring: VecDeque<T>,
+    behind: usize,
 }
 
 impl<T> Model for GapList<T> {
-    ghost use Rattle.std.specs.Prelude.{◌+◌, ◌≤◌, ◌++◌, reverse, vec_len, vec_capacity};
-    ghost use Rattle.sp_gap.specs.Gaps.{GapListOf};
+    ghost use Rattle.std.specs.Prelude.{◌≤◌};
+    ghost use Rattle.std.specs.VecDeque.{deque_len, deque_capacity};
+    ghost use Rattle.sp_gap.specs.Gaps.{GapListOf, turned};
 
     ghost Value = { GapListOf T };
 
-    ghost view = { λ l. record { items = l.front.items ++ reverse l.back.items; room = vec_capacity l.front } };
+    ghost view = { λ l. record { items = turned l.behind l.ring.items; room = deque_capacity l.ring } };
 
-    ghost invariant = { λ l. vec_len l.front + vec_len l.back ≤ vec_capacity l.front };
+    ghost invariant = { λ l. l.behind ≤ deque_len l.ring };
+}
+
+/// Where in a ring of so many items, so many of them behind the gap, the item at a place of the list stands.
+#[inline(always)]
+fn slot(count: usize, behind: usize, place: usize) -> usize
+    requires behind { behind ≤ count }
+    requires place { place < count }
+    ensures slot { IsSlot count behind place result }
+    ensures within { result < count }
+{
+    let ahead = count - behind;
+    if place < ahead {
+        behind + place
+    } else {
+        place - ahead
+    }
+}
+
+/// Moves the gap to a place.
+fn seek<T>(ring: &mut VecDeque<T>, behind: &mut usize, place: usize)
+    requires behind { behind.old ≤ deque_len ring.old }
+    requires within { place ≤ deque_len ring.old }
+    ensures items { turned behind.new ring.new.items ≡ turned behind.old ring.old.items }
+    ensures len { deque_len ring.new ≡ deque_len ring.old }
+    ensures behind { behind.new ≡ deque_len ring.old - place }
+    ensures room { deque_capacity ring.new ≡ deque_capacity ring.old }
+{
+    let ahead = ring.len() - *behind;
+    if place <= ahead {
+        ring.rotate_right(ahead - place);
+        *behind += ahead - place;
+        return;
+    }
+    ring.rotate_left(place - ahead);
+    *behind -= place - ahead;
 }
 
 /// Moves the gap behind the last item.
-fn close<T>(front: &mut Vec<T>, back: &mut Vec<T>)
-    requires room { vec_len front.old + vec_len back.old ≤ vec_capacity front.old }
-    ensures front { front.new.items ≡ front.old.items ++ reverse back.old.items }
-    ensures back { back.new.items ≡ [] }
-    ensures front_room { vec_capacity front.new ≡ vec_capacity front.old }
-    ensures back_room { vec_capacity back.new ≡ vec_capacity back.old }
+fn close<T>(ring: &mut VecDeque<T>, behind: &mut usize)
+    requires behind { behind.old ≤ deque_len ring.old }
+    ensures items { ring.new.items ≡ turned behind.old ring.old.items }
+    ensures len { deque_len ring.new ≡ deque_len ring.old }
+    ensures behind { behind.new ≡ 0 }
+    ensures room { deque_capacity ring.new ≡ deque_capacity ring.old }
 {
-    let count = back.len();
-    pour(back, front, count);
-}
-
-/// Moves the gap to a place; behind it, where there is no room behind the gap for the items between.
-fn seek<T>(front: &mut Vec<T>, back: &mut Vec<T>, place: usize)
-    requires within { place ≤ vec_len front.old + vec_len back.old }
-    requires room { vec_len front.old + vec_len back.old ≤ vec_capacity front.old }
-    ensures items { front.new.items ++ reverse back.new.items ≡ front.old.items ++ reverse back.old.items }
-    ensures len { vec_len front.new + vec_len back.new ≡ vec_len front.old + vec_len back.old }
-    ensures ahead { place ≤ vec_len front.new }
-    ensures front_room { vec_capacity front.new ≡ vec_capacity front.old }
-{
-    let ahead = front.len();
-    if ahead < place {
-        pour(back, front, place - ahead);
-    } else if ahead - place <= back.capacity() - back.len() {
-        pour(front, back, ahead - place);
+    let count = *behind;
+    if count > 0 {
+        ring.rotate_left(count);
+        *behind = 0;
     }
 }
 
-/// Exchanges the items of a list from one place to before another for as many others, where both stand the last first.
-pub fn trade_turned<T>(list: &mut Vec<T>, from: usize, to: usize, items: &mut Vec<T>)
-    requires order { from ≤ to }
-    requires within { to ≤ vec_len list.old }
-    requires many { vec_len items.old ≡ to - from }
-    ensures list { reverse list.new.items ≡ exchanged (reverse list.old.items) (vec_len list.old - to) (vec_len list.old - from) items.old.items }
-    ensures items { items.new.items ≡ slice_range (reverse list.old.items) (vec_len list.old - to) (vec_len list.old - from) }
-    ensures len { vec_len list.new ≡ vec_len list.old }
-    ensures list_room { vec_capacity list.new ≡ vec_capacity list.old }
-    ensures items_room { vec_capacity items.new ≡ vec_capacity items.old }
+/// Takes so many items off the end of a ring and puts them behind those of another, in their order.
+fn hand_over<T>(from: &mut VecDeque<T>, to: &mut VecDeque<T>, count: usize)
+    requires there { count ≤ deque_len from.old }
+    requires room { deque_len to.old + count ≤ deque_capacity to.old }
+    ensures from { from.new.items ≡ take (deque_len from.old - count) from.old.items }
+    ensures to { to.new.items ≡ to.old.items ++ drop (deque_len from.old - count) from.old.items }
+    ensures from_len { deque_len from.new + count ≡ deque_len from.old }
+    ensures to_len { deque_len to.new ≡ deque_len to.old + count }
+    ensures from_room { deque_capacity from.new ≡ deque_capacity from.old }
+    ensures to_room { deque_capacity to.new ≡ deque_capacity to.old }
 {
-    items.reverse();
-    trade(list, from, to, items);
-    items.reverse();
+    for _ in 0..count {
+        if let Some(item) = from.pop_back() {
+            to.push_front_reserved(item);
+        }
+    }
+    to.rotate_left(count);
 }
 
-/// Exchanges items behind the gap for as many others. No other is moved.
-fn trade_behind<T>(ahead: usize, back: &mut Vec<T>, from: usize, to: usize, items: &mut Vec<T>)
-    requires behind { ahead ≤ from }
-    requires order { from ≤ to }
-    requires within { to ≤ ahead + vec_len back.old }
-    requires many { vec_len items.old ≡ to - from }
-    requires fits { ahead + vec_len back.old ≤ 9223372036854775807 }
-    ensures back { reverse back.new.items ≡ exchanged (reverse back.old.items) (from - ahead) (to - ahead) items.old.items }
-    ensures items { items.new.items ≡ slice_range (reverse back.old.items) (from - ahead) (to - ahead) }
-    ensures len { vec_len back.new ≡ vec_len back.old }
-    ensures items_room { vec_capacity items.new ≡ vec_capacity items.old }
+/// Puts an item in the place of that at a place of the list, and answers that.
+fn put<T: Copy>(ring: &mut VecDeque<T>, behind: usize, place: usize, item: T) -> T
+    requires behind { behind ≤ deque_len ring.old }
+    requires place { place < deque_len ring.old }
+    ensures items { turned behind ring.new.items ≡ slice_set (turned behind ring.old.items) place item }
+    ensures was { result ≡ slice_index_or (turned behind ring.old.items) place result }
+    ensures len { deque_len ring.new ≡ deque_len ring.old }
+    ensures room { deque_capacity ring.new ≡ deque_capacity ring.old }
 {
-    let end = ahead + back.len();
-    trade_turned(back, end - to, end - from, items);
+    let slot = slot(ring.len(), behind, place);
+    let was = ring[slot];
+    ring[slot] = item;
+    was
+}
+
+/// Exchanges so many items of the list from a place on for the first of others. No other is moved.
+fn trade<T: Copy>(
+    ring: &mut VecDeque<T>,
+    behind: usize,
+    from: usize,
+    count: usize,
+    items: &mut VecDeque<T>,
+)
+    requires behind { behind ≤ deque_len ring.old }
+    requires within { from + count ≤ deque_len ring.old }
+    requires many { count ≤ deque_len items.old }
+    ensures list { turned behind ring.new.items ≡ exchanged (turned behind ring.old.items) from (from + count) (take count items.old.items) }
+    ensures items { items.new.items ≡ slice_range (turned behind ring.old.items) from (from + count) ++ drop count items.old.items }
+    ensures len { deque_len ring.new ≡ deque_len ring.old }
+    ensures items_len { deque_len items.new ≡ deque_len items.old }
+    ensures room { deque_capacity ring.new ≡ deque_capacity ring.old }
+    ensures items_room { deque_capacity items.new ≡ deque_capacity items.old }
+{
+    for k in 0..count {
+        let item = items[k];
+        items[k] = put(ring, behind, from + k, item);
+    }
 }
 
 /// Exchanges items of a list round a gap. Where as many come as go, no other is moved; else the gap comes behind them.
-fn exchange_round<T>(
-    front: &mut Vec<T>,
-    back: &mut Vec<T>,
+fn exchange_round<T: Copy>(
+    ring: &mut VecDeque<T>,
+    behind: &mut usize,
     from: usize,
     to: usize,
-    items: &mut Vec<T>,
+    items: &mut VecDeque<T>,
 )
+    requires behind { behind.old ≤ deque_len ring.old }
     requires order { from ≤ to }
-    requires within { to ≤ vec_len front.old + vec_len back.old }
-    requires room { vec_len front.old + vec_len back.old + vec_len items.old ≤ vec_capacity front.old }
-    requires items_room { to - from ≤ vec_capacity items.old }
-    ensures list { front.new.items ++ reverse back.new.items ≡ exchanged (front.old.items ++ reverse back.old.items) from to items.old.items }
-    ensures items { items.new.items ≡ slice_range (front.old.items ++ reverse back.old.items) from to }
-    ensures fits { vec_len front.new + vec_len back.new ≤ vec_capacity front.new }
-    ensures room { vec_capacity front.new ≡ vec_capacity front.old }
-    ensures items_room { vec_capacity items.new ≡ vec_capacity items.old }
+    requires within { to ≤ deque_len ring.old }
+    requires room { deque_len ring.old + deque_len items.old ≤ deque_capacity ring.old }
+    requires items_room { to - from ≤ deque_capacity items.old }
+    ensures list { turned behind.new ring.new.items ≡ exchanged (turned behind.old ring.old.items) from to items.old.items }
+    ensures items { items.new.items ≡ slice_range (turned behind.old ring.old.items) from to }
+    ensures behind { behind.new ≤ deque_len ring.new }
+    ensures room { deque_capacity ring.new ≡ deque_capacity ring.old }
+    ensures items_room { deque_capacity items.new ≡ deque_capacity items.old }
 {
-    let ahead = front.len();
-    let stays = items.len() == to - from;
-    if stays && ahead <= from {
-        trade_behind(ahead, back, from, to, items);
+    let run = to - from;
+    let count = items.len();
+    let both = count.min(run);
+    trade(ring, *behind, from, both, items);
+    if count == run {
         return;
     }
-    if !stays || ahead < to {
-        seek(front, back, to);
+    seek(ring, behind, to);
+    if run < count {
+        hand_over(items, ring, count - run);
+        return;
     }
-    exchange(front, from, to, items);
+    hand_over(ring, items, run - count);
 }
 
 impl<T> GapList<T> {
@@ -125,8 +177,8 @@ impl<T> GapList<T> {
         ensures { result.items ≡ [] }
     {
         GapList {
-            front: Vec::new(alloc),
-            back: Vec::new(alloc),
+            ring: VecDeque::new(alloc),
+            behind: 0,
         }
     }
 
@@ -136,20 +188,16 @@ impl<T> GapList<T> {
         ensures enough { length self.now.items ≤ self.now.room }
         ensures small { self.now.room ≤ 9223372036854775807 }
     {
-        self.front.len() + self.back.len()
+        self.ring.len()
     }
 
     /// Lends the item at a place, from 0.
+    #[inline(always)]
     pub fn at(&self, place: usize) -> &T
         requires { place < length self.now.items }
         ensures { slice_get self.now.items place ≡ Some result.now }
     {
-        let ahead = self.front.len();
-        if place < ahead {
-            &self.front[place]
-        } else {
-            &self.back[self.back.len() - 1 - (place - ahead)]
-        }
+        &self.ring[slot(self.ring.len(), self.behind, place)]
     }
 
     /// Makes room for so many more items. On an error there was no memory for them.
@@ -157,8 +205,11 @@ impl<T> GapList<T> {
         ensures items { self.new.items ≡ self.old.items }
         ensures room { OnOk result (length self.new.items + count ≤ self.new.room) }
     {
-        close(&mut self.front, &mut self.back);
-        reserve_more(&mut self.front, count)
+        if self.ring.capacity() == 0 {
+            self.ring.reserve_exact(count)
+        } else {
+            self.ring.reserve(count)
+        }
     }
 
     /// Makes room for so many items in all, and where there was none for some more. No room becomes less. The error is want of
@@ -169,31 +220,11 @@ impl<T> GapList<T> {
         ensures room { self.old.room ≤ self.new.room }
         ensures succeeds { total ≤ self.old.room → IsOk result }
     {
-        make_room(&mut self.front, total)
-    }
-
-    /// Makes room behind the gap, where there is memory for it: without it an exchange moves the later items. A list of up to 256
-    /// items gets none.
-    pub fn make_gap(&mut self)
-        ensures { self.new ≡ self.old }
-    {
-        let count = self.len();
-        if count > FEW {
-            let _room = make_room(&mut self.back, count);
+        if total <= self.ring.capacity() {
+            return Ok(());
         }
-    }
-
-    /// Lends the items from one place to before another: those before the gap, and those behind it, the last first.
-    pub fn parts(&self, from: usize, to: usize) -> (&[T], &[T])
-        requires order { from ≤ to }
-        requires within { to ≤ length self.now.items }
-        ensures { slice_range self.now.items from to ≡ result.0.now ++ reverse result.1.now }
-    {
-        let ahead = self.front.len();
-        let end = ahead + self.back.len();
-        let before = &self.front[from.min(ahead)..to.min(ahead)];
-        let behind = &self.back[end - to.max(ahead)..end - from.max(ahead)];
-        (before, behind)
+        self.ring
+            .reserve_exact(roomy(total).saturating_sub(self.ring.len()))
     }
 
     /// Adds an item behind the last, where there is room.
@@ -202,13 +233,14 @@ impl<T> GapList<T> {
         ensures items { self.new.items ≡ self.old.items ++ item ∷ [] }
         ensures room { self.new.room ≡ self.old.room }
     {
-        close(&mut self.front, &mut self.back);
-        self.front.push_reserved(item);
+        close(&mut self.ring, &mut self.behind);
+        self.ring.push_back_reserved(item);
     }
+}
 
+impl<T: Copy> GapList<T> {
     /// Exchanges the items from one place to before another for those of another list. Where as many come as go, no other is
-    /// moved, but that the gap goes out of their midst; else the gap comes behind them, where there is room behind it, and the items
-    /// between are moved, or the later ones. It takes no memory.
+    /// moved; else the gap comes behind them, and the items between are moved. It takes no memory.
     pub fn exchange(&mut self, from: usize, to: usize, other: &mut GapList<T>)
         requires order { from ≤ to }
         requires within { to ≤ length self.old.items }
@@ -219,7 +251,7 @@ impl<T> GapList<T> {
         ensures room { self.new.room ≡ self.old.room }
         ensures other_room { other.new.room ≡ other.old.room }
     {
-        close(&mut other.front, &mut other.back);
-        exchange_round(&mut self.front, &mut self.back, from, to, &mut other.front);
+        close(&mut other.ring, &mut other.behind);
+        exchange_round(&mut self.ring, &mut self.behind, from, to, &mut other.ring);
     }
 }

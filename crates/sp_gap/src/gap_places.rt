@@ -5,11 +5,14 @@ ghost use Rattle.sp_gap.specs.Runs.{exchanged};
 ghost use Rattle.sp_gap.specs.Gaps.{CanExchangePlaces, mirrored, round_gap, with_places};
 ghost use Rattle.sp_gap.specs.Moves.{shifted};
 
-use crate::gap_list::{FEW, trade_turned};
 use crate::places::exchange_places;
-use crate::{make_room, reserve_more};
+use crate::{make_room, reserve_more, trade};
 use std::alloc::{AllocError, Global};
 use std::marker::Model;
+use std::mem;
+
+/// A list of so few places gets no room behind its gap: to move them takes no time.
+const FEW: usize = 256;
 
 /// Places, none of them behind an end, that are exchanged mostly near one another. Those behind a gap stand in a list of their
 /// own, the last first, and count from the end; so an exchange at the gap that moves all later ones changes none of them.
@@ -68,9 +71,14 @@ fn pour_mirrored(from: &mut Vec<usize>, to: &mut Vec<usize>, count: usize, end: 
     ensures from_room { vec_capacity from.new ≡ vec_capacity from.old }
     ensures to_room { vec_capacity to.new ≡ vec_capacity to.old }
 {
+    let alloc = *from.allocator();
+    let mut source = mem::replace(from, Vec::new(alloc));
+    let mut target = mem::replace(to, Vec::new(alloc));
     for _ in 0..count {
-        to.push_reserved(end - from.take_last());
+        target.push_reserved(end - source.take_last());
     }
+    mem::replace(from, source).destroy_empty();
+    mem::replace(to, target).destroy_empty();
 }
 
 /// Moves the gap behind the last place.
@@ -85,7 +93,9 @@ fn close(front: &mut Vec<usize>, back: &mut Vec<usize>, end: usize)
     ensures front_room { vec_capacity front.new ≡ vec_capacity front.old }
 {
     let count = back.len();
-    pour_mirrored(back, front, count, end);
+    if count > 0 {
+        pour_mirrored(back, front, count, end);
+    }
 }
 
 /// Moves the gap behind so many places; further, where there is no room behind it for those between, or where it may stay behind
@@ -108,6 +118,22 @@ fn seek(front: &mut Vec<usize>, back: &mut Vec<usize>, end: usize, count: usize,
     } else if !may_stay && ahead - count <= back.capacity() - back.len() {
         pour_mirrored(front, back, ahead - count, end);
     }
+}
+
+/// Exchanges the items of a list from one place to before another for as many others, where both stand the last first.
+fn trade_turned<T>(list: &mut Vec<T>, from: usize, to: usize, items: &mut Vec<T>)
+    requires order { from ≤ to }
+    requires within { to ≤ vec_len list.old }
+    requires many { vec_len items.old ≡ to - from }
+    ensures list { reverse list.new.items ≡ exchanged (reverse list.old.items) (vec_len list.old - to) (vec_len list.old - from) items.old.items }
+    ensures items { items.new.items ≡ slice_range (reverse list.old.items) (vec_len list.old - to) (vec_len list.old - from) }
+    ensures len { vec_len list.new ≡ vec_len list.old }
+    ensures list_room { vec_capacity list.new ≡ vec_capacity list.old }
+    ensures items_room { vec_capacity items.new ≡ vec_capacity items.old }
+{
+    items.reverse();
+    trade(list, from, to, items);
+    items.reverse();
 }
 
 /// Exchanges places behind the gap for as many others, which count from `base` then, as those that go count from 0. No other is

@@ -3,9 +3,18 @@ ghost use Rattle.std.specs.Prelude.{◌≡◌, ◌+◌, ◌-◌, ◌<◌, ◌≤
 ghost use Rattle.sp_gap.specs.Runs.{Poured, exchanged};
 
 use std::alloc::AllocError;
+use std::mem;
 
 /// One part of so many is the room that a list gets beside what is asked for.
 const MORE_ROOM: usize = 16;
+
+/// For how many items room is made where there is none for so many: a list that was made whole would else take twice its memory at
+/// its first change.
+pub fn roomy(total: usize) -> usize
+    ensures { total ≤ result }
+{
+    total.saturating_add(total / MORE_ROOM)
+}
 
 /// Makes room for so many items in all, and where there was none for some more: a list that was made whole would else take twice
 /// its memory at its first change. On an error the list has the room that it had.
@@ -20,8 +29,7 @@ pub fn make_room<T>(list: &mut Vec<T>, total: usize) -> Result<(), AllocError>
     if total <= list.capacity() {
         return Ok(());
     }
-    let more = total.saturating_add(total / MORE_ROOM);
-    list.reserve_exact(more.saturating_sub(list.len()))
+    list.reserve_exact(roomy(total).saturating_sub(list.len()))
 }
 
 /// Makes room for so many more items. A list that has no room gets it for just these, since most lists of what an edit keeps stay
@@ -38,7 +46,8 @@ pub fn reserve_more<T>(list: &mut Vec<T>, count: usize) -> Result<(), AllocError
     }
 }
 
-/// Takes so many items off the end of a list and puts them behind another, the last first. It takes no memory.
+/// Takes so many items off the end of a list and puts them behind another, the last first. It takes no memory. Both lists are held
+/// while it goes on, so that an item costs no look at where they are kept.
 pub fn pour<T>(from: &mut Vec<T>, to: &mut Vec<T>, count: usize)
     requires there { count ≤ vec_len from.old }
     requires room { vec_len to.old + count ≤ vec_capacity to.old }
@@ -48,9 +57,14 @@ pub fn pour<T>(from: &mut Vec<T>, to: &mut Vec<T>, count: usize)
     ensures from_room { vec_capacity from.new ≡ vec_capacity from.old }
     ensures to_room { vec_capacity to.new ≡ vec_capacity to.old }
 {
+    let alloc = *from.allocator();
+    let mut source = mem::replace(from, Vec::new(alloc));
+    let mut target = mem::replace(to, Vec::new(alloc));
     for _ in 0..count {
-        to.push_reserved(from.take_last());
+        target.push_reserved(source.take_last());
     }
+    mem::replace(from, source).destroy_empty();
+    mem::replace(to, target).destroy_empty();
 }
 
 /// Turns the items of a list from a place on.

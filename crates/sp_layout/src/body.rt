@@ -13,7 +13,7 @@ use crate::moves::move_elements;
 use crate::page::Page;
 use crate::search::{last_start, starts_below};
 use sp_columns::{Element, Row, begins_heading};
-use sp_gap::{GapList, GapPlaces, exchange, make_room};
+use sp_gap::{GapList, GapPlaces, exchange, make_room, reserve_more};
 use sp_text::Lines;
 use spec_labels::RowKey;
 use spec_pages::Shape;
@@ -118,7 +118,7 @@ fn reserve_element(
     ensures heading_starts { (heading_starts.new.items ≡ heading_starts.old.items) × (heading_starts.new.end ≡ heading_starts.old.end) }
     ensures room { OnOk result ((vec_len elements.new < vec_capacity elements.new) × (length row_starts.new.items < row_starts.new.room) × (length heading_starts.new.items < heading_starts.new.room)) }
 {
-    elements.reserve(1)?;
+    reserve_more(elements, 1)?;
     row_starts.reserve(1)?;
     heading_starts.reserve(1)
 }
@@ -431,14 +431,11 @@ impl Body {
         make_row_room(&mut self.shapes, &mut self.marks, &mut self.keys, rows)
     }
 
-    /// Makes room behind the gaps in what is kept of rows and elements, where there is memory for it: without it an exchange moves
-    /// what is kept of later ones.
+    /// Makes room behind the gaps in what is kept of the places of elements, where there is memory for it: without it an exchange
+    /// moves those of later ones.
     pub fn make_gaps(&mut self)
         ensures { self.new ≡ self.old }
     {
-        self.shapes.make_gap();
-        self.marks.make_gap();
-        self.keys.make_gap();
         self.row_starts.make_gap();
         self.heading_starts.make_gap();
     }

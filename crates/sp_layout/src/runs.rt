@@ -8,7 +8,7 @@ use crate::Body;
 use sp_gap::{exchange_places, make_room};
 use std::alloc::AllocError;
 
-/// Makes room behind the gaps in what is kept of rows, where more come than go, or fewer.
+/// Makes room behind the gaps in what is kept of the places of elements, where more rows come than go, or fewer.
 fn make_gaps(body: &mut Body, come: usize, go: usize)
     ensures { body.new ≡ body.old }
 {
@@ -17,7 +17,7 @@ fn make_gaps(body: &mut Body, come: usize, go: usize)
     }
 }
 
-/// Makes room for an exchange of elements, and where rows come or go behind the gaps in what is kept of them.
+/// Makes room for an exchange of elements, and where rows come or go behind the gaps in what is kept of their places.
 pub fn make_run_room(
     body: &mut Body,
     from: usize,

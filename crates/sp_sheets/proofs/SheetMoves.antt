@@ -1,8 +1,7 @@
 -- Sheets of pages, made one by one in a list.
-use Rattle.std.proofs.Common.{◌≡◌, ℕ, zero, suc, ◌+◌, ◌-◌, ◌<◌, ◌≤◌, max, List, [], ◌∷◌, ◌++◌, length, take, drop, get_or, set, reverse, refl, sym, ap, ap₂, ◌∙◌, arith, add-one, All}
+use Rattle.std.proofs.Common.{◌≡◌, ℕ, zero, suc, ◌+◌, ◌-◌, ◌<◌, ◌≤◌, max, List, [], ◌∷◌, ◌++◌, length, take, drop, get_or, set, refl, sym, ap, ap₂, ◌∙◌, arith, add-one, All}
 use Rattle.std.specs.Prelude.{fold, slice_range}
-use Rattle.std.proofs.lemmas.List.{take_more, reverse-append}
-use Rattle.std.proofs.lemmas.Grind.{fold-append}
+use Rattle.std.proofs.lemmas.List.{take_more}
 use Rattle.std.proofs.lemmas.List.Elements.{All-head, All-tail, All-take, All-drop}
 use Rattle.spec_labels.specs.PageRecords.{SheetOf}
 use Rattle.sp_sheets.specs.Numbered.{marked_sheet, marked_sheets}
@@ -63,19 +62,3 @@ fold-none (mark ∷ marks) none =
 -- Rows without marks have no round.
 pub greatest-none : (marks : List ℕ) (start end : ℕ) → All (λ (mark : ℕ). mark ≡ 0) marks → fold max 0 (slice_range marks start end) ≡ 0
 greatest-none marks start end none = fold-none (slice_range marks start end) (All-take (λ (m : ℕ). m ≡ 0) (end - start) (drop start marks) (All-drop (λ (m : ℕ). m ≡ 0) start marks none))
-
--- The greatest mark of rows in two parts, of which the second is turned round.
-greatest-from : (mark : ℕ) (marks : List ℕ) → fold max mark marks ≡ max mark (fold max 0 marks)
-greatest-from mark [] = omega arith
-greatest-from mark (next ∷ marks) = omega (arith, greatest-from (max mark next) marks, greatest-from (max 0 next) marks)
-
-greatest-turned : (marks : List ℕ) → fold max 0 (reverse marks) ≡ fold max 0 marks
-greatest-turned [] = refl
-greatest-turned (mark ∷ marks) =
-    let turned = ap (fold max 0) (reverse-append (mark ∷ []) marks) ∙ fold-append max 0 (reverse marks) (mark ∷ []) in
-    omega (arith, turned, greatest-turned marks, greatest-from (max 0 mark) marks)
-
-pub greatest-parts : (before behind : List ℕ) → fold max 0 (before ++ reverse behind) ≡ max (fold max 0 before) (fold max 0 behind)
-greatest-parts before behind =
-    let parts = fold-append max 0 before (reverse behind) in
-    omega (arith, parts, greatest-from (fold max 0 before) (reverse behind), greatest-turned behind)

@@ -30,17 +30,9 @@ pub fn greatest(marks: &GapList<u8>, from: usize, to: usize) -> u8
     requires within { to ≤ length marks.now.items }
     ensures { result ≡ fold max 0 (slice_range marks.now.items from to) }
 {
-    let (before, behind) = marks.parts(from, to);
-    greatest_of(before).max(greatest_of(behind))
-}
-
-/// The greatest of these marks, or 0.
-fn greatest_of(marks: &[u8]) -> u8
-    ensures { result ≡ fold max 0 marks.now }
-{
     let mut greatest = 0u8;
-    for mark in marks {
-        greatest = greatest.max(*mark);
+    for row in from..to {
+        greatest = greatest.max(*marks.at(row));
     }
     greatest
 }

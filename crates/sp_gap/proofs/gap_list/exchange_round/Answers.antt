@@ -1,14 +1,59 @@
-use Rattle.std.proofs.Common.{reverse, ◌∙◌}
-use Rattle.sp_gap.proofs.GapLaws.{behind-exchanged}
+use Rattle.std.proofs.Common.{◌≡◌, ◌≤◌, ◌+◌, ◌-◌, ◌++◌, [], length, take, drop, slice_range, refl, sym, ap, ◌∙◌, arith, append-nil, length-drop, drop_at, take_all}
+use Rattle.sp_gap.specs.Runs.{exchanged}
+use Rattle.sp_gap.specs.Gaps.{turned}
+use Rattle.sp_gap.proofs.RingLaws.{fewer-round, more-round, turned-length}
 use Rattle.sp_gap.proofs.gap_list.exchange_round.Goals as goal
 
-pub returns-then-ahead-from-clause-list : goal.returns-then-ahead-from-clause-list
-returns-then-ahead-from-clause-list g c =
+pub returns-then-run-count : goal.returns-then-run-count
+returns-then-run-count g c =
     let a = c.args in
-    (behind-exchanged a.front.now.items (reverse a.back.now.items) a.items.now.items (reverse c.trade_behind.new.back.items) c.len-ahead.result a.from a.to (c.len-ahead.ensures ∙ a.front.now.ok.0) c.if-ahead-from.true c.requires.order c.trade_behind.ensures.back).0
+    let list = turned a.behind.now a.ring.now.items in
+    let items = a.items.now.items in
+    let ring = c.seek.new.ring.items in
+    let left = c.trade.new.items.items in
+    let behind = c.seek.new.behind in
+    let run = a.to - a.from in
+    let len = turned-length a.ring.now.items a.behind.now (omega arith) in
+    let both : c.min-both.result ≡ run = omega arith in
+    let rest : c.trade.new.items.len - (c.len-count.result - run) ≡ run = omega arith in
+    let both_lists = more-round list items (turned a.behind.now c.trade.new.ring.items) left ring c.hand_over.new.to.items c.hand_over.new.from.items a.from a.to run behind c.requires.order (omega (arith, len)) refl (omega arith)
+    (c.trade.ensures.list ∙ ap (λ n. exchanged list a.from (a.from + n) (take n items)) both)
+    (c.trade.ensures.items ∙ ap (λ n. slice_range list a.from (a.from + n) ++ drop n items) both)
+    c.seek.ensures.items (omega (arith, length-drop behind ring)) (omega arith)
+    (c.hand_over.ensures.to ∙ ap (λ n. ring ++ drop n left) rest)
+    (c.hand_over.ensures.from ∙ ap (λ n. take n left) rest) in
+    record {
+      list = both_lists.0;
+      items = both_lists.1;
+      behind = omega arith;
+      room = omega arith;
+      items_room = omega arith;
+    }
 
-pub returns-then-ahead-from-clause-items : goal.returns-then-ahead-from-clause-items
-returns-then-ahead-from-clause-items g c =
+pub returns : goal.returns
+returns g c =
     let a = c.args in
-    c.trade_behind.ensures.items
-    ∙ (behind-exchanged a.front.now.items (reverse a.back.now.items) a.items.now.items (reverse c.trade_behind.new.back.items) c.len-ahead.result a.from a.to (c.len-ahead.ensures ∙ a.front.now.ok.0) c.if-ahead-from.true c.requires.order c.trade_behind.ensures.back).1
+    let list = turned a.behind.now a.ring.now.items in
+    let items = a.items.now.items in
+    let ring = c.seek.new.ring.items in
+    let left = c.trade.new.items.items in
+    let behind = c.seek.new.behind in
+    let count = c.len-count.result in
+    let len = turned-length a.ring.now.items a.behind.now (omega arith) in
+    let both : c.min-both.result ≡ count = omega arith in
+    let all : length items ≤ count = omega arith in
+    let none : drop count items ≡ [] = ap (drop count) (sym (append-nil items)) ∙ drop_at items [] count (omega arith) in
+    let cut : c.seek.new.ring.len - (a.to - a.from - count) ≡ behind + (a.from + count) = omega arith in
+    let both_lists = fewer-round list items (turned a.behind.now c.trade.new.ring.items) left ring c.hand_over-2.new.from.items c.hand_over-2.new.to.items a.from a.to count behind c.requires.order (omega (arith, len)) (omega arith) (omega arith)
+    (c.trade.ensures.list ∙ ap (λ n. exchanged list a.from (a.from + n) (take n items)) both ∙ ap (exchanged list a.from (a.from + count)) (take_all count items all))
+    (c.trade.ensures.items ∙ ap (λ n. slice_range list a.from (a.from + n) ++ drop n items) both ∙ ap (λ xs. slice_range list a.from (a.from + count) ++ xs) none ∙ append-nil (slice_range list a.from (a.from + count)))
+    c.seek.ensures.items (omega (arith, length-drop behind ring)) (omega arith)
+    (c.hand_over-2.ensures.from ∙ ap (λ n. take n ring) cut)
+    (c.hand_over-2.ensures.to ∙ ap (λ n. left ++ drop n ring) cut) in
+    record {
+      list = both_lists.0;
+      items = both_lists.1;
+      behind = omega arith;
+      room = omega arith;
+      items_room = omega arith;
+    }

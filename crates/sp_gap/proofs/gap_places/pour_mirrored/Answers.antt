@@ -8,14 +8,14 @@ loop-preserved c =
     let end = c.args.end in
     let place = c.take_last.result in
     let kept = c.loop.invariant in
-    let popped = All-pop (λ n. n ≤ end) c.loop.from.items c.take_last.new.self.items (Some place) c.take_last.ensures.items kept.from_low in
+    let popped = All-pop (λ n. n ≤ end) c.loop.source.items c.take_last.new.self.items (Some place) c.take_last.ensures.items kept.from_low in
     record {
-      same = poured-same c.loop.to.items c.loop.from.items c.push_reserved.new.self.items c.take_last.new.self.items place end c.take_last.ensures.items c.push_reserved.ensures.items ∙ kept.same;
-      back = poured-back c.loop.to.items c.loop.from.items c.push_reserved.new.self.items c.take_last.new.self.items place end popped.1 c.take_last.ensures.items c.push_reserved.ensures.items ∙ kept.back;
+      same = poured-same c.loop.target.items c.loop.source.items c.push_reserved.new.self.items c.take_last.new.self.items place end c.take_last.ensures.items c.push_reserved.ensures.items ∙ kept.same;
+      back = poured-back c.loop.target.items c.loop.source.items c.push_reserved.new.self.items c.take_last.new.self.items place end popped.1 c.take_last.ensures.items c.push_reserved.ensures.items ∙ kept.back;
       from_len = omega arith;
       to_len = omega arith;
       from_low = popped.0;
-      to_low = All-same (λ n. n ≤ end) c.push_reserved.new.self.items (c.loop.to.items ++ (end - place) ∷ []) c.push_reserved.ensures.items (All-push (λ n. n ≤ end) c.loop.to.items (end - place) kept.to_low (omega arith));
+      to_low = All-same (λ n. n ≤ end) c.push_reserved.new.self.items (c.loop.target.items ++ (end - place) ∷ []) c.push_reserved.ensures.items (All-push (λ n. n ≤ end) c.loop.target.items (end - place) kept.to_low (omega arith));
       from_room = omega arith;
       to_room = omega arith;
     }

@@ -4,8 +4,8 @@ use Rattle.sp_gap.proofs.runs.pour.Given as goal
 
 abbrev pub invariant-loop : goal.invariant-loop
 invariant-loop g l =
-    Poured l.initial.from.items l.initial.to.items l.from.items l.to.items l.counter
-    × (vec_len l.from + l.counter ≡ vec_len l.initial.from)
-    × (vec_len l.to ≡ vec_len l.initial.to + l.counter)
-    × (vec_capacity l.from ≡ vec_capacity l.initial.from)
-    × (vec_capacity l.to ≡ vec_capacity l.initial.to)
+    Poured l.initial.source.items l.initial.target.items l.source.items l.target.items l.counter
+    × (vec_len l.source + l.counter ≡ vec_len l.initial.source)
+    × (vec_len l.target ≡ vec_len l.initial.target + l.counter)
+    × (vec_capacity l.source ≡ vec_capacity l.initial.source)
+    × (vec_capacity l.target ≡ vec_capacity l.initial.target)

@@ -1,6 +1,6 @@
 use Rattle.std.proofs.Common.{reverse, ap, ◌∙◌}
 use Rattle.sp_gap.proofs.GapLaws.{turned-exchanged}
-use Rattle.sp_gap.proofs.gap_list.trade_turned.Goals as goal
+use Rattle.sp_gap.proofs.gap_places.trade_turned.Goals as goal
 
 pub returns-clause-list : goal.returns-clause-list
 returns-clause-list g c =
