@@ -2,3 +2,4 @@ pub mod Rows
 pub mod Counts
 pub mod Inserting
 pub mod Groups
+pub mod Names

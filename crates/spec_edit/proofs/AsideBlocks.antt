@@ -12,7 +12,7 @@ use Rattle.spec_sheets.proofs.ElementPlaces.{placed_from, placed_to}
 use Rattle.spec_edit.specs.WindowBlocks.{pushed, WindowBlocks, front_relaid, but_last, front_kept}
 use Rattle.spec_edit.proofs.WindowElements.{pushed_group}
 use Rattle.spec_text.specs.Ranges.{RangeOf, place_after}
-use Rattle.spec_edit.specs.Touched.{EditBlocks, place_before, has_changed, is_touched_old, is_touched_new}
+use Rattle.spec_edit.specs.Touched.{EditBlocks, place_before, changes_partner, changes_speaker, is_touched_old, is_touched_new}
 use Rattle.spec_script.proofs.RunSteps.{longest_runs-map}
 use Rattle.spec_edit.proofs.ElementMoves.{after-front, after-behind, block_after, element_after, BlockLeft, LeftBeside, ElementLeft, line-after}
 use Rattle.spec_edit.proofs.WindowSides.{EndsBy}
@@ -51,7 +51,7 @@ module _ (edit : EditBlocks) (w : WindowBlocks) (it : Around edit w) where
   }
 
   -- A block aside is in neither window.
-  out-old : (placed : PlacedBlock) → IsAside edit placed → (leb edit.from placed.first && ltb placed.first edit.old_to) ≡ false
+  pub out-old : (placed : PlacedBlock) → IsAside edit placed → (leb edit.from placed.first && ltb placed.first edit.old_to) ≡ false
   out-old placed (inl front) = ap (λ b. b && ltb placed.first edit.old_to) (lt-leb edit.from placed.first front.0)
   out-old placed (inr behind) = ap (λ b. leb edit.from placed.first && b) (le-ltb placed.first edit.old_to behind) ∙ none (leb edit.from placed.first)
     where
@@ -94,12 +94,13 @@ module _ (edit : EditBlocks) (w : WindowBlocks) (it : Around edit w) where
       ]
 
   -- It is touched in the new text just where it is in the old one.
-  pub old-touch : (placed : PlacedBlock) → IsAside edit placed → is_touched_old edit placed ≡ has_changed edit (line_of_block placed)
-  old-touch placed aside = ap (λ b. b || has_changed edit (line_of_block placed)) (out-old placed aside)
+  pub old-touch : (placed : PlacedBlock) → IsAside edit placed → is_touched_old edit placed ≡ (changes_partner edit (line_of_block placed) || changes_speaker edit (line_of_block placed))
+  old-touch placed aside = ap (λ b. (b || changes_partner edit (line_of_block placed)) || changes_speaker edit (line_of_block placed)) (out-old placed aside)
 
-  new-touch : (placed : PlacedBlock) → BlockLeft edit.range placed → IsAside edit placed → is_touched_new edit (block_after edit.range placed) ≡ has_changed edit (line_of_block placed)
+  new-touch : (placed : PlacedBlock) → BlockLeft edit.range placed → IsAside edit placed
+      → is_touched_new edit (block_after edit.range placed) ≡ (changes_partner edit (line_of_block placed) || changes_speaker edit (line_of_block placed))
   new-touch placed left aside =
-      ap₂ (λ a n. a || has_changed edit n) (out-new placed aside) (back-again placed left aside)
+      ap₂ (λ a n. (a || changes_partner edit n) || changes_speaker edit n) (out-new placed aside) (back-again placed left aside)
 
   pub touch-same : (those : List PlacedBlock) → All (BlockLeft edit.range) those → All (IsAside edit) those
       → list_any (is_touched_new edit) (map (block_after edit.range) those) ≡ list_any (is_touched_old edit) those

@@ -25,6 +25,7 @@ use Rattle.spec_edit.proofs.ElementMoves.{block_after, element_after, BlockLeft,
 use Rattle.spec_edit.proofs.FairElements.{text_with, IsKnown, AllIn, elements-all}
 use Rattle.spec_edit.proofs.TouchedRuns.{HasTouched}
 use Rattle.spec_edit.proofs.WindowPartners.{Around}
+use Rattle.spec_edit.proofs.KeptPartners.{nil-is}
 use Rattle.spec_edit.proofs.RelaidTouched.{relaid-touched-old, relaid-touched-new}
 use Rattle.spec_edit.proofs.AsideBlocks.{IsAside, left-element, old-touch, touch-same, all-left, front-aside, pushed-aside, kept-aside, fronts-same, rests-same, rests-moved, fronts-moved, front-before, kept-before}
 
@@ -148,10 +149,6 @@ module _ (edit : EditBlocks) (w : WindowBlocks) (it : Around edit w) where
             come_comes = lost-new come (All-front Q come (map move back) news_behind) (relaid-touched-new edit w it some);
           };
         }
-
-    nil-is : (blocks : List PlacedBlock) → is_nil blocks ≡ true → blocks ≡ []
-    nil-is [] h = refl
-    nil-is (block ∷ blocks) h = absurd (let bad : ⊥ = cc (h) in bad)
 
     -- Where none does, all elements stay.
     parted-none : w.gone ≡ [] → w.come ≡ [] → KnownOld (elements_in (old_blocks w)) → KnownNew (elements_in (new_blocks w))

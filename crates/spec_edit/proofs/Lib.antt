@@ -30,6 +30,8 @@ pub mod PartnerCases
 pub mod WindowPartners
 pub mod TouchedRuns
 pub mod RelaidTouched
+pub mod KeptPartners
+pub mod RelaidOnce
 pub mod FairElements
 pub mod AsideBlocks
 pub mod KeptElements

@@ -44,11 +44,11 @@ last-all P (block ∷ []) one all is = subst P (let same : block ≡ one = cc (i
 last-all P (block ∷ next ∷ blocks) one all is = last-all P (next ∷ blocks) one (All-tail P block (next ∷ blocks) all) is
 
 -- The partner before, by the last of those before.
-abbrev by_last : Option PlacedBlock → PlacedBlock → Option ℕ
+abbrev pub by_last : Option PlacedBlock → PlacedBlock → Option ℕ
 by_last None block = None
 by_last (Some one) block = cond (is_dual one block) (Some (line_of_block one)) None
 
-left-by : (blocks : List PlacedBlock) (block : PlacedBlock) → left_partner None blocks block ≡ by_last (last_block blocks) block
+pub left-by : (blocks : List PlacedBlock) (block : PlacedBlock) → left_partner None blocks block ≡ by_last (last_block blocks) block
 left-by [] block = refl
 left-by (one ∷ []) block = refl
 left-by (one ∷ next ∷ blocks) block = left-by (next ∷ blocks) block

@@ -30,47 +30,55 @@ here block x y = ap (λ b. cond b x y) (eq-eqb (line_of_block block) (line_of_bl
 not-here : (one block : PlacedBlock) {X : Type 0} (x y : X) → BeginBefore block one → cond (line_of_block one == line_of_block block) x y ≡ y
 not-here one block x y less = ap (λ b. cond b x y) (ne_eqb (line_of_block one) (line_of_block block) (λ e. omega (arith, e, less)))
 
--- Of a block that is no right half.
-left-half : (before : Option ℕ) (front : List PlacedBlock) (block : PlacedBlock) (back : List PlacedBlock) → (front ≡ [] → before ≡ None) → All (BeginBefore block) front
-    → ((z : PlacedBlock) → is_dual z block ≡ false) → partner_from before (front ++ block ∷ back) (line_of_block block) ≡ right_partner block back
-left-half before [] block [] none all apart = here block before None ∙ none refl
-left-half before [] block (next ∷ back) none all apart =
-    here block (cond (is_dual block next) (Some (line_of_block next)) before) (partner_from (cond (is_dual block next) (Some (line_of_block block)) None) (next ∷ back) (line_of_block block))
-    ∙ ap (λ o. cond (is_dual block next) (Some (line_of_block next)) o) (none refl)
-left-half before (one ∷ []) block back none all apart =
-    not-here one block (cond (is_dual one block) (Some (line_of_block block)) before) (partner_from (cond (is_dual one block) (Some (line_of_block one)) None) (block ∷ back) (line_of_block block)) (All-head (BeginBefore block) one [] all)
-    ∙ ap (λ b. partner_from (cond b (Some (line_of_block one)) None) (block ∷ back) (line_of_block block)) (apart one)
-    ∙ left-half None [] block back (λ h. refl) (All-nil (BeginBefore block)) apart
-left-half before (one ∷ next ∷ front) block back none all apart =
-    not-here one block (cond (is_dual one next) (Some (line_of_block next)) before) (partner_from (cond (is_dual one next) (Some (line_of_block one)) None) (next ∷ (front ++ block ∷ back)) (line_of_block block)) (All-head (BeginBefore block) one (next ∷ front) all)
-    ∙ left-half (cond (is_dual one next) (Some (line_of_block one)) None) (next ∷ front) block back (λ h. absurd (let bad : ⊥ = cc (h) in bad)) (All-tail (BeginBefore block) one (next ∷ front) all) apart
+-- The partner of a block, by the blocks behind it: the next one, where they are joined, or else the one before it.
+abbrev pub partner_at : Option ℕ → PlacedBlock → List PlacedBlock → Option ℕ
+partner_at before block [] = before
+partner_at before block (next ∷ blocks) = cond (is_dual block next) (Some (line_of_block next)) before
 
--- Of a block that is no left half.
-right-half : (before : Option ℕ) (front : List PlacedBlock) (block : PlacedBlock) (back : List PlacedBlock) → All (BeginBefore block) front
-    → ((z : PlacedBlock) → is_dual block z ≡ false) → partner_from before (front ++ block ∷ back) (line_of_block block) ≡ left_partner before front block
-right-half before [] block [] all apart = here block before None
-right-half before [] block (next ∷ back) all apart =
+found : (before : Option ℕ) (front : List PlacedBlock) (block : PlacedBlock) (back : List PlacedBlock) → All (BeginBefore block) front
+    → partner_from before (front ++ block ∷ back) (line_of_block block) ≡ partner_at (left_partner before front block) block back
+found before [] block [] all = here block before None
+found before [] block (next ∷ back) all =
     here block (cond (is_dual block next) (Some (line_of_block next)) before) (partner_from (cond (is_dual block next) (Some (line_of_block block)) None) (next ∷ back) (line_of_block block))
-    ∙ ap (λ b. cond b (Some (line_of_block next)) before) (apart next)
-right-half before (one ∷ []) block back all apart =
+found before (one ∷ []) block back all =
     not-here one block (cond (is_dual one block) (Some (line_of_block block)) before) (partner_from (cond (is_dual one block) (Some (line_of_block one)) None) (block ∷ back) (line_of_block block)) (All-head (BeginBefore block) one [] all)
-    ∙ right-half (cond (is_dual one block) (Some (line_of_block one)) None) [] block back (All-nil (BeginBefore block)) apart
-right-half before (one ∷ next ∷ front) block back all apart =
+    ∙ found (cond (is_dual one block) (Some (line_of_block one)) None) [] block back (All-nil (BeginBefore block))
+found before (one ∷ next ∷ front) block back all =
     not-here one block (cond (is_dual one next) (Some (line_of_block next)) before) (partner_from (cond (is_dual one next) (Some (line_of_block one)) None) (next ∷ (front ++ block ∷ back)) (line_of_block block)) (All-head (BeginBefore block) one (next ∷ front) all)
-    ∙ right-half (cond (is_dual one next) (Some (line_of_block one)) None) (next ∷ front) block back (All-tail (BeginBefore block) one (next ∷ front) all) apart
-    ∙ any-before (cond (is_dual one next) (Some (line_of_block one)) None) next front block
+    ∙ found (cond (is_dual one next) (Some (line_of_block one)) None) (next ∷ front) block back (All-tail (BeginBefore block) one (next ∷ front) all)
+    ∙ ap (λ o. partner_at o block back) (any-before (cond (is_dual one next) (Some (line_of_block one)) None) next front)
   where
-    any-before : (before : Option ℕ) (x : PlacedBlock) (xs : List PlacedBlock) (block : PlacedBlock) → left_partner before (x ∷ xs) block ≡ left_partner None (x ∷ xs) block
-    any-before before x [] block = refl
-    any-before before x (y ∷ xs) block = refl
+    any-before : (before : Option ℕ) (x : PlacedBlock) (xs : List PlacedBlock) → left_partner before (x ∷ xs) block ≡ left_partner None (x ∷ xs) block
+    any-before before x [] = refl
+    any-before before x (y ∷ xs) = refl
 
+pub partner-found : (front : List PlacedBlock) (block : PlacedBlock) (back : List PlacedBlock) → All (BeginBefore block) front
+    → partner_from None (front ++ block ∷ back) (line_of_block block) ≡ partner_at (left_partner None front block) block back
+partner-found front block back all = found None front block back all
+
+-- Of a block that is no right half.
 pub partner-right : (front : List PlacedBlock) (block : PlacedBlock) (back : List PlacedBlock) → All (BeginBefore block) front
     → ((z : PlacedBlock) → is_dual z block ≡ false) → partner_from None (front ++ block ∷ back) (line_of_block block) ≡ right_partner block back
-partner-right front block back all apart = left-half None front block back (λ h. refl) all apart
+partner-right front block back all apart =
+    partner-found front block back all ∙ ap (λ o. partner_at o block back) (none-left front) ∙ is-right back
+  where
+    none-left : (front : List PlacedBlock) → left_partner None front block ≡ None
+    none-left [] = refl
+    none-left (one ∷ []) = ap (λ b. cond b (Some (line_of_block one)) None) (apart one)
+    none-left (one ∷ next ∷ front) = none-left (next ∷ front)
 
+    is-right : (back : List PlacedBlock) → partner_at None block back ≡ right_partner block back
+    is-right [] = refl
+    is-right (next ∷ back) = refl
+
+-- Of a block that is no left half.
 pub partner-left : (front : List PlacedBlock) (block : PlacedBlock) (back : List PlacedBlock) → All (BeginBefore block) front
     → ((z : PlacedBlock) → is_dual block z ≡ false) → partner_from None (front ++ block ∷ back) (line_of_block block) ≡ left_partner None front block
-partner-left front block back all apart = right-half None front block back all apart
+partner-left front block back all apart = partner-found front block back all ∙ is-left back
+  where
+    is-left : (back : List PlacedBlock) → partner_at (left_partner None front block) block back ≡ left_partner None front block
+    is-left [] = refl
+    is-left (next ∷ back) = ap (λ b. cond b (Some (line_of_block next)) (left_partner None front block)) (apart next)
 
 -- Blocks that stand in order begin with earlier lines than those behind them.
 rise-low : (low high : ℕ) (front : List PlacedBlock) (block : PlacedBlock) (back : List PlacedBlock) → Rise placed_from placed_to low high (front ++ block ∷ back) → low ≤ line_of_block block

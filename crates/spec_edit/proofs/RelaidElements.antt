@@ -59,7 +59,7 @@ first-pushed : (n : ℕ) (o : Option PlacedBlock) (xs : List PlacedBlock) → jo
 first-pushed n o [] = refl
 first-pushed n o (x ∷ xs) = one-pushed n o x
 
-joins-pushed : (n : ℕ) (front mid rest : List PlacedBlock) → joins front (mid ++ map (pushed n) rest) ≡ joins front (mid ++ rest)
+pub joins-pushed : (n : ℕ) (front mid rest : List PlacedBlock) → joins front (mid ++ map (pushed n) rest) ≡ joins front (mid ++ rest)
 joins-pushed n front [] rest = first-pushed n (last_block front) rest
 joins-pushed n front (m ∷ mid) rest = refl
 
@@ -141,10 +141,10 @@ rest-right w some relaid =
       | inr new ↦ right-of (last_block (w.front ++ w.come)) w.rest new
     ]
 
-front-apart : (w : WindowBlocks) → IsSome w → front_relaid w ≡ false → (joins w.front (w.gone ++ w.rest) ≡ false) × (joins w.front (w.come ++ w.rest) ≡ false)
+pub front-apart : (w : WindowBlocks) → IsSome w → front_relaid w ≡ false → (joins w.front (w.gone ++ w.rest) ≡ false) × (joins w.front (w.come ++ w.rest) ≡ false)
 front-apart w some apart = or_parts (joins w.front (w.gone ++ w.rest)) (joins w.front (w.come ++ w.rest)) (sym (front-is w some) ∙ apart)
 
-both-apart : (w : WindowBlocks) → IsSome w → rest_relaid w ≡ false → (joins (w.front ++ w.gone) w.rest ≡ false) × (joins (w.front ++ w.come) w.rest ≡ false)
+pub both-apart : (w : WindowBlocks) → IsSome w → rest_relaid w ≡ false → (joins (w.front ++ w.gone) w.rest ≡ false) × (joins (w.front ++ w.come) w.rest ≡ false)
 both-apart w some apart = or_parts (joins (w.front ++ w.gone) w.rest) (joins (w.front ++ w.come) w.rest) (sym (rest-is w some) ∙ apart)
 
 -- Where a block stands in the old or in the new window, the elements of both texts are those of the blocks before it that

@@ -1,26 +1,28 @@
 -- The elements of relaid blocks are touched, in both texts.
-use Rattle.std.proofs.Common.{◌≡◌, ◌⊎◌, ℕ, ◌<◌, ◌≤◌, Bool, true, false, ◌&&◌, ◌||◌, cond, ltb, leb, Option, Some, None, List, [], ◌∷◌, ◌++◌, map, take, inl, inr, refl, sym, ap, ap₂, subst, ◌∙◌}
+use Rattle.std.proofs.Common.{◌≡◌, ◌⊎◌, ℕ, ◌<◌, ◌≤◌, Bool, true, false, ◌&&◌, ◌||◌, cond, ltb, leb, Option, Some, None, List, [], ◌∷◌, ◌++◌, map, take, get_or, inl, inr, refl, sym, ap, ap₂, subst, ◌∙◌}
 use Rattle.std.specs.Prelude.{All}
-use Rattle.std.proofs.lemmas.Bool.{cases_Bool, cond-false, or_cases, true≢false, or_right, lt-ltb, le-leb}
+use Rattle.std.specs.List.{list_any}
+use Rattle.std.proofs.lemmas.Bool.{cases_Bool, cond-false, or_cases, true≢false, or_left, or_right, lt-ltb, le-leb}
 use Rattle.std.proofs.lemmas.List.{append-nil}
+use Rattle.spec_script.specs.LongestRuns.{members}
 use Rattle.spec_script.specs.Stanzas.{PlacedBlock}
 use Rattle.spec_script.specs.Elements.{line_of_block, is_dual, elements_in}
 use Rattle.spec_edit.specs.WindowBlocks.{pushed, WindowBlocks, is_nil, joined_by, last_block, first_block, joins, front_relaid, rest_relaid, only_last, front_half, rest_half, old_relaid, new_relaid}
 use Rattle.spec_edit.proofs.WindowElements.{left-free, right-free}
 use Rattle.spec_edit.proofs.RelaidElements.{none-behind, none-before, one-pushed, IsSome}
-use Rattle.spec_edit.specs.Touched.{EditBlocks, place_before, has_changed, is_touched_old, is_touched_new}
+use Rattle.spec_edit.specs.Touched.{EditBlocks, place_before, changes_partner, changes_speaker, is_relaid_old, is_relaid_new, is_touched_old, is_touched_new}
 use Rattle.spec_edit.proofs.TouchedRuns.{IsTouched, HasTouched, all-touched, before-touched, behind-touched}
 use Rattle.spec_edit.proofs.PartnerCases.{last-one}
 use Rattle.spec_edit.proofs.WindowPartners.{Around, front-back, front-changes, rest-back, rest-changes}
 
 -- The last block before the window, where it is relaid.
-record FrontHalf (w : WindowBlocks) : Type 0 where
-  before : List PlacedBlock
-  one : PlacedBlock
-  whole : w.front ≡ before ++ one ∷ []
-  only : only_last w.front ≡ one ∷ []
-  free : (z : PlacedBlock) → is_dual z one ≡ false
-  joined : (joined_by (Some one) (first_block (w.gone ++ w.rest)) || joined_by (Some one) (first_block (w.come ++ w.rest))) ≡ true
+pub record FrontHalf (w : WindowBlocks) : Type 0 where
+  pub before : List PlacedBlock
+  pub one : PlacedBlock
+  pub whole : w.front ≡ before ++ one ∷ []
+  pub only : only_last w.front ≡ one ∷ []
+  pub free : (z : PlacedBlock) → is_dual z one ≡ false
+  pub joined : (joined_by (Some one) (first_block (w.gone ++ w.rest)) || joined_by (Some one) (first_block (w.come ++ w.rest))) ≡ true
 
 joins-right : (f : PlacedBlock) (o : Option PlacedBlock) → joined_by (Some f) o ≡ true → (z : PlacedBlock) → is_dual z f ≡ false
 joins-right f None h z = absurd (true≢false (sym h))
@@ -30,7 +32,7 @@ joins-left : (o : Option PlacedBlock) (c : PlacedBlock) → joined_by o (Some c)
 joins-left None c h z = absurd (true≢false (sym h))
 joins-left (Some x) c h z = right-free x c z h
 
-front-half_of : (w : WindowBlocks) → IsSome w → front_relaid w ≡ true → FrontHalf w
+pub front-half_of : (w : WindowBlocks) → IsSome w → front_relaid w ≡ true → FrontHalf w
 front-half_of w some relaid = by w.front refl
   where
     joined : (joins w.front (w.gone ++ w.rest) || joins w.front (w.come ++ w.rest)) ≡ true
@@ -57,14 +59,14 @@ front-half_of w some relaid = by w.front refl
         }
 
 -- The first block behind the window, where it is relaid.
-record RestHalf (w : WindowBlocks) : Type 0 where
-  one : PlacedBlock
-  behind : List PlacedBlock
-  whole : w.rest ≡ one ∷ behind
-  free : (z : PlacedBlock) → is_dual one z ≡ false
-  joined : (joined_by (last_block (w.front ++ w.gone)) (Some one) || joined_by (last_block (w.front ++ w.come)) (Some one)) ≡ true
+pub record RestHalf (w : WindowBlocks) : Type 0 where
+  pub one : PlacedBlock
+  pub behind : List PlacedBlock
+  pub whole : w.rest ≡ one ∷ behind
+  pub free : (z : PlacedBlock) → is_dual one z ≡ false
+  pub joined : (joined_by (last_block (w.front ++ w.gone)) (Some one) || joined_by (last_block (w.front ++ w.come)) (Some one)) ≡ true
 
-rest-half_of : (w : WindowBlocks) → IsSome w → rest_relaid w ≡ true → RestHalf w
+pub rest-half_of : (w : WindowBlocks) → IsSome w → rest_relaid w ≡ true → RestHalf w
 rest-half_of w some relaid = by w.rest refl
   where
     one_end : Option PlacedBlock
@@ -132,29 +134,43 @@ half-touched touched n w own some all front rest =
         ]
 
 -- In the old text.
-pub relaid-touched-old : (edit : EditBlocks) (w : WindowBlocks) → Around edit w → IsSome w → All (HasTouched (is_touched_old edit)) (elements_in (old_relaid w))
-relaid-touched-old edit w it some =
-    half-touched (is_touched_old edit) w.old_end w w.gone some
+pub old-relaid : (edit : EditBlocks) (w : WindowBlocks) → Around edit w → IsSome w → All (HasTouched (is_relaid_old edit)) (elements_in (old_relaid w))
+old-relaid edit w it some =
+    half-touched (is_relaid_old edit) w.old_end w w.gone some
     (λ k d h. let g = it.gone k d h in in-window edit.from edit.old_to _ _ g.above g.below)
     (λ h. elim (front-changes edit w it h.before h.one h.whole h.free some h.joined) [
-      | inl changed ↦ inl (or_right _ (has_changed edit (line_of_block h.one)) changed)
+      | inl changed ↦ inl (or_right _ (changes_partner edit (line_of_block h.one)) changed)
       | inr both ↦ inr both.0
     ])
     (λ h. elim (rest-changes edit w it h.one h.behind h.whole h.free some h.joined) [
-      | inl changed ↦ inl (or_right _ (has_changed edit (line_of_block (pushed w.old_end h.one))) changed)
+      | inl changed ↦ inl (or_right _ (changes_partner edit (line_of_block (pushed w.old_end h.one))) changed)
       | inr both ↦ inr both.0
     ])
 
 -- And in the new one.
-pub relaid-touched-new : (edit : EditBlocks) (w : WindowBlocks) → Around edit w → IsSome w → All (HasTouched (is_touched_new edit)) (elements_in (new_relaid w))
-relaid-touched-new edit w it some =
-    half-touched (is_touched_new edit) w.new_end w w.come some
+pub new-relaid : (edit : EditBlocks) (w : WindowBlocks) → Around edit w → IsSome w → All (HasTouched (is_relaid_new edit)) (elements_in (new_relaid w))
+new-relaid edit w it some =
+    half-touched (is_relaid_new edit) w.new_end w w.come some
     (λ k d h. let g = it.come k d h in in-window edit.from edit.new_to _ _ g.above g.below)
     (λ h. elim (front-changes edit w it h.before h.one h.whole h.free some h.joined) [
-      | inl changed ↦ inl (or_right _ (has_changed edit (place_before edit.range (line_of_block h.one))) (ap (has_changed edit) (front-back edit w it h.before h.one h.whole h.free) ∙ changed))
+      | inl changed ↦ inl (or_right _ (changes_partner edit (place_before edit.range (line_of_block h.one))) (ap (changes_partner edit) (front-back edit w it h.before h.one h.whole h.free) ∙ changed))
       | inr both ↦ inr both.1
     ])
     (λ h. elim (rest-changes edit w it h.one h.behind h.whole h.free some h.joined) [
-      | inl changed ↦ inl (or_right _ (has_changed edit (place_before edit.range (line_of_block (pushed w.new_end h.one)))) (ap (has_changed edit) (rest-back edit w it h.one h.behind h.whole h.free) ∙ changed))
+      | inl changed ↦ inl (or_right _ (changes_partner edit (place_before edit.range (line_of_block (pushed w.new_end h.one)))) (ap (changes_partner edit) (rest-back edit w it h.one) ∙ changed))
       | inr both ↦ inr both.1
     ])
+
+-- A block that is relaid is touched.
+more-touched : (one other : PlacedBlock → Bool) (blocks : List PlacedBlock) → list_any one blocks ≡ true → list_any (λ (placed : PlacedBlock). one placed || other placed) blocks ≡ true
+more-touched one other [] h = absurd (true≢false (sym h))
+more-touched one other (block ∷ blocks) h = elim (or_cases (one block) (list_any one blocks) h) [
+  | inl here ↦ or_left (one block || other block) (list_any (λ (placed : PlacedBlock). one placed || other placed) blocks) (or_left (one block) (other block) here)
+  | inr later ↦ or_right (one block || other block) (list_any (λ (placed : PlacedBlock). one placed || other placed) blocks) (more-touched one other blocks later)
+]
+
+pub relaid-touched-old : (edit : EditBlocks) (w : WindowBlocks) → Around edit w → IsSome w → All (HasTouched (is_touched_old edit)) (elements_in (old_relaid w))
+relaid-touched-old edit w it some k d h = more-touched (is_relaid_old edit) (λ (placed : PlacedBlock). changes_speaker edit (line_of_block placed)) (members (get_or (elements_in (old_relaid w)) k d)) (old-relaid edit w it some k d h)
+
+pub relaid-touched-new : (edit : EditBlocks) (w : WindowBlocks) → Around edit w → IsSome w → All (HasTouched (is_touched_new edit)) (elements_in (new_relaid w))
+relaid-touched-new edit w it some k d h = more-touched (is_relaid_new edit) (λ (placed : PlacedBlock). changes_speaker edit (place_before edit.range (line_of_block placed))) (members (get_or (elements_in (new_relaid w)) k d)) (new-relaid edit w it some k d h)

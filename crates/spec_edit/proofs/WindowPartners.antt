@@ -1,7 +1,6 @@
 -- The blocks next to a window have changed, or they are joined with the window in both texts.
 use Rattle.std.proofs.Common.{◌≡◌, ◌⊎◌, ℕ, ◌+◌, ◌<◌, ◌≤◌, true, false, not, ◌||◌, Some, None, List, [], ◌∷◌, ◌++◌, map, inl, inr, refl, sym, ap, ap₂, subst, ◌∙◌, arith}
 use Rattle.std.specs.Prelude.{All}
-use Rattle.std.proofs.lemmas.Bool.{or_left}
 use Rattle.std.proofs.lemmas.List.{append_assoc}
 use Rattle.std.proofs.lemmas.List.Elements.{All-head}
 use Rattle.spec_script.specs.BlockParts.{Rise}
@@ -11,7 +10,7 @@ use Rattle.spec_sheets.proofs.ElementPlaces.{placed_from, placed_to}
 use Rattle.spec_edit.specs.WindowBlocks.{pushed, WindowBlocks, old_blocks, new_blocks, joined_by, last_block, first_block, joins}
 use Rattle.spec_edit.proofs.RelaidElements.{IsSome}
 use Rattle.spec_text.specs.Ranges.{RangeOf, place_after}
-use Rattle.spec_edit.specs.Touched.{partner_of, EditBlocks, block_in, place_before, is_same_partner, changes_partner, changes_speaker, has_changed}
+use Rattle.spec_edit.specs.Touched.{partner_of, EditBlocks, block_in, place_before, is_same_partner, changes_partner}
 use Rattle.spec_text.proofs.ListLaws.{All-back}
 use Rattle.spec_edit.proofs.ElementMoves.{after-front, after-behind}
 use Rattle.spec_edit.proofs.Partners.{right_partner, left_partner, BeginBefore, partner-right, partner-left, rise-before}
@@ -40,16 +39,13 @@ rise-some : (low high : ℕ) (front : List PlacedBlock) (block : PlacedBlock) (b
 rise-some low high [] block back rise = rise.1
 rise-some low high (one ∷ front) block back rise = rise-some (placed_to one) high front block back rise.2
 
-changed-true : (edit : EditBlocks) (line : ℕ) → changes_partner edit line ≡ true → has_changed edit line ≡ true
-changed-true edit line is = or_left (changes_partner edit line) (changes_speaker edit line) is
-
 module _ (edit : EditBlocks) (w : WindowBlocks) (it : Around edit w) where
   -- Blocks before the first one behind the window.
-  rest-old : (c : PlacedBlock) (r : List PlacedBlock) → w.rest ≡ c ∷ r → old_blocks w ≡ (w.front ++ w.gone) ++ pushed w.old_end c ∷ map (pushed w.old_end) r
+  pub rest-old : (c : PlacedBlock) (r : List PlacedBlock) → w.rest ≡ c ∷ r → old_blocks w ≡ (w.front ++ w.gone) ++ pushed w.old_end c ∷ map (pushed w.old_end) r
   rest-old c r is =
       ap (λ (l : List PlacedBlock). w.front ++ (w.gone ++ map (pushed w.old_end) l)) is ∙ sym (append_assoc w.front w.gone (pushed w.old_end c ∷ map (pushed w.old_end) r))
 
-  rest-new : (c : PlacedBlock) (r : List PlacedBlock) → w.rest ≡ c ∷ r → new_blocks w ≡ (w.front ++ w.come) ++ pushed w.new_end c ∷ map (pushed w.new_end) r
+  pub rest-new : (c : PlacedBlock) (r : List PlacedBlock) → w.rest ≡ c ∷ r → new_blocks w ≡ (w.front ++ w.come) ++ pushed w.new_end c ∷ map (pushed w.new_end) r
   rest-new c r is =
       ap (λ (l : List PlacedBlock). w.front ++ (w.come ++ map (pushed w.new_end) l)) is ∙ sym (append_assoc w.front w.come (pushed w.new_end c ∷ map (pushed w.new_end) r))
 
@@ -62,7 +58,7 @@ module _ (edit : EditBlocks) (w : WindowBlocks) (it : Around edit w) where
       rise-before 0 it.new_high (w.front ++ w.come) (pushed w.new_end c) (map (pushed w.new_end) r) (subst (Rise placed_from placed_to 0 it.new_high) (rest-new c r is) it.new_rise)
 
   -- A line behind the window, in both texts.
-  rest-line : (c : PlacedBlock) → place_after edit.range (line_of_block (pushed w.old_end c)) ≡ line_of_block (pushed w.new_end c)
+  pub rest-line : (c : PlacedBlock) → place_after edit.range (line_of_block (pushed w.old_end c)) ≡ line_of_block (pushed w.new_end c)
   rest-line c =
       let there = after-behind edit.range (line_of_block (pushed w.old_end c)) (let x = it.old_end in let y = it.was_past in omega (arith, x, y)) in
       let x = it.old_end in
@@ -70,6 +66,18 @@ module _ (edit : EditBlocks) (w : WindowBlocks) (it : Around edit w) where
       let z = it.shift in
       let v = it.was_past in
       omega (arith, there, x, y, z, v)
+
+  -- And back.
+  pub rest-back : (c : PlacedBlock) → place_before edit.range (line_of_block (pushed w.new_end c)) ≡ line_of_block (pushed w.old_end c)
+  rest-back c =
+      let range : RangeOf = record { first = edit.range.first; old = edit.range.new; new = edit.range.old } in
+      let x = it.old_end in
+      let y = it.new_end in
+      let z = it.shift in
+      let p = it.past in
+      let q = it.was_past in
+      let here = after-behind range (line_of_block (pushed w.new_end c)) (omega (arith, y, p)) in
+      omega (arith, here, x, y, z, p, q)
 
   -- The last block before the window, where it is a left half in one of the texts.
   module _ (xs : List PlacedBlock) (f : PlacedBlock) (whole : w.front ≡ xs ++ f ∷ []) (free : (z : PlacedBlock) → is_dual z f ≡ false) where
@@ -105,7 +113,7 @@ module _ (edit : EditBlocks) (w : WindowBlocks) (it : Around edit w) where
 
     -- It has changed, or it is joined with the windows of both texts.
     pub front-changes : IsSome w → (joined_by (Some f) (first_block (w.gone ++ w.rest)) || joined_by (Some f) (first_block (w.come ++ w.rest))) ≡ true
-        → (has_changed edit (line_of_block f) ≡ true) ⊎ ((joins (f ∷ []) w.gone ≡ true) × (joins (f ∷ []) w.come ≡ true))
+        → (changes_partner edit (line_of_block f) ≡ true) ⊎ ((joins (f ∷ []) w.gone ≡ true) × (joins (f ∷ []) w.come ≡ true))
     front-changes some joined =
         elim (front-cases edit f w.gone w.come w.rest w.old_end w.new_end some joined
         (λ x c g r is rest. differ-at edit (line_of_block x) (line_of_block (pushed w.new_end c)) (λ side same.
@@ -125,8 +133,7 @@ module _ (edit : EditBlocks) (w : WindowBlocks) (it : Around edit w) where
         let moved = rest-line c in
         omega (arith, same, moved, before)))) [
           | inl differ ↦
-              inl (changed-true edit (line_of_block f)
-              (ap₂ (λ a b. not (is_same_partner edit a b)) old-partner (ap (partner_of (map block_in edit.new)) front-line ∙ new-partner) ∙ ap not differ))
+              inl (ap₂ (λ a b. not (is_same_partner edit a b)) old-partner (ap (partner_of (map block_in edit.new)) front-line ∙ new-partner) ∙ ap not differ)
           | inr both ↦ inr both
         ]
 
@@ -142,19 +149,8 @@ module _ (edit : EditBlocks) (w : WindowBlocks) (it : Around edit w) where
         ap (λ (l : List PlacedBlock). partner_of l (line_of_block (pushed w.new_end c))) (it.new_are ∙ rest-new c r whole)
         ∙ partner-left (w.front ++ w.come) (pushed w.new_end c) (map (pushed w.new_end) r) (new-before c r whole) free
 
-    pub rest-back : place_before edit.range (line_of_block (pushed w.new_end c)) ≡ line_of_block (pushed w.old_end c)
-    rest-back =
-        let range : RangeOf = record { first = edit.range.first; old = edit.range.new; new = edit.range.old } in
-        let x = it.old_end in
-        let y = it.new_end in
-        let z = it.shift in
-        let p = it.past in
-        let q = it.was_past in
-        let here = after-behind range (line_of_block (pushed w.new_end c)) (omega (arith, y, p)) in
-        omega (arith, here, x, y, z, p, q)
-
     pub rest-changes : IsSome w → (joined_by (last_block (w.front ++ w.gone)) (Some c) || joined_by (last_block (w.front ++ w.come)) (Some c)) ≡ true
-        → (has_changed edit (line_of_block (pushed w.old_end c)) ≡ true) ⊎ ((joins w.gone (c ∷ []) ≡ true) × (joins w.come (c ∷ []) ≡ true))
+        → (changes_partner edit (line_of_block (pushed w.old_end c)) ≡ true) ⊎ ((joins w.gone (c ∷ []) ≡ true) × (joins w.come (c ∷ []) ≡ true))
     rest-changes some joined =
         elim (rest-cases edit c w.front w.gone w.come w.old_end w.new_end some joined
         (λ x y gone front. differ-at edit (line_of_block x) (line_of_block y) (λ side same.
@@ -173,8 +169,7 @@ module _ (edit : EditBlocks) (w : WindowBlocks) (it : Around edit w) where
         let here = after-front edit.range (line_of_block x) (omega (arith, low, begin)) in
         omega (arith, here, same, low, above)))) [
           | inl differ ↦
-              inl (changed-true edit (line_of_block (pushed w.old_end c))
-              (ap₂ (λ a b. not (is_same_partner edit a b)) old-left (ap (partner_of (map block_in edit.new)) (rest-line c) ∙ new-left) ∙ ap not differ))
+              inl (ap₂ (λ a b. not (is_same_partner edit a b)) old-left (ap (partner_of (map block_in edit.new)) (rest-line c) ∙ new-left) ∙ ap not differ)
           | inr both ↦ inr both
         ]
       where

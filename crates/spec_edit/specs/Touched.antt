@@ -57,20 +57,23 @@ changes_partner edit line = not (is_same_partner edit (partner_of (map block_in 
 abbrev pub changes_speaker : EditBlocks → ℕ → Bool
 changes_speaker edit line = differs (is_continued edit.old line) (is_continued edit.new (place_after edit.range line))
 
-abbrev pub has_changed : EditBlocks → ℕ → Bool
-has_changed edit line = changes_partner edit line || changes_speaker edit line
-
 -- The place before an edit of a line of the new text that stands outside the window.
 abbrev pub place_before : RangeOf → ℕ → ℕ
 place_before range place = place_after (record { first = range.first; old = range.new; new = range.old }) place
 
--- A block of the old text is touched, and one of the new text: it stands in the window, its partner is another, or it is continued in
--- one of the texts alone.
+-- A block of the old text is relaid, and one of the new text: it stands in the window, or its partner is another.
+abbrev pub is_relaid_old : EditBlocks → PlacedBlock → Bool
+is_relaid_old edit placed = in_window edit.from edit.old_to placed || changes_partner edit (line_of_block placed)
+
+abbrev pub is_relaid_new : EditBlocks → PlacedBlock → Bool
+is_relaid_new edit placed = in_window edit.from edit.new_to placed || changes_partner edit (place_before edit.range (line_of_block placed))
+
+-- It is touched: it is relaid, or it is continued in one of the texts alone.
 abbrev pub is_touched_old : EditBlocks → PlacedBlock → Bool
-is_touched_old edit placed = in_window edit.from edit.old_to placed || has_changed edit (line_of_block placed)
+is_touched_old edit placed = is_relaid_old edit placed || changes_speaker edit (line_of_block placed)
 
 abbrev pub is_touched_new : EditBlocks → PlacedBlock → Bool
-is_touched_new edit placed = in_window edit.from edit.new_to placed || has_changed edit (place_before edit.range (line_of_block placed))
+is_touched_new edit placed = is_relaid_new edit placed || changes_speaker edit (place_before edit.range (line_of_block placed))
 
 -- An element is touched where one of its blocks is.
 abbrev pub touches_element : (PlacedBlock → Bool) → Group Spoken → Bool

@@ -5,6 +5,7 @@ pub mod Words
 pub mod HeaderLaws
 pub mod PieceLaws
 pub mod ReadingLaws
+pub mod SheetConditions
 pub mod ReadRising
 pub mod PlainLaws
 pub mod RunCuts

@@ -1,5 +1,6 @@
 pub mod SheetLists
 pub mod SheetReadings
+pub mod SheetConditions
 pub mod Collations
 pub mod BytesCollated
 pub mod Pieces

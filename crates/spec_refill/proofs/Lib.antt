@@ -5,6 +5,7 @@ pub mod ElementMarks
 pub mod MovedMarks
 pub mod EditMarks
 pub mod EditExchange
+pub mod RelaidElements
 pub mod LockedStarts
 pub mod SortedStops
 pub mod WorkedRows
