@@ -56,8 +56,8 @@ none-unopened origin old new sink shelf after statuses.InputFull it = absurd it
 none-unopened origin old new sink shelf after (statuses.BadSheets file sheet) it = absurd it
 none-unopened origin old new sink shelf after statuses.NotLocked it = absurd it
 
-too-long-held : (files : Option Files) (name script : List ℕ) → IfSome files (λ held. held name ≡ Some script) → printing_of script ≡ too_long
-    → IfSome files (λ held. IsSomeAnd (held name) (λ it. printing_of it ≡ too_long))
+too-long-held : (files : Option Files) (name script : List ℕ) → IfSome files (λ files. files.held name ≡ Some script) → printing_of script ≡ too_long
+    → IfSome files (λ files. IsSomeAnd (files.held name) (λ it. printing_of it ≡ too_long))
 too-long-held None name script has long = tt
 too-long-held (Some held) name script has long = subst (λ (o : Option (List ℕ)). IsSomeAnd o (λ it. printing_of it ≡ too_long)) (sym has) long
 
