@@ -179,7 +179,7 @@ module _ (old new : List ℕ) where
       by statuses.NotLocked it = absurd it
 
   -- What a shelf tells decides.
-  told-fate : (o : Option Files) (files : Files) (first second : Option (List ℕ)) → IfSome o (λ fs. fs old ≡ first) → IfSome o (λ fs. fs new ≡ second) → o ≡ Some files
+  told-fate : (o : Option Files) (files : Files) (first second : Option (List ℕ)) → IfSome o (λ fs. fs.held old ≡ first) → IfSome o (λ fs. fs.held new ≡ second) → o ≡ Some files
       → fate_of old new (files.held old) (files.held new) ≡ fate_of old new first second
   told-fate None files first second one other is = absurd (let no_way : ⊥ = cc in no_way)
   told-fate (Some fs) files first second one other is =
