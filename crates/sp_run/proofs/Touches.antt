@@ -355,12 +355,12 @@ saves-more : (name : List ℕ) (memories : List Memory) (memory : Memory) → Is
 saves-more name memories memory among one two three first second = record {
   atomic = second.atomic ∙ first.atomic;
   files = λ is.
-    let before = first.files is in
-    let put = second.files (subst IsTrue (sym first.atomic) is) in
-    record {
-      text = one-more (λ (state : State). (files_of name state).bytes) memories memory one two three name among before.text put.first;
-      records = one-more (λ (state : State). (files_of name state).records) memories memory one two three (records_name name) among before.records put.second;
-    };
+      let before = first.files is in
+      let put = second.files (subst IsTrue (sym first.atomic) is) in
+      record {
+        text = one-more (λ (state : State). (files_of name state).bytes) memories memory one two three name among before.text put.first;
+        records = one-more (λ (state : State). (files_of name state).records) memories memory one two three (records_name name) among before.records put.second;
+      };
 }
 
 -- It is the desk of this name, its memory is one of these, and so are those whose files were stored.

@@ -17,7 +17,7 @@ pub returns-clause-others : goal.returns-clause-others
 returns-clause-others c =
     record {
       names = λ other differs.
-        let same : get_by_text c.insert.new.self other ≡ get_by_text c.args.files.now other = grind (arith, text_keys) in
-        found-files c.insert.new.self other ∙ ap (option_map (λ (w : Vec ℕ Global). w.items)) same ∙ sym (found-files c.args.files.now other);
+          let same : get_by_text c.insert.new.self other ≡ get_by_text c.args.files.now other = grind (arith, text_keys) in
+          found-files c.insert.new.self other ∙ ap (option_map (λ (w : Vec ℕ Global). w.items)) same ∙ sym (found-files c.args.files.now other);
       atomic = refl;
     }
