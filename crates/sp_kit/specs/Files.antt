@@ -1,5 +1,5 @@
 -- What a shelf holds, and what its calls may answer and leave (docs/RULES.md, "The program").
-use Rattle.std.specs.Prelude.{◌≡◌, ◌≢◌, ℕ, ◌<◌, ◌≤◌, List, length, Ok, Err, Some, None, IsSomeAnd}
+use Rattle.std.specs.Prelude.{◌≡◌, ◌≢◌, ℕ, ◌<◌, ◌≤◌, ◌⊎◌, Bool, IsTrue, List, length, Ok, Err, Some, None, IsSomeAnd}
 use Rattle.std.specs.declared.option.Option.{Option}
 use Rattle.std.specs.declared.result.Result.{Result}
 use Rattle.sp_kit.specs.Causes.{Rose}
@@ -8,11 +8,13 @@ use Rattle.sp_kit.specs.declared.shelf.Fetched.TheVariants as fetched
 use Rattle.sp_kit.specs.declared.shelf.ShelfFault.{ShelfFault}
 use Rattle.sp_kit.specs.declared.shelf.ShelfFault.TheVariants as shelf_faults
 
--- The bytes under each name that there is.
-abbrev pub Files : Type 0
-Files = List ℕ → Option (List ℕ)
+-- Files: the bytes under each name that there is, and whether they are told to be atomic. Then a store that failed left under its
+-- name what stood there or what was to be stored; of others it is open what it left.
+pub record Files : Type 0 where
+  pub held : List ℕ → Option (List ℕ)
+  pub atomic : Bool
 
--- A shelf: what stands under each name, where that is known, and its count of faults.
+-- A shelf: its files, where they are known, and its count of faults.
 pub record ShelfState : Type 0 where
   pub files : Option Files
   pub faults : ℕ
@@ -30,15 +32,25 @@ FetchesAtMost most (Ok (fetched.Bytes bytes)) = length bytes.items ≤ most
 FetchesAtMost most _ = Unit {0}
 
 -- All names but this one have what they had.
-abbrev pub KeepsOthers : Files → Files → List ℕ → Type 0
-KeepsOthers old new name = (other : List ℕ) → other ≢ name → new other ≡ old other
+pub record KeepsOthers (old new : Files) (name : List ℕ) : Type 0 where
+  pub names : (other : List ℕ) → other ≢ name → new.held other ≡ old.held other
+  pub atomic : new.atomic ≡ old.atomic
+
+-- Under a name stands what stood there, or these bytes.
+abbrev pub HasOldOrNew : Files → Files → List ℕ → List ℕ → Type 0
+HasOldOrNew old new name bytes = (new.held name ≡ old.held name) ⊎ (new.held name ≡ Some bytes)
+
+-- What a store of these bytes under a name left that failed.
+pub record StoreFails (old new : Files) (name bytes : List ℕ) : Type 0 where
+  pub others : KeepsOthers old new name
+  pub kept : IsTrue old.atomic → HasOldOrNew old new name bytes
 
 -- What a store of these bytes under a name leaves, where what the shelf holds is known.
 abbrev pub StoreLeaves : Option Files → Option Files → List ℕ → List ℕ → Result (Unit {0}) ShelfFault → Type 0
 StoreLeaves None new name bytes result = Unit {0}
 StoreLeaves (Some old) None name bytes result = ⊥
-StoreLeaves (Some old) (Some new) name bytes (Ok done) = (new name ≡ Some bytes) × KeepsOthers old new name
-StoreLeaves (Some old) (Some new) name bytes (Err shelf_faults.Failed) = KeepsOthers old new name
+StoreLeaves (Some old) (Some new) name bytes (Ok done) = (new.held name ≡ Some bytes) × KeepsOthers old new name
+StoreLeaves (Some old) (Some new) name bytes (Err shelf_faults.Failed) = StoreFails old new name bytes
 StoreLeaves (Some old) (Some new) name bytes (Err shelf_faults.NoMemory) = new ≡ old
 
 -- A count of faults rises with a failure, and stays with every other answer.

@@ -1,11 +1,12 @@
 -- What the objects in memory hold (docs/RULES.md, "The program").
-use Rattle.std.specs.Prelude.{ℕ, List, map, string_bytes, bytes_eq}
+use Rattle.std.specs.Prelude.{ℕ, true, List, map, string_bytes, bytes_eq}
 use Rattle.std.specs.declared.option.Option.{Option}
 use Rattle.std.specs.declared.string.String.{String}
 use Rattle.std.specs.declared.vec.Vec.{Vec}
 use Rattle.std.specs.declared.alloc.Global.{Global}
 use Rattle.std.specs.BTreeMap.{BTreeMap}
 use Rattle.std.specs.Map.{lookup}
+use Rattle.sp_kit.specs.Files.{Files}
 
 -- A source in memory: the bytes that weren't read yet, the most bytes of one call, the numbers of the calls that fail,
 -- the number of the next call, and the count of faults.
@@ -38,6 +39,10 @@ files_of names = map (λ e. (string_bytes e.0, e.1.items)) names.entries
 -- The bytes under a name among these files, where there are some.
 abbrev pub found_in : List (List ℕ × List ℕ) → List ℕ → Option (List ℕ)
 found_in files name = lookup (bytes_eq name) files
+
+-- These files, as a shelf tells them. They are atomic.
+abbrev pub told_in : List (List ℕ × List ℕ) → Files
+told_in files = record { held = found_in files; atomic = true }
 
 -- A shelf in memory: its files, each with its name, the numbers of the calls that fail, the number of the next call, and
 -- the count of faults.

@@ -2,7 +2,7 @@ ghost use Rattle.std.specs.Prelude.{◌≡◌, ◌≤◌, ◌↔◌, [], Some, C
 ghost use Rattle.std.specs.Bool.{MatchBool};
 ghost use Rattle.sp_kit.specs.Causes.{one_more};
 ghost use Rattle.sp_kit.specs.Files.{FetchGives, FetchesAtMost, KeepsOthers, StoreLeaves, HasShelfCause};
-ghost use Rattle.sp_kit.specs.Memory.{files_of, found_in};
+ghost use Rattle.sp_kit.specs.Memory.{files_of, found_in, told_in};
 
 use crate::shelf::{Fetched, Shelf, ShelfFault};
 use std::alloc::{AllocError, Global};
@@ -76,7 +76,7 @@ fn put(
     bytes: &[u8],
 ) -> Result<(), AllocError>
     ensures found { OnOk result (found_in (files_of files.new) name.now ≡ Some bytes.now) }
-    ensures others { OnOk result (KeepsOthers (found_in (files_of files.old)) (found_in (files_of files.new)) name.now) }
+    ensures others { OnOk result (KeepsOthers (told_in (files_of files.old)) (told_in (files_of files.new)) name.now) }
     ensures err { OnErr result (files_of files.new ≡ files_of files.old) }
 {
     let name = String::from_str(alloc, name)?;
@@ -87,9 +87,9 @@ fn put(
 
 impl Shelf for MemoryShelf {
     ghost use Rattle.std.specs.declared.option.Option.TheVariants.{Some};
-    ghost use Rattle.sp_kit.specs.Memory.{found_in};
+    ghost use Rattle.sp_kit.specs.Memory.{told_in};
 
-    ghost state = { λ s. record { files = Some (found_in s.files); faults = s.faults } };
+    ghost state = { λ s. record { files = Some (told_in s.files); faults = s.faults } };
 
     /// Gives the bytes under the name, and fails exactly the listed calls. A failure counts one fault.
     fn fetch(&mut self, name: &str, most: usize) -> Result<Fetched, ShelfFault>
@@ -114,7 +114,7 @@ impl Shelf for MemoryShelf {
 
     /// Puts the bytes under the name, and fails exactly the listed calls, which change no file and count one fault each.
     fn store(&mut self, name: &str, bytes: &[u8]) -> Result<(), ShelfFault>
-        ensures leaves { StoreLeaves (Some (found_in self.old.files)) (Some (found_in self.new.files)) name.now bytes.now result }
+        ensures leaves { StoreLeaves (Some (told_in self.old.files)) (Some (told_in self.new.files)) name.now bytes.now result }
         ensures cause { HasShelfCause self.old.faults self.new.faults result }
         ensures one_fault { result ≡ Err ShelfFault.Failed → self.new.faults ≡ one_more self.old.faults }
         ensures fails { (result ≡ Err ShelfFault.Failed) ↔ Contains self.old.fails self.old.call }

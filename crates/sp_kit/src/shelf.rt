@@ -34,8 +34,8 @@ impl From<AllocError> for ShelfFault {
     }
 }
 
-/// Files by name. What can be told of it is what stands under each name, where that is known, and a count of faults, which
-/// never falls (docs/RULES.md, "The program").
+/// Files by name. What can be told of it is what stands under each name, where that is known, whether it is atomic there, and a
+/// count of faults, which never falls (docs/RULES.md, "The program").
 pub trait Shelf {
     ghost state: { Self → ShelfState };
 
@@ -44,13 +44,13 @@ pub trait Shelf {
     /// the names stays, whatever is answered.
     fn fetch(&mut self, name: &str, most: usize) -> Result<Fetched, ShelfFault>
         ensures bound { FetchesAtMost most result }
-        ensures gives { IfSome (state self.old).files (λ held. FetchGives (held name.now) most result) }
+        ensures gives { IfSome (state self.old).files (λ files. FetchGives (files.held name.now) most result) }
         ensures kept { (state self.new).files ≡ (state self.old).files }
         ensures cause { HasShelfCause (state self.old).faults (state self.new).faults result };
 
     /// Puts the bytes under a name, in place of what stood there. `Failed` comes only where the count of faults rose in
-    /// this call; then it is open what stands under that name. After `NoMemory` nothing has changed. All other names stay
-    /// as they were.
+    /// this call; then a shelf that tells that it is atomic has under that name what stood there or these bytes, and of every
+    /// other it is open. After `NoMemory` nothing has changed. All other names stay as they were.
     fn store(&mut self, name: &str, bytes: &[u8]) -> Result<(), ShelfFault>
         ensures leaves { StoreLeaves (state self.old).files (state self.new).files name.now bytes.now result }
         ensures cause { HasShelfCause (state self.old).faults (state self.new).faults result };

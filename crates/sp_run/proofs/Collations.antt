@@ -22,9 +22,9 @@ use Rattle.sp_run.proofs.Held.{not-risen}
 -- What stands under a name, as far as it is known.
 held_in : Option Files → List ℕ → Option (List ℕ)
 held_in None name = None
-held_in (Some files) name = files name
+held_in (Some files) name = files.held name
 
-holds_in : (o : Option Files) (name : List ℕ) → IfSome o (λ files. files name ≡ held_in o name)
+holds_in : (o : Option Files) (name : List ℕ) → IfSome o (λ files. files.held name ≡ held_in o name)
 unfolding held_in
 holds_in None name = tt
 holds_in (Some files) name = refl
@@ -32,7 +32,7 @@ holds_in (Some files) name = refl
 -- A file that is too long.
 record IsLong (o : Option Files) (name : List ℕ) : Type 0 where
   bytes : List ℕ
-  has : IfSome o (λ files. files name ≡ Some bytes)
+  has : IfSome o (λ files. files.held name ≡ Some bytes)
   high : sheets_limit < length bytes
 
 -- There is a list longer than any number.
@@ -43,11 +43,11 @@ record LongList (n : ℕ) : Type 0 where
 long-list : (n : ℕ) → LongList n
 long-list n = let size = length-replicate {A = ℕ} (n + 1) 0 in record { bytes = replicate (n + 1) 0; high = omega (arith, size) }
 
-is_long : (o : Option Files) (name : List ℕ) → IfSome o (λ files. IsSomeAnd (files name) (λ bytes. sheets_limit < length bytes)) → IsLong o name
+is_long : (o : Option Files) (name : List ℕ) → IfSome o (λ files. IsSomeAnd (files.held name) (λ bytes. sheets_limit < length bytes)) → IsLong o name
 is_long None name long = let it = long-list sheets_limit in record { bytes = it.bytes; has = tt; high = it.high }
-is_long (Some files) name long = by (files name) refl long
+is_long (Some files) name long = by (files.held name) refl long
   where
-    by : (o : Option (List ℕ)) → files name ≡ o → IsSomeAnd o (λ bytes. sheets_limit < length bytes) → IsLong (Some files) name
+    by : (o : Option (List ℕ)) → files.held name ≡ o → IsSomeAnd o (λ bytes. sheets_limit < length bytes) → IsLong (Some files) name
     by None is long = absurd long
     by (Some bytes) is long = record { bytes = bytes; has = is; high = long }
 
@@ -106,12 +106,12 @@ module _ (old new : List ℕ) where
     first = Some bytes;
     second = None;
     has_first = (first.finds).found;
-    has_second = subst (λ (o : Option Files). IfSome o (λ files. files new ≡ None)) (first.finds).same finds.found;
+    has_second = subst (λ (o : Option Files). IfSome o (λ files. files.held new ≡ None)) (first.finds).same finds.found;
     is = within bytes passes_limit (lacks new) first.low ∙ ap lacks (sym is);
     same = both-same shelf between after (first-same shelf between bytes first) (record { files = finds.same; faults = finds.kept });
   }
   second-refused shelf between after bytes (statuses.BadText faults.TextFull) first finds =
-      let long = is_long shelf.files new (subst (λ (o : Option Files). IfSome o (λ files. IsSomeAnd (files new) (λ those. sheets_limit < length those))) (first.finds).same finds.found) in
+      let long = is_long shelf.files new (subst (λ (o : Option Files). IfSome o (λ files. IsSomeAnd (files.held new) (λ those. sheets_limit < length those))) (first.finds).same finds.found) in
       record {
         first = Some bytes;
         second = Some long.bytes;
@@ -143,7 +143,7 @@ module _ (old new : List ℕ) where
     first = Some one;
     second = Some other;
     has_first = (first.finds).found;
-    has_second = subst (λ (o : Option Files). IfSome o (λ files. files new ≡ Some other)) (first.finds).same (second.finds).found;
+    has_second = subst (λ (o : Option Files). IfSome o (λ files. files.held new ≡ Some other)) (first.finds).same (second.finds).found;
     is = within one passes_limit (second_fate new one (Some other)) first.low ∙ within other passes_limit (fate_by (collating one other)) second.low
         ∙ ap fate_by ((λ i. collating (sym sees i) (sym views i)) ∙ is);
     same = both-same shelf between after (first-same shelf between one first) (record { files = (second.finds).same; faults = (second.finds).kept });
@@ -179,19 +179,19 @@ module _ (old new : List ℕ) where
       by statuses.NotLocked it = absurd it
 
   -- What a shelf tells decides.
-  told-fate : (o : Option Files) (files : Files) (first second : Option (List ℕ)) → IfSome o (λ fs. fs old ≡ first) → IfSome o (λ fs. fs new ≡ second) → o ≡ Some files
-      → fate_of old new (files old) (files new) ≡ fate_of old new first second
+  told-fate : (o : Option Files) (files : Files) (first second : Option (List ℕ)) → IfSome o (λ fs. fs.held old ≡ first) → IfSome o (λ fs. fs.held new ≡ second) → o ≡ Some files
+      → fate_of old new (files.held old) (files.held new) ≡ fate_of old new first second
   told-fate None files first second one other is = absurd (let no_way : ⊥ = cc in no_way)
   told-fate (Some fs) files first second one other is =
       let same : fs ≡ files = cc in
-      ap (λ (held : Files). fate_of old new (held old) (held new)) (sym same) ∙ (λ i. fate_of old new (one i) (other i))
+      ap (λ (files : Files). fate_of old new (files.held old) (files.held new)) (sym same) ∙ (λ i. fate_of old new (one i) (other i))
 
-  comes-told : (shelf after : ShelfState) (files : Files) (fate : Fate) → Comes old new shelf after fate → shelf.files ≡ Some files → fate_of old new (files old) (files new) ≡ fate
+  comes-told : (shelf after : ShelfState) (files : Files) (fate : Fate) → Comes old new shelf after fate → shelf.files ≡ Some files → fate_of old new (files.held old) (files.held new) ≡ fate
   comes-told shelf after files fate it is = told-fate shelf.files files it.first it.second it.has_first it.has_second is ∙ it.is
 
   -- Where no fault is counted the status is the one that is asked for, or there is no memory.
   pub answers-fate : (shelf after : ShelfState) (sink written : SinkState) (status : Status) → CollateEnds old new shelf after sink written status → after.faults ≡ shelf.faults → written.faults ≡ sink.faults
-      → shelf.faults < 2 ^ 64 - 1 → sink.faults < 2 ^ 64 - 1 → (files : Files) → shelf.files ≡ Some files → AnswersFate (fate_of old new (files old) (files new)) status
+      → shelf.faults < 2 ^ 64 - 1 → sink.faults < 2 ^ 64 - 1 → (files : Files) → shelf.files ≡ Some files → AnswersFate (fate_of old new (files.held old) (files.held new)) status
   answers-fate shelf after sink written statuses.Done it fetches writes low below files is = (it.bytes, comes-told shelf after files (gives it.bytes) it.comes is)
   answers-fate shelf after sink written statuses.Usage it fetches writes low below files is = it.0
   answers-fate shelf after sink written (statuses.NoFile given) it fetches writes low below files is = comes-told shelf after files (lacks (string_bytes given)) it.0 is

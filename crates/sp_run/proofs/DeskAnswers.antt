@@ -33,12 +33,12 @@ settles-input name input endings.InputFull settles script records opens = (opens
 
 -- A session of a script that stands under the name.
 pub session-answers : (name : List ℕ) (old : Outside) (end : SessionEnd) (state : State) → HasState old.shelf name state → (input : List ℕ) → Settles input end → (files : Files) → old.shelf.files ≡ Some files
-    → AnswersDesk name (files name) (files (records_name name)) input (status_of_end end)
+    → AnswersDesk name (files.held name) (files.held (records_name name)) input (status_of_end end)
 session-answers name old end state has input settles files is =
     held-both name has.script has.records old.shelf.files files Opens (λ o r. AnswersDesk name o r input (status_of_end end)) (settles-input name input end settles) has.has has.beside is (state, has.opens)
 
 pub desk-settles : (name : List ℕ) (old new : Outside) (from to : Counts) → FailedNothing (streams old.source old.sink) (streams new.source new.sink) → (files : Files) → old.shelf.files ≡ Some files → (input : List ℕ)
-    → old.source.unread ≡ Some input → (end : SessionEnd) → HeldSession name old new from to end → AnswersDesk name (files name) (files (records_name name)) input (status_of_end end)
+    → old.source.unread ≡ Some input → (end : SessionEnd) → HeldSession name old new from to end → AnswersDesk name (files.held name) (files.held (records_name name)) input (status_of_end end)
 desk-settles name old new from to calm files is input told end held =
     session-answers name old end held.state held.has input
     (ends-settle AnswersLine StopsAtLine (streams old.source old.sink) (streams new.source new.sink) (desk_at name (opened_memory held.state) old.shelf held.opened) held.after end held.ends calm input told) files is
@@ -52,8 +52,8 @@ memory-found name None records input = tt
 memory-found name (Some script) records input = tt
 
 pub commands-answer : (ended : SessionEnd → Type 0) (name : List ℕ) (old new : Outside) (from to : Counts) (status : Status) → CommandsEnd ended name old new from to status → new.shelf.faults ≡ old.shelf.faults
-    → old.shelf.faults < 2 ^ 64 - 1 → (files : Files) → old.shelf.files ≡ Some files → (input : List ℕ) → ((end : SessionEnd) → ended end → AnswersDesk name (files name) (files (records_name name)) input (status_of_end end))
-    → AnswersDesk name (files name) (files (records_name name)) input status
+    → old.shelf.faults < 2 ^ 64 - 1 → (files : Files) → old.shelf.files ≡ Some files → (input : List ℕ) → ((end : SessionEnd) → ended end → AnswersDesk name (files.held name) (files.held (records_name name)) input (status_of_end end))
+    → AnswersDesk name (files.held name) (files.held (records_name name)) input status
 commands-answer ended name old new from to statuses.Done ends fetches low files is input settles = settles endings.Done ends
 commands-answer ended name old new from to statuses.Usage ends fetches low files is input settles = absurd ends
 commands-answer ended name old new from to (statuses.NoFile given) ends fetches low files is input settles =
@@ -63,7 +63,7 @@ commands-answer ended name old new from to (statuses.BadText (faults.NotUtf8 pla
 commands-answer ended name old new from to (statuses.BadText (faults.LineFull place)) ends fetches low files is input settles =
     held-one name ends.0.script old.shelf.files files (λ o r. AnswersDesk name o r input (statuses.BadText (faults.LineFull place))) ends.0.had.0 is (λ r. ends.0.becomes)
 commands-answer ended name old new from to (statuses.BadText faults.TextFull) ends fetches low files is input settles =
-    long-found name (files name) (files (records_name name)) (held old.shelf.files files (λ fs. IsSomeAnd (fs name) (λ script. printing_of script ≡ too_long)) ends.0.long.0 is) input
+    long-found name (files.held name) (files.held (records_name name)) (held old.shelf.files files (λ fs. IsSomeAnd (fs.held name) (λ script. printing_of script ≡ too_long)) ends.0.long.0 is) input
 commands-answer ended name old new from to (statuses.BadText faults.NoMemory) ends fetches low files is input settles = absurd ends
 commands-answer ended name old new from to statuses.ReadFault ends fetches low files is input settles = settles endings.ReadFault ends
 commands-answer ended name old new from to statuses.WriteFault ends fetches low files is input settles = settles endings.WriteFault ends
@@ -71,7 +71,7 @@ commands-answer ended name old new from to statuses.ShelfFault ends fetches low 
 commands-answer ended name old new from to (statuses.BadRecords fault) ends fetches low files is input settles =
     held-both name ends.0.script ends.0.records old.shelf.files files (λ s r. RefusesRecords s r fault) (λ o r. AnswersDesk name o r input (statuses.BadRecords fault)) (λ s r refuses. refuses) ends.0.had.0 ends.0.beside is
     ends.0.refuses
-commands-answer ended name old new from to statuses.NoMemory ends fetches low files is input settles = memory-found name (files name) (files (records_name name)) input
+commands-answer ended name old new from to statuses.NoMemory ends fetches low files is input settles = memory-found name (files.held name) (files.held (records_name name)) input
 commands-answer ended name old new from to (statuses.CommandLong number) ends fetches low files is input settles = settles (endings.CommandLong number) ends
 commands-answer ended name old new from to statuses.InputFull ends fetches low files is input settles = settles endings.InputFull ends
 commands-answer ended name old new from to (statuses.BadSheets file sheet) ends fetches low files is input settles = absurd ends

@@ -33,7 +33,7 @@ use Rattle.sp_run.specs.Unopened.{Outside, Unopened}
 use Rattle.sp_run.specs.DeskEnding.{AnsweredAll, AnsweredCalmly, CommandsEnd, CountsUnsaved, HeldSession, OpensDesk}
 use Rattle.sp_run.specs.Statuses.{status_of_end}
 use Rattle.sp_run.proofs.Held.{not-risen}
-use Rattle.sp_run.proofs.Touches.{Touches, Halts, Way, unsaved_line, other-line, session-counted, runs-promised, runs-last, runs-calm, session-others}
+use Rattle.sp_run.proofs.Touches.{Touches, Halts, Way, unsaved_line, other-line, session-counted, runs-promised, runs-last, runs-calm, session-others, session-saves}
 use Rattle.sp_text.specs.declared.fault.TextFault.TheVariants as faults
 use Rattle.sp_run.specs.declared.status.Status.{Status}
 use Rattle.sp_run.specs.declared.status.Status.TheVariants as statuses
@@ -66,7 +66,7 @@ answer-touches before line after bytes it = by it.replies
     by (inr failed) = record { named = ap (λ (d : NamedDesk). d.name) failed.same; stored = inr (record { saves = failed.asks; failed = failed.failed }); follows = it.follows }
 
 stop-halts : (before : AtShelf NamedDesk) (line : List ℕ) (after : AtShelf NamedDesk) → StopsAtLine before line after → Halts (saves line) before after
-stop-halts before line after it = record { named = it.stops.name; leaves = it.stops.leaves }
+stop-halts before line after it = record { named = it.stops.name; memory = it.stops.memory; leaves = it.stops.leaves }
 
 abbrev by_desk : Way
 by_desk = record { It = NamedDesk; desk = desk_itself; saves = saves; answers = AnswersLine; stops = StopsAtLine; touches = answer-touches; halts = stop-halts }
@@ -98,6 +98,7 @@ session-held name old new from opened to between memory after end opens opening 
       counts = counts;
       promised = runs-promised by_desk before held.course.lines held.course.steps held.went.runs (subst IsWholeMemory opens.is opens.whole) (subst AreLinked opens.is opens.linked);
       counted = session-counted by_desk (streams old.source old.sink) (streams new.source new.sink) before new.shelf after end held left;
+      kept = session-saves by_desk (streams old.source old.sink) (streams new.source new.sink) before new.shelf after end held left;
     }
 
 pub held-ends : (held : SessionEnd → Type 0) (name : List ℕ) (old new : Outside) (from to : Counts) (end : SessionEnd) → held end → CommandsEnd held name old new from to (status_of_end end)
@@ -150,6 +151,7 @@ held-answered name old new from to held =
       left = held.left ∙ ap (λ (it : AtShelf NamedDesk). it.shelf) all.replied.left ∙ sym (runs-last by_desk before (command_lines course.read) course.steps runs);
       promised = held.promised;
       counted = subst (λ (lines : List (List ℕ)). CountsUnsaved saves old.shelf new.shelf lines course.steps) all.lines held.counted;
+      kept = held.kept;
     }
 
 -- ---- where no store failed

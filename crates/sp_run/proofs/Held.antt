@@ -16,20 +16,20 @@ held o files P holds is = subst (λ p. IfSome p P) is holds
 
 -- What stands under both names, as a shelf tells it, is answered so.
 pub held-both : (name script : List ℕ) (records : Option (List ℕ)) (shelf : Option Files) (files : Files) (P : List ℕ → Option (List ℕ) → Type 0) (Q : Option (List ℕ) → Option (List ℕ) → Type 0)
-    → ((s : List ℕ) (r : Option (List ℕ)) → P s r → Q (Some s) r) → IfSome shelf (λ held. held name ≡ Some script) → IfSome shelf (λ held. held (records_name name) ≡ records) → shelf ≡ Some files
-    → P script records → Q (files name) (files (records_name name))
+    → ((s : List ℕ) (r : Option (List ℕ)) → P s r → Q (Some s) r) → IfSome shelf (λ files. files.held name ≡ Some script) → IfSome shelf (λ files. files.held (records_name name) ≡ records) → shelf ≡ Some files
+    → P script records → Q (files.held name) (files.held (records_name name))
 held-both name script records shelf files P Q leads has beside is holds =
-    let found = held shelf files (λ fs. fs name ≡ Some script) has is in
-    let stands = held shelf files (λ fs. fs (records_name name) ≡ records) beside is in
-    subst (λ (o : Option (List ℕ)). Q o (files (records_name name))) (sym found) (leads script (files (records_name name)) (subst (P script) (sym stands) holds))
+    let found = held shelf files (λ fs. fs.held name ≡ Some script) has is in
+    let stands = held shelf files (λ fs. fs.held (records_name name) ≡ records) beside is in
+    subst (λ (o : Option (List ℕ)). Q o (files.held (records_name name))) (sym found) (leads script (files.held (records_name name)) (subst (P script) (sym stands) holds))
 
 -- What stands under the name is answered so, whatever stands beside it.
-pub held-one : (name script : List ℕ) (shelf : Option Files) (files : Files) (Q : Option (List ℕ) → Option (List ℕ) → Type 0) → IfSome shelf (λ held. held name ≡ Some script) → shelf ≡ Some files
-    → ((records : Option (List ℕ)) → Q (Some script) records) → Q (files name) (files (records_name name))
+pub held-one : (name script : List ℕ) (shelf : Option Files) (files : Files) (Q : Option (List ℕ) → Option (List ℕ) → Type 0) → IfSome shelf (λ files. files.held name ≡ Some script) → shelf ≡ Some files
+    → ((records : Option (List ℕ)) → Q (Some script) records) → Q (files.held name) (files.held (records_name name))
 held-one name script shelf files Q has is holds =
-    subst (λ (o : Option (List ℕ)). Q o (files (records_name name))) (sym (held shelf files (λ fs. fs name ≡ Some script) has is)) (holds (files (records_name name)))
+    subst (λ (o : Option (List ℕ)). Q o (files.held (records_name name))) (sym (held shelf files (λ fs. fs.held name ≡ Some script) has is)) (holds (files.held (records_name name)))
 
-pub held-none : (name : List ℕ) (shelf : Option Files) (files : Files) (Q : Option (List ℕ) → Option (List ℕ) → Type 0) → IfSome shelf (λ held. held name ≡ None) → shelf ≡ Some files
-    → ((records : Option (List ℕ)) → Q None records) → Q (files name) (files (records_name name))
+pub held-none : (name : List ℕ) (shelf : Option Files) (files : Files) (Q : Option (List ℕ) → Option (List ℕ) → Type 0) → IfSome shelf (λ files. files.held name ≡ None) → shelf ≡ Some files
+    → ((records : Option (List ℕ)) → Q None records) → Q (files.held name) (files.held (records_name name))
 held-none name shelf files Q has is holds =
-    subst (λ (o : Option (List ℕ)). Q o (files (records_name name))) (sym (held shelf files (λ fs. fs name ≡ None) has is)) (holds (files (records_name name)))
+    subst (λ (o : Option (List ℕ)). Q o (files.held (records_name name))) (sym (held shelf files (λ fs. fs.held name ≡ None) has is)) (holds (files.held (records_name name)))

@@ -88,17 +88,17 @@ some-longer count = record { bytes = replicate (count + 1) 0; long = omega (arit
 -- What a shelf has under a name that is too long, whether it tells or not.
 record TooMany (files : Option Files) (name : List ℕ) (texts : List (List ℕ)) : Type 0 where
   records : Option (List ℕ)
-  holds : IfSome files (λ held. held name ≡ records)
+  holds : IfSome files (λ files. files.held name ≡ records)
   refuses : RefusesBeside texts records (records_faults.BadForm 1)
 
 many-of : (found : Option (List ℕ)) (texts : List (List ℕ)) → IsSomeAnd found (λ bytes. file_limit < length bytes) → RefusesBeside texts found (records_faults.BadForm 1)
 many-of None texts long = absurd long
 many-of (Some bytes) texts long = early (long-breaks bytes long)
 
-too-many : (files : Option Files) (name : List ℕ) (texts : List (List ℕ)) → IfSome files (λ held. IsSomeAnd (held name) (λ bytes. file_limit < length bytes)) → TooMany files name texts
+too-many : (files : Option Files) (name : List ℕ) (texts : List (List ℕ)) → IfSome files (λ files. IsSomeAnd (files.held name) (λ bytes. file_limit < length bytes)) → TooMany files name texts
 too-many None name texts long =
     let it = some-longer file_limit in record { records = Some it.bytes; holds = tt; refuses = early (long-breaks it.bytes it.long) }
-too-many (Some held) name texts long = record { records = held name; holds = refl; refuses = many-of (held name) texts long }
+too-many (Some files) name texts long = record { records = files.held name; holds = refl; refuses = many-of (files.held name) texts long }
 
 -- ---- what the shelf has beside lines
 

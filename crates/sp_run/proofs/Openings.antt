@@ -56,8 +56,8 @@ none-unopened origin old new sink shelf after statuses.InputFull it = absurd it
 none-unopened origin old new sink shelf after (statuses.BadSheets file sheet) it = absurd it
 none-unopened origin old new sink shelf after statuses.NotLocked it = absurd it
 
-too-long-held : (files : Option Files) (name script : List ℕ) → IfSome files (λ held. held name ≡ Some script) → printing_of script ≡ too_long
-    → IfSome files (λ held. IsSomeAnd (held name) (λ it. printing_of it ≡ too_long))
+too-long-held : (files : Option Files) (name script : List ℕ) → IfSome files (λ files. files.held name ≡ Some script) → printing_of script ≡ too_long
+    → IfSome files (λ files. IsSomeAnd (files.held name) (λ it. printing_of it ≡ too_long))
 too-long-held None name script has long = tt
 too-long-held (Some held) name script has long = subst (λ (o : Option (List ℕ)). IsSomeAnd o (λ it. printing_of it ≡ too_long)) (sym has) long
 
@@ -96,7 +96,7 @@ same-then : (shelf mid after : ShelfState) → SameShelf shelf mid → SameShelf
 same-then shelf mid after one other = record { files = other.files ∙ one.files; faults = other.faults ∙ one.faults }
 
 holds-then : (shelf mid : ShelfState) (name : List ℕ) (held : Option (List ℕ)) → SameShelf shelf mid → Holds mid name held → Holds shelf name held
-holds-then shelf mid name held same holds = subst (λ (files : Option Files). IfSome files (λ those. those name ≡ held)) same.files holds
+holds-then shelf mid name held same holds = subst (λ (files : Option Files). IfSome files (λ those. those.held name ≡ held)) same.files holds
 
 -- What was found there opens the script.
 pub found-opens : (name : List ℕ) (old new : SourceState) (shelf mid after : ShelfState) (script : List ℕ) (text : LinesState) (state : State) → HadScript (from_file name) old new shelf mid script → HasLines script text

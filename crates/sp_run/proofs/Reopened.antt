@@ -45,8 +45,8 @@ save-left name state old new files told saves =
 -- And a session that opens it has the state that was saved.
 pub saved-reopened : (shelf : ShelfState) (name : List ℕ) (state other : State) → IsWhole state → HasSaved shelf name state → HasState shelf name other → other ≡ state
 saved-reopened shelf name state other whole saved has =
-    let named : saved.files name ≡ Some has.script = subst (λ (held : Option Files). IfSome held (λ files. files name ≡ Some has.script)) saved.told has.has in
-    let beside : saved.files (records_name name) ≡ has.records = subst (λ (held : Option Files). IfSome held (λ files. files (records_name name) ≡ has.records)) saved.told has.beside in
+    let named : saved.files.held name ≡ Some has.script = subst (λ (held : Option Files). IfSome held (λ files. files.held name ≡ Some has.script)) saved.told has.has in
+    let beside : saved.files.held (records_name name) ≡ has.records = subst (λ (held : Option Files). IfSome held (λ files. files.held (records_name name) ≡ has.records)) saved.told has.beside in
     let script : has.script ≡ (files_of name state).bytes = some-one has.script (files_of name state).bytes (sym named ∙ saved.text) in
     opens-one (files_of name state).bytes (Some (files_of name state).records) other state
     (subst (λ (bytes : List ℕ). OpensAs bytes (Some (files_of name state).records) other) script

@@ -39,7 +39,7 @@ use Rattle.sp_run.proofs.Held.{not-risen}
 use Rattle.sp_run.proofs.DeskAnswers.{session-answers}
 use Rattle.sp_run.proofs.DeskSessions.{same-shelf}
 use Rattle.sp_run.proofs.Seats.{Goes, goes-on, stays-on}
-use Rattle.sp_run.proofs.Touches.{Touches, Halts, Way, unsaved_line, other-line, session-counted, runs-promised, runs-last, runs-calm, session-others}
+use Rattle.sp_run.proofs.Touches.{Touches, Halts, Way, unsaved_line, other-line, session-counted, runs-promised, runs-last, runs-calm, session-others, session-saves}
 use Rattle.spec_session.proofs.EndLaws.{ends-settle}
 use Rattle.sp_run.specs.Statuses.{status_of_end}
 
@@ -74,7 +74,7 @@ answer-touches before line after bytes it = by it.replies
     by (inr failed) = record { named = ap (λ (r : NamedRoom). r.name) failed.same; stored = inr (record { saves = failed.asks; failed = failed.failed }); follows = it.follows }
 
 stop-halts : (before : AtShelf NamedRoom) (line : List ℕ) (after : AtShelf NamedRoom) → StopsAtRoomLine before line after → Halts (seat_saves line) (desk_of_room before) (desk_of_room after)
-stop-halts before line after it = record { named = it.stops.name; leaves = it.stops.leaves }
+stop-halts before line after it = record { named = it.stops.name; memory = ap (λ (r : RoomState). r.desk) it.stops.room; leaves = it.stops.leaves }
 
 abbrev by_room : Way
 by_room = record { It = NamedRoom; desk = desk_in; saves = seat_saves; answers = AnswersRoomLine; stops = StopsAtRoomLine; touches = answer-touches; halts = stop-halts }
@@ -122,6 +122,7 @@ room-held name old new from opened to between memory after end opens_as opening 
       promised = runs-promised by_room before held.course.lines held.course.steps held.went.runs whole (subst AreLinked opens_as.is opens_as.linked);
       seen = runs-taken opens_as.state [] before (opens_as.state.lines ∷ []) held.course.lines held.course.steps whole.state opens held.went.runs;
       counted = session-counted by_room (streams old.source old.sink) (streams new.source new.sink) before new.shelf after end held left;
+      kept = session-saves by_room (streams old.source old.sink) (streams new.source new.sink) before new.shelf after end held left;
     }
 
 -- A session that was held to its end.
@@ -148,11 +149,12 @@ room-answered name old new from to held =
       promised = held.promised;
       seen = subst (λ (lines : List (List ℕ)). AreTakenSeen room (held.state.lines ∷ []) lines course.steps) all.lines held.seen;
       counted = subst (λ (lines : List (List ℕ)). CountsUnsaved seat_saves old.shelf new.shelf lines course.steps) all.lines held.counted;
+      kept = held.kept;
     }
 
 -- A room's session ends as the command lines ask for.
 pub room-settles : (name : List ℕ) (old new : Outside) (from to : Counts) → FailedNothing (streams old.source old.sink) (streams new.source new.sink) → (files : Files) → old.shelf.files ≡ Some files → (input : List ℕ)
-    → old.source.unread ≡ Some input → (end : SessionEnd) → HeldRoom name old new from to end → AnswersDesk name (files name) (files (records_name name)) input (status_of_end end)
+    → old.source.unread ≡ Some input → (end : SessionEnd) → HeldRoom name old new from to end → AnswersDesk name (files.held name) (files.held (records_name name)) input (status_of_end end)
 room-settles name old new from to calm files is input told end held =
     session-answers name old end held.state held.has input
     (ends-settle AnswersRoomLine StopsAtRoomLine (streams old.source old.sink) (streams new.source new.sink) (room_at name (opened_room (opened_memory held.state)) old.shelf held.opened) held.after end held.ends calm input told) files is

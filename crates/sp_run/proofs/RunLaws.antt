@@ -136,7 +136,7 @@ module _ {I O F S : Type 0} {words : List (String Global)} {old new : World I O 
   pub run-answers-file : (view : View) (name : List ℕ) → asked_in words ≡ Some (show view (from_file name))
       → new.told.shelf.faults ≡ old.told.shelf.faults → new.told.sink.faults ≡ old.told.sink.faults
       → old.told.shelf.faults < 2 ^ 64 - 1 → old.told.sink.faults < 2 ^ 64 - 1 → (files : Files) → old.told.shelf.files ≡ Some files
-      → AnswersFile view name (files name) (files (records_name name)) status
+      → AnswersFile view name (files.held name) (files.held (records_name name)) status
   run-answers-file view name is fetches writes low below = answers-file view name old.told new.told status
       (run-ends (show view (from_file name)) is).0 fetches writes low below
 
@@ -189,7 +189,7 @@ module _ {I O F S : Type 0} {words : List (String Global)} {old new : World I O 
       → FailedNothing (streams old.told.source old.told.sink) (streams new.told.source new.told.sink)
       → new.told.shelf.faults ≡ old.told.shelf.faults → old.told.shelf.faults < 2 ^ 64 - 1 → (files : Files)
       → old.told.shelf.files ≡ Some files
-      → (input : List ℕ) → old.told.source.unread ≡ Some input → AnswersDesk name (files name) (files (records_name name)) input status
+      → (input : List ℕ) → old.told.source.unread ≡ Some input → AnswersDesk name (files.held name) (files.held (records_name name)) input status
   run-answers-desk name is calm fetches low files has input told =
       commands-answer (HeldSession name old.told new.told old.counts new.counts) name old.told new.told old.counts new.counts status
       (run-ends (desk name) is) fetches low files has input
@@ -241,7 +241,7 @@ module _ {I O F S : Type 0} {words : List (String Global)} {old new : World I O 
       → FailedNothing (streams old.told.source old.told.sink) (streams new.told.source new.told.sink)
       → new.told.shelf.faults ≡ old.told.shelf.faults → old.told.shelf.faults < 2 ^ 64 - 1 → (files : Files)
       → old.told.shelf.files ≡ Some files
-      → (input : List ℕ) → old.told.source.unread ≡ Some input → AnswersDesk name (files name) (files (records_name name)) input status
+      → (input : List ℕ) → old.told.source.unread ≡ Some input → AnswersDesk name (files.held name) (files.held (records_name name)) input status
   run-answers-room name is calm fetches low files has input told =
       commands-answer (HeldRoom name old.told new.told old.counts new.counts) name old.told new.told old.counts new.counts status
       (run-ends (room name) is) fetches low files has input
@@ -280,7 +280,7 @@ module _ {I O F S : Type 0} {words : List (String Global)} {old new : World I O 
   pub run-answers-collation : (one other : List ℕ) → asked_in words ≡ Some (collate one other)
       → new.told.shelf.faults ≡ old.told.shelf.faults → new.told.sink.faults ≡ old.told.sink.faults
       → old.told.shelf.faults < 2 ^ 64 - 1 → old.told.sink.faults < 2 ^ 64 - 1 → (files : Files) → old.told.shelf.files ≡ Some files
-      → AnswersFate (fate_of one other (files one) (files other)) status
+      → AnswersFate (fate_of one other (files.held one) (files.held other)) status
   run-answers-collation one other is fetches writes low below =
       answers-fate one other old.told.shelf new.told.shelf old.told.sink new.told.sink status
       (run-ends (collate one other) is).0 fetches writes low below

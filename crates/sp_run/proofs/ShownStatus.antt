@@ -102,7 +102,7 @@ no_memory-answers view name (Some script) records = tt
 
 -- The status that a run ended with is the one that what stands under the name and beside it asks for, or there is no memory.
 pub answers-file : (view : View) (name : List ℕ) (old new : Outside) (status : Status) → ShowEnds view (from_file name) old new status → new.shelf.faults ≡ old.shelf.faults → new.sink.faults ≡ old.sink.faults
-    → old.shelf.faults < 2 ^ 64 - 1 → old.sink.faults < 2 ^ 64 - 1 → (files : Files) → old.shelf.files ≡ Some files → AnswersFile view name (files name) (files (records_name name)) status
+    → old.shelf.faults < 2 ^ 64 - 1 → old.sink.faults < 2 ^ 64 - 1 → (files : Files) → old.shelf.files ≡ Some files → AnswersFile view name (files.held name) (files.held (records_name name)) status
 answers-file view name old new statuses.Done ends fetches writes low below files is =
     held-both name ends.had.script ends.had.records old.shelf.files files (OpensWith view) (λ o r. AnswersFile view name o r statuses.Done) (λ s r opens. opens) ends.had.had.0 ends.had.beside is (ends.state, ends.had.opens, ends.has)
 answers-file view name old new statuses.Usage ends fetches writes low below files is = absurd ends
@@ -113,7 +113,7 @@ answers-file view name old new (statuses.BadText (faults.NotUtf8 place)) ends fe
 answers-file view name old new (statuses.BadText (faults.LineFull place)) ends fetches writes low below files is =
     held-one name ends.script old.shelf.files files (λ o r. AnswersFile view name o r (statuses.BadText (faults.LineFull place))) ends.had.0 is (λ r. ends.becomes)
 answers-file view name old new (statuses.BadText faults.TextFull) ends fetches writes low below files is =
-    long-answers view name (files name) (files (records_name name)) (held old.shelf.files files (λ fs. IsSomeAnd (fs name) (λ script. printing_of script ≡ too_long)) ends.long.0 is)
+    long-answers view name (files.held name) (files.held (records_name name)) (held old.shelf.files files (λ fs. IsSomeAnd (fs.held name) (λ script. printing_of script ≡ too_long)) ends.long.0 is)
 answers-file view name old new (statuses.BadText faults.NoMemory) ends fetches writes low below files is = absurd ends
 answers-file view name old new statuses.ReadFault ends fetches writes low below files is = absurd ends.failed
 answers-file view name old new statuses.WriteFault ends fetches writes low below files is = absurd (not-risen old.sink.faults new.sink.faults ends.rose writes below)
@@ -121,7 +121,7 @@ answers-file view name old new statuses.ShelfFault ends fetches writes low below
 answers-file view name old new (statuses.BadRecords fault) ends fetches writes low below files is =
     held-both name ends.script ends.records old.shelf.files files (λ s r. RefusesRecords s r fault) (λ o r. AnswersFile view name o r (statuses.BadRecords fault)) (λ s r refuses. refuses) ends.had.0 ends.beside is
     ends.refuses
-answers-file view name old new statuses.NoMemory ends fetches writes low below files is = no_memory-answers view name (files name) (files (records_name name))
+answers-file view name old new statuses.NoMemory ends fetches writes low below files is = no_memory-answers view name (files.held name) (files.held (records_name name))
 answers-file view name old new (statuses.CommandLong number) ends fetches writes low below files is = absurd ends
 answers-file view name old new statuses.InputFull ends fetches writes low below files is = absurd ends
 answers-file view name old new (statuses.BadSheets file sheet) ends fetches writes low below files is = absurd ends

@@ -31,11 +31,20 @@ changes-none old new P stays same = subst (λ (it : Option Files). Changes old i
     own None = tt
     own (Some files) = stays files
 
-pub changes-then : (old mid new : Option Files) (P : Files → Files → Type 0) → ((one two three : Files) → P one two → P two three → P one three) → Changes old mid P → Changes mid new P → Changes old new P
-changes-then None mid new P joins first second = tt
-changes-then (Some old) None new P joins first second = absurd first
-changes-then (Some old) (Some mid) None P joins first second = absurd second
-changes-then (Some old) (Some mid) (Some new) P joins first second = joins old mid new first second
+pub changes-both : (old new : Option Files) (P Q R : Files → Files → Type 0) → ((before now : Files) → P before now → Q before now → R before now) → Changes old new P → Changes old new Q → Changes old new R
+changes-both None new P Q R joins one other = tt
+changes-both (Some old) None P Q R joins one other = absurd one
+changes-both (Some old) (Some new) P Q R joins one other = joins old new one other
+
+pub changes-on : (old mid new : Option Files) (P Q R : Files → Files → Type 0) → ((one two three : Files) → P one two → Q two three → R one three) → Changes old mid P → Changes mid new Q → Changes old new R
+changes-on None mid new P Q R joins first second = tt
+changes-on (Some old) None new P Q R joins first second = absurd first
+changes-on (Some old) (Some mid) None P Q R joins first second = absurd second
+changes-on (Some old) (Some mid) (Some new) P Q R joins first second = joins old mid new first second
+
+-- Files that stay keep all names.
+pub keeps-itself : (files : Files) (one other : List ℕ) → KeepsAllBut files files one other
+keeps-itself files one other = record { names = λ name not-first not-second. refl; atomic = refl }
 
 -- ---- two stores
 
@@ -44,7 +53,7 @@ pub put-others : (it : TwoFiles) (old new : Files) → PutBoth it old new → Ke
 put-others it old new put = put.others
 
 failed-one : (it : TwoFiles) (old new : Files) → KeepsOthers old new it.name ⊎ PutFirst it old new → KeepsAllBut old new it.name it.beside
-failed-one it old new (inl others) = λ name not-first not-second. others name not-first
+failed-one it old new (inl others) = record { names = λ name not-first not-second. others.names name not-first; atomic = others.atomic }
 failed-one it old new (inr put) = put.others
 
 pub failed-others : (it : TwoFiles) (old new : ShelfState) → StoreFailed it old new → Changes old.files new.files (λ before now. KeepsAllBut before now it.name it.beside)
@@ -53,7 +62,7 @@ failed-others it old new failed =
 
 pub left-others : (it : TwoFiles) (old new : ShelfState) → StoreLeft it old new → Changes old.files new.files (λ before now. KeepsAllBut before now it.name it.beside)
 left-others it old new left =
-    changes-map old.files new.files (LeftFirst it) (λ before now. KeepsAllBut before now it.name it.beside) (λ before now first. λ name not-first not-second. first.others name not-first) left.files
+    changes-map old.files new.files (LeftFirst it) (λ before now. KeepsAllBut before now it.name it.beside) (λ before now first. failed-one it before now (inl first.others)) left.files
 
 -- The files of a state, by their parts.
 pub files-as : (name : List ℕ) (state : State) (it : TwoFiles) → it.name ≡ name → it.bytes ≡ text_bytes state.lines → it.beside ≡ records_name name → it.records ≡ written state.lines (state_kept state)
@@ -64,7 +73,7 @@ files-as name state it named text beside records = λ i. record { name = named i
 
 nothing-left : (it : TwoFiles) (same : ShelfState) → StoreLeft it same same
 nothing-left it same =
-    record { kept = refl; files = changes-none same.files same.files (LeftFirst it) (λ files. record { first = inl refl; others = λ name other. refl }) refl }
+    record { kept = refl; files = changes-none same.files same.files (LeftFirst it) (λ files. record { first = inl refl; others = record { names = λ name other. refl; atomic = refl } }) refl }
 
 -- Where nothing was stored, the shelf is as it was.
 pub unstored-left : {T E : Type 0} (result : Result T E) (it : TwoFiles) (same : ShelfState) → OnErr result (StoreLeft it same same)

@@ -1,6 +1,6 @@
 -- What sessions do to the shelf and the desk that they have, whatever answers their lines: a desk, or the room round it.
-use Rattle.std.proofs.Common.{◌≡◌, ℕ, zero, suc, ◌+◌, ◌-◌, ◌^◌, ◌<◌, ◌≤◌, ◌⊎◌, Some, None, List, [], ◌∷◌, inl, inr, refl, sym, ap, ◌∙◌, subst, arith}
-use Rattle.std.specs.Prelude.{Bool, true, false, ◌&&◌, if◌then◌else◌, slice_get, slice_index_or}
+use Rattle.std.proofs.Common.{◌≡◌, ℕ, zero, suc, ◌+◌, ◌-◌, ◌^◌, ◌<◌, ◌≤◌, ◌≢◌, ◌⊎◌, Some, None, List, [], ◌∷◌, inl, inr, refl, sym, ap, ◌∙◌, subst, arith}
+use Rattle.std.specs.Prelude.{Bool, true, false, ◌&&◌, if◌then◌else◌, IsTrue, slice_get, slice_index_or}
 use Rattle.std.specs.Str.{bytes_eq}
 use Rattle.std.proofs.lemmas.Slice.Eq.{bytes_eq-Decides}
 use Rattle.json.proofs.OnLiterals.{json_on_literals}
@@ -14,14 +14,15 @@ use Rattle.spec_wire.specs.Replies.{refused, reply_line}
 use Rattle.spec_machine.specs.Machine.{Memory}
 use Rattle.spec_machine.specs.KeptMemories.{IsWholeMemory}
 use Rattle.spec_locked_pages.specs.Chains.{AreLinked}
-use Rattle.sp_kit.specs.Files.{Files, ShelfState}
+use Rattle.spec_state.specs.State.{State}
+use Rattle.sp_kit.specs.Files.{Files, ShelfState, HasOldOrNew}
 use Rattle.sp_run.specs.Records.{records_name}
-use Rattle.sp_run.specs.Saving.{Changes, KeepsAllBut, PutBoth, StoreFailed, files_of}
+use Rattle.sp_run.specs.Saving.{Changes, KeepsAllBut, KeepsOrPuts, LeftFirst, PutBoth, StoreFailed, TwoFiles, files_of}
 use Rattle.sp_run.specs.DeskLines.{NamedDesk, Stores, Leaves, memories_of, shelf_behind, unsaved_count}
 use Rattle.sp_run.specs.Promises.{ArePromised, Follows, KeepsPromises}
-use Rattle.sp_run.specs.DeskEnding.{CountsUnsaved}
+use Rattle.sp_run.specs.DeskEnding.{CountsUnsaved, HasOldOrOne, IsAmong, KeepsOrSaves, KeepsSaved}
 use Rattle.sp_run.proofs.PromiseLaws.{follows-itself, follows-on, follows-promised}
-use Rattle.sp_run.proofs.Stores.{changes-map, changes-none, changes-then, failed-others, left-others, put-others}
+use Rattle.sp_run.proofs.Stores.{changes-both, changes-map, changes-none, changes-on, failed-others, keeps-itself, left-others, names-differ, put-others}
 
 -- The line of a save that wasn't done, since a store failed.
 abbrev pub unsaved_line : List ℕ
@@ -46,6 +47,7 @@ pub record Touches (asks : Bool) (before after : AtShelf NamedDesk) (bytes : Lis
 -- What want of memory does to them.
 pub record Halts (asks : Bool) (before after : AtShelf NamedDesk) : Type 0 where
   pub named : after.it.name ≡ before.it.name
+  pub memory : after.it.memory ≡ before.it.memory
   pub leaves : Leaves asks before after
 
 -- A way to answer lines: the desk that it has, which lines it takes as saves, how it answers, and how want of memory leaves it.
@@ -236,7 +238,10 @@ pub record KeepsTo (name : List ℕ) (old : ShelfState) (now : AtShelf NamedDesk
   pub others : Changes old.files now.shelf.files (λ before after. KeepsAllBut before after name (records_name name))
 
 others-then : (name : List ℕ) (one two three : Files) → KeepsAllBut one two name (records_name name) → KeepsAllBut two three name (records_name name) → KeepsAllBut one three name (records_name name)
-others-then name one two three first second = λ other not-first not-second. second other not-first not-second ∙ first other not-first not-second
+others-then name one two three first second = record {
+  names = λ other not-first not-second. second.names other not-first not-second ∙ first.names other not-first not-second;
+  atomic = second.atomic ∙ first.atomic;
+}
 
 -- What a desk did to the shelf kept other files.
 abbrev Others : AtShelf NamedDesk → AtShelf NamedDesk → Type 0
@@ -244,7 +249,7 @@ Others before after = Changes before.shelf.files after.shelf.files (λ old new. 
 
 same-others : (before after : AtShelf NamedDesk) → after.shelf ≡ before.shelf → Others before after
 same-others before after same =
-    changes-none before.shelf.files after.shelf.files (λ old new. KeepsAllBut old new before.it.name (records_name before.it.name)) (λ files name not-first not-second. refl)
+    changes-none before.shelf.files after.shelf.files (λ old new. KeepsAllBut old new before.it.name (records_name before.it.name)) (λ files. keeps-itself files before.it.name (records_name before.it.name))
     (ap (λ (it : ShelfState). it.files) same)
 
 stores-others : (asks : Bool) (before after : AtShelf NamedDesk) → Stores asks before after → Others before after
@@ -264,7 +269,8 @@ touches-others asks before after bytes (inr not) = failed-others (files_of befor
 keeps-more : (name : List ℕ) (old : ShelfState) (before after : AtShelf NamedDesk) → after.it.name ≡ before.it.name → Others before after → KeepsTo name old before → KeepsTo name old after
 keeps-more name old before after same others keeps = record {
   named = same ∙ keeps.named;
-  others = changes-then old.files before.shelf.files after.shelf.files (λ one other. KeepsAllBut one other name (records_name name)) (others-then name) keeps.others
+  others = changes-on old.files before.shelf.files after.shelf.files (λ one other. KeepsAllBut one other name (records_name name))
+      (λ one other. KeepsAllBut one other name (records_name name)) (λ one other. KeepsAllBut one other name (records_name name)) (others-then name) keeps.others
       (subst (λ (n : List ℕ). Changes before.shelf.files after.shelf.files (λ one other. KeepsAllBut one other n (records_name n))) keeps.named others);
 }
 
@@ -281,3 +287,125 @@ session-others way streams others begun after end ends =
     let it = way.halts one line other stops in
     keeps-more name begun.shelf (desk_seen way one) (desk_seen way other) it.named (leaves-others (way.saves line) (desk_seen way one) (desk_seen way other) it.leaves))
     streams others begun after end ends start).others
+
+-- ---- what is left of both files, where they are atomic
+
+-- What an answer leaves of both files.
+pub record Puts (it : TwoFiles) (old new : Files) : Type 0 where
+  pub atomic : new.atomic ≡ old.atomic
+  pub files : IsTrue old.atomic → KeepsOrPuts it old new
+
+abbrev Both : AtShelf NamedDesk → AtShelf NamedDesk → Type 0
+Both before after = Changes before.shelf.files after.shelf.files (Puts (files_of before.it.name before.it.memory.state))
+
+puts-both : (it : TwoFiles) (old new : Files) → PutBoth it old new → Puts it old new
+puts-both it old new put = record { atomic = put.others.atomic; files = λ is. record { first = inr put.first; second = inr put.second; others = put.others } }
+
+puts-none : (it : TwoFiles) (files : Files) → Puts it files files
+puts-none it files = record { atomic = refl; files = λ is. record { first = inl refl; second = inl refl; others = keeps-itself files it.name it.beside } }
+
+-- The first file of two that differ in name was stored, or none.
+puts-first : (it : TwoFiles) → it.name ≢ it.beside → (old new : Files) → LeftFirst it old new → Puts it old new
+puts-first it differ old new left = record {
+  atomic = left.others.atomic;
+  files = λ is. record {
+    first = left.first;
+    second = inl (left.others.names it.beside (λ same. differ (sym same)));
+    others = record { names = λ name not-first not-second. left.others.names name not-first; atomic = left.others.atomic };
+  };
+}
+
+puts-failed : (it : TwoFiles) (old new : ShelfState) → StoreFailed it old new → Changes old.files new.files (Puts it)
+puts-failed it old new failed = changes-both old.files new.files (λ before now. KeepsAllBut before now it.name it.beside) (λ before now. IsTrue before.atomic → KeepsOrPuts it before now) (Puts it)
+    (λ before now others kept. record { atomic = others.atomic; files = kept }) (failed-others it old new failed) failed.kept
+
+same-both : (before after : AtShelf NamedDesk) → after.shelf ≡ before.shelf → Both before after
+same-both before after same =
+    let it = files_of before.it.name before.it.memory.state in
+    changes-none before.shelf.files after.shelf.files (Puts it) (puts-none it) (ap (λ (shelf : ShelfState). shelf.files) same)
+
+stores-both : (asks : Bool) (before after : AtShelf NamedDesk) → Stores asks before after → Both before after
+stores-both true before after stores =
+    let it = files_of before.it.name before.it.memory.state in changes-map before.shelf.files after.shelf.files (PutBoth it) (Puts it) (puts-both it) stores.stored.files
+stores-both false before after stores = same-both before after stores
+
+leaves-both : (asks : Bool) (before after : AtShelf NamedDesk) → Leaves asks before after → Both before after
+leaves-both true before after leaves =
+    let it = files_of before.it.name before.it.memory.state in
+    changes-map before.shelf.files after.shelf.files (LeftFirst it) (Puts it) (puts-first it (names-differ before.it.name)) leaves.files
+leaves-both false before after leaves = same-both before after leaves
+
+touches-both : (asks : Bool) (before after : AtShelf NamedDesk) (bytes : List ℕ) → Stored asks before after bytes ⊎ Failed asks before after → Both before after
+touches-both asks before after bytes (inl done) = stores-both asks before after done.stores
+touches-both asks before after bytes (inr not) = puts-failed (files_of before.it.name before.it.memory.state) before.shelf after.shelf not.failed
+
+-- What stands under both names, with what some answers left of it.
+pub record HasSaves (name : List ℕ) (memories : List Memory) (old new : Files) : Type 0 where
+  pub atomic : new.atomic ≡ old.atomic
+  pub files : IsTrue old.atomic → KeepsOrSaves name memories old new
+
+one-more : (bytes : State → List ℕ) (memories : List Memory) (memory : Memory) (one two three : Files) (name : List ℕ) → IsAmong memories memory → HasOldOrOne bytes memories one two name
+    → HasOldOrNew two three name (bytes memory.state) → HasOldOrOne bytes memories one three name
+one-more bytes memories memory one two three name among (inl stood) (inl same) = inl (same ∙ stood)
+one-more bytes memories memory one two three name among (inr (other, is_among, stands)) (inl same) = inr (other, is_among, same ∙ stands)
+one-more bytes memories memory one two three name among before (inr put) = inr (memory, among, put)
+
+saves-more : (name : List ℕ) (memories : List Memory) (memory : Memory) → IsAmong memories memory → (one two three : Files) → HasSaves name memories one two → Puts (files_of name memory.state) two three
+    → HasSaves name memories one three
+saves-more name memories memory among one two three first second = record {
+  atomic = second.atomic ∙ first.atomic;
+  files = λ is.
+      let before = first.files is in
+      let put = second.files (subst IsTrue (sym first.atomic) is) in
+      record {
+        text = one-more (λ (state : State). (files_of name state).bytes) memories memory one two three name among before.text put.first;
+        records = one-more (λ (state : State). (files_of name state).records) memories memory one two three (records_name name) among before.records put.second;
+      };
+}
+
+-- It is the desk of this name, its memory is one of these, and so are those whose files were stored.
+pub record KeepsSaves (name : List ℕ) (memories : List Memory) (old : ShelfState) (now : AtShelf NamedDesk) : Type 0 where
+  pub named : now.it.name ≡ name
+  pub among : IsAmong memories now.it.memory
+  pub files : Changes old.files now.shelf.files (HasSaves name memories)
+
+keeps-saves : (name : List ℕ) (memories : List Memory) (old : ShelfState) (before after : AtShelf NamedDesk) → after.it.name ≡ before.it.name → IsAmong memories after.it.memory → Both before after
+    → KeepsSaves name memories old before → KeepsSaves name memories old after
+keeps-saves name memories old before after same among both keeps = record {
+  named = same ∙ keeps.named;
+  among = among;
+  files = changes-on old.files before.shelf.files after.shelf.files (HasSaves name memories) (Puts (files_of name before.it.memory.state)) (HasSaves name memories)
+      (saves-more name memories before.it.memory keeps.among) keeps.files
+      (subst (λ (n : List ℕ). Changes before.shelf.files after.shelf.files (Puts (files_of n before.it.memory.state))) keeps.named both);
+}
+
+runs-saves : (way : Way) (name : List ℕ) (memories : List Memory) (old : ShelfState) (before : AtShelf way.It) (lines : List (List ℕ)) (steps : List (Answered (AtShelf way.It))) → Runs way.answers before lines steps
+    → ((memory : Memory) → IsAmong (memories_of way.desk (seen way before) steps) memory → IsAmong memories memory) → KeepsSaves name memories old (desk_seen way before)
+    → KeepsSaves name memories old (desk_seen way (left_by before steps))
+runs-saves way name memories old before [] [] runs among keeps = keeps
+runs-saves way name memories old before [] (step ∷ steps) runs among keeps = absurd runs
+runs-saves way name memories old before (line ∷ lines) [] runs among keeps = absurd runs
+runs-saves way name memories old before (line ∷ lines) (step ∷ steps) runs among keeps =
+    let it = way.touches before line step.after step.reply runs.0 in
+    runs-saves way name memories old step.after lines steps runs.1 (λ memory is. among memory (suc is.0, is.1))
+    (keeps-saves name memories old (desk_seen way before) (desk_seen way step.after) it.named (among (seen way step.after) (1, refl))
+    (touches-both (way.saves line) (desk_seen way before) (desk_seen way step.after) step.reply it.stored) keeps)
+
+pub session-saves : (way : Way) (streams others : Streams) (begun : AtShelf way.It) (left : ShelfState) (after : AtShelf way.It) (end : SessionEnd)
+    → (ends : SessionEnds way.answers way.stops streams others begun after end) → left ≡ after.shelf
+    → KeepsSaved (way.desk begun.it).name (memories_of way.desk (seen way begun) ends.course.steps) begun.shelf left
+session-saves way streams others begun left after end ends same =
+    let name = (way.desk begun.it).name in
+    let memories = memories_of way.desk (seen way begun) ends.course.steps in
+    let none : (files : Files) → HasSaves name memories files files = λ files. record { atomic = refl; files = λ is. record { text = inl refl; records = inl refl } } in
+    let start : KeepsSaves name memories begun.shelf (desk_seen way begun) =
+    record { named = refl; among = (0, refl); files = changes-none begun.shelf.files begun.shelf.files (HasSaves name memories) none refl } in
+    let behind = runs-saves way name memories begun.shelf begun ends.course.lines ends.course.steps ends.went.runs (λ memory is. is) start in
+    let end_keeps = ends_as-keep way.stops (λ (it : AtShelf way.It). KeepsSaves name memories begun.shelf (desk_seen way it))
+    (λ one line other stops keeps.
+    let it = way.halts one line other stops in
+    keeps-saves name memories begun.shelf (desk_seen way one) (desk_seen way other) it.named (subst (IsAmong memories) (sym it.memory) keeps.among)
+    (leaves-both (way.saves line) (desk_seen way one) (desk_seen way other) it.leaves) keeps)
+    streams others begun after ends.course end ends.ends behind in
+    subst (KeepsSaved name memories begun.shelf) (sym same)
+    (changes-map begun.shelf.files after.shelf.files (HasSaves name memories) (λ before now. IsTrue before.atomic → KeepsOrSaves name memories before now) (λ before now it. it.files) end_keeps.files)

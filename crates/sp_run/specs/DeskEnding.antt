@@ -1,5 +1,5 @@
 -- How a session of a desk ends (docs/RULES.md, "Sessions").
-use Rattle.std.specs.Prelude.{◌≡◌, ℕ, ◌+◌, ◌-◌, ◌^◌, ◌<◌, ◌≤◌, ◌⊎◌, Bool, List, string_bytes, Option, Some, None}
+use Rattle.std.specs.Prelude.{◌≡◌, ℕ, ◌+◌, ◌-◌, ◌^◌, ◌<◌, ◌≤◌, ◌⊎◌, Bool, IsTrue, List, slice_get, string_bytes, Option, Some, None}
 use Rattle.std.specs.Io.KnownBytes.{Appends, Consumes, IsAtEnd}
 use Rattle.spec_state.specs.State.{State}
 use Rattle.spec_machine.specs.Machine.{Memory, opened_memory}
@@ -9,7 +9,7 @@ use Rattle.spec_session.specs.Sessions.{SessionEnds, streams}
 use Rattle.spec_session.specs.declared.SessionEnd.{SessionEnd}
 use Rattle.spec_session.specs.declared.SessionEnd.TheVariants as endings
 use Rattle.spec_state.specs.Printing.{no_utf8, long_line, printing_of}
-use Rattle.sp_kit.specs.Files.{ShelfState}
+use Rattle.sp_kit.specs.Files.{Files, ShelfState}
 use Rattle.sp_text.specs.declared.fault.TextFault.TheVariants as faults
 use Rattle.sp_run.specs.declared.status.Status.{Status}
 use Rattle.sp_run.specs.declared.status.Status.TheVariants as statuses
@@ -21,12 +21,30 @@ use Rattle.sp_run.specs.Counted.{OpeningCounts}
 use Rattle.sp_run.specs.DeskLines.{AnswersLine, NamedDesk, StopsAtLine, answered_lines, desk_at, desk_itself, memories_of, saves, shelf_behind, unsaved_count}
 use Rattle.sp_run.specs.Promises.{ArePromised}
 use Rattle.sp_run.specs.Opening.{SameShelf, HasState}
-use Rattle.sp_run.specs.Records.{OpensAs, RefusesRecords}
+use Rattle.sp_run.specs.Records.{OpensAs, RefusesRecords, records_name}
+use Rattle.sp_run.specs.Saving.{Changes, files_of}
 use Rattle.sp_run.specs.Unopened.{Outside, FetchFailed, FoundNone, NotOpened, RecordsRefused, Refused, Refuses, SaysNoFile, TooLong}
 
 -- Each save, by this test, that failed raised the shelf's count of faults, where the count can tell.
 abbrev pub CountsUnsaved : {R : Type 0} → (List ℕ → Bool) → ShelfState → ShelfState → List (List ℕ) → List (Answered R) → Type 0
 CountsUnsaved test old new asked steps = new.faults < 2 ^ 64 - 1 → old.faults + unsaved_count test asked steps ≤ new.faults
+
+-- One of these memories.
+abbrev pub IsAmong : List Memory → Memory → Type 0
+IsAmong memories memory = (j : ℕ) × (slice_get memories j ≡ Some memory)
+
+-- Under a name stands what stood there, or these bytes of the state of one of these memories.
+abbrev pub HasOldOrOne : (State → List ℕ) → List Memory → Files → Files → List ℕ → Type 0
+HasOldOrOne bytes memories old new name = (new.held name ≡ old.held name) ⊎ ((memory : Memory) × IsAmong memories memory × (new.held name ≡ Some (bytes memory.state)))
+
+-- A script and its records are as they were, or each as a save of one of these memories stores it.
+pub record KeepsOrSaves (name : List ℕ) (memories : List Memory) (old new : Files) : Type 0 where
+  pub text : HasOldOrOne (λ state. (files_of name state).bytes) memories old new name
+  pub records : HasOldOrOne (λ state. (files_of name state).records) memories old new (records_name name)
+
+-- So saves of these memories leave a shelf whose files are atomic, those that failed too.
+abbrev pub KeepsSaved : List ℕ → List Memory → ShelfState → ShelfState → Type 0
+KeepsSaved name memories old new = Changes old.files new.files (λ before now. IsTrue before.atomic → KeepsOrSaves name memories before now)
 
 -- The shelf has a script under the name; it was opened as a desk with what stands beside it, and so its session ended, which
 -- left the shelf and the counts as they are now. All memories that the desk had keep what is promised.
@@ -41,6 +59,7 @@ pub record HeldSession (name : List ℕ) (old new : Outside) (from to : Counts) 
   pub counts : to ≡ after.counts
   pub promised : ArePromised (memories_of desk_itself (opened_memory state) ends.course.steps)
   pub counted : CountsUnsaved saves old.shelf new.shelf ends.course.lines ends.course.steps
+  pub kept : KeepsSaved name (memories_of desk_itself (opened_memory state) ends.course.steps) old.shelf new.shelf
 
 -- The shelf has a script under the name and was left as it was, and this is the memory of its desk.
 pub record OpensDesk (shelf after : ShelfState) (name : List ℕ) (memory : Memory) : Type 0 where
@@ -92,6 +111,7 @@ pub record AnsweredAll (name : List ℕ) (old new : Outside) (from to : Counts) 
   pub left : new.shelf ≡ shelf_behind saves old.shelf (command_lines input) steps
   pub promised : ArePromised (memories_of desk_itself (opened_memory state) steps)
   pub counted : CountsUnsaved saves old.shelf new.shelf (command_lines input) steps
+  pub kept : KeepsSaved name (memories_of desk_itself (opened_memory state) steps) old.shelf new.shelf
 
 -- All command lines of the input were answered by a desk of the script, and each save was done.
 pub record AnsweredCalmly (name : List ℕ) (old new : Outside) : Type 0 where

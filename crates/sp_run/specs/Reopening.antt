@@ -9,5 +9,5 @@ use Rattle.sp_run.specs.Saving.{files_of}
 pub record HasSaved (shelf : ShelfState) (name : List ℕ) (state : State) : Type 0 where
   pub files : Files
   pub told : shelf.files ≡ Some files
-  pub text : files name ≡ Some (files_of name state).bytes
-  pub records : files (records_name name) ≡ Some (files_of name state).records
+  pub text : files.held name ≡ Some (files_of name state).bytes
+  pub records : files.held (records_name name) ≡ Some (files_of name state).records

@@ -16,7 +16,7 @@ use Rattle.sp_run.specs.Seats.{AreTakenSeen}
 use Rattle.sp_run.specs.Promises.{ArePromised}
 use Rattle.sp_run.specs.Opening.{HasState}
 use Rattle.sp_run.specs.Unopened.{Outside}
-use Rattle.sp_run.specs.DeskEnding.{CommandsEnd, CountsUnsaved}
+use Rattle.sp_run.specs.DeskEnding.{CommandsEnd, CountsUnsaved, KeepsSaved}
 
 -- The same of a room round a desk that was opened so: its desk keeps what is promised, and each edit that the room took took away or
 -- changed just the lines that its seat saw.
@@ -32,6 +32,7 @@ pub record HeldRoom (name : List ℕ) (old new : Outside) (from to : Counts) (en
   pub promised : ArePromised (memories_of desk_in (opened_memory state) ends.course.steps)
   pub seen : AreTakenSeen (opened_room (opened_memory state)) (state.lines ∷ []) ends.course.lines ends.course.steps
   pub counted : CountsUnsaved seat_saves old.shelf new.shelf ends.course.lines ends.course.steps
+  pub kept : KeepsSaved name (memories_of desk_in (opened_memory state) ends.course.steps) old.shelf new.shelf
 
 abbrev pub RoomEnds : List ℕ → Outside → Outside → Counts → Counts → Status → Type 0
 RoomEnds name old new from to status = CommandsEnd (HeldRoom name old new from to) name old new from to status
@@ -53,6 +54,7 @@ pub record RoomAnsweredAll (name : List ℕ) (old new : Outside) (from to : Coun
   pub promised : ArePromised (memories_of desk_in (opened_memory state) steps)
   pub seen : AreTakenSeen (opened_room (opened_memory state)) (state.lines ∷ []) (command_lines input) steps
   pub counted : CountsUnsaved seat_saves old.shelf new.shelf (command_lines input) steps
+  pub kept : KeepsSaved name (memories_of desk_in (opened_memory state) steps) old.shelf new.shelf
 
 pub record RoomAnsweredCalmly (name : List ℕ) (old new : Outside) : Type 0 where
   pub state : State

@@ -1,5 +1,5 @@
 -- What a save leaves on a shelf (docs/RULES.md, "Sessions").
-use Rattle.std.specs.Prelude.{◌≡◌, ◌≢◌, ℕ, ◌≤◌, ◌⊎◌, List, Option, Some, None, Ok, Err}
+use Rattle.std.specs.Prelude.{◌≡◌, ◌≢◌, ℕ, ◌≤◌, ◌⊎◌, IsTrue, List, Option, Some, None, Ok, Err}
 use Rattle.std.specs.declared.result.Result.{Result}
 use Rattle.spec_text.specs.Lines.{text_bytes}
 use Rattle.spec_records.specs.RecordFile.{digest_of, written}
@@ -7,7 +7,7 @@ use Rattle.spec_state.specs.State.{State}
 use Rattle.spec_state.specs.Keeping.{state_kept}
 use Rattle.spec_wire.specs.Replies.{ReplyOf, saved, refused, shelf}
 use Rattle.sp_kit.specs.Causes.{Rose}
-use Rattle.sp_kit.specs.Files.{Files, ShelfState, KeepsOthers}
+use Rattle.sp_kit.specs.Files.{Files, ShelfState, HasOldOrNew, KeepsOthers}
 use Rattle.sp_kit.specs.declared.shelf.ShelfFault.{ShelfFault}
 use Rattle.sp_kit.specs.declared.shelf.ShelfFault.TheVariants as shelf_faults
 use Rattle.sp_run.specs.Records.{records_name, OpensAs}
@@ -19,8 +19,9 @@ Changes (Some old) None P = ⊥
 Changes (Some old) (Some new) P = P old new
 
 -- All names but these two have what they had.
-abbrev pub KeepsAllBut : Files → Files → List ℕ → List ℕ → Type 0
-KeepsAllBut old new one other = (name : List ℕ) → name ≢ one → name ≢ other → new name ≡ old name
+pub record KeepsAllBut (old new : Files) (one other : List ℕ) : Type 0 where
+  pub names : (name : List ℕ) → name ≢ one → name ≢ other → new.held name ≡ old.held name
+  pub atomic : new.atomic ≡ old.atomic
 
 -- Two files, each a name and bytes.
 pub record TwoFiles : Type 0 where
@@ -35,13 +36,19 @@ files_of name state = record { name = name; bytes = text_bytes state.lines; besi
 
 -- Both files were stored.
 pub record PutBoth (it : TwoFiles) (old new : Files) : Type 0 where
-  pub first : new it.name ≡ Some it.bytes
-  pub second : new it.beside ≡ Some it.records
+  pub first : new.held it.name ≡ Some it.bytes
+  pub second : new.held it.beside ≡ Some it.records
   pub others : KeepsAllBut old new it.name it.beside
 
 -- The first file was stored, and it is open what stands under the second name.
 pub record PutFirst (it : TwoFiles) (old new : Files) : Type 0 where
-  pub first : new it.name ≡ Some it.bytes
+  pub first : new.held it.name ≡ Some it.bytes
+  pub others : KeepsAllBut old new it.name it.beside
+
+-- Each of both files is as it was, or was stored; all others are as they were.
+pub record KeepsOrPuts (it : TwoFiles) (old new : Files) : Type 0 where
+  pub first : HasOldOrNew old new it.name it.bytes
+  pub second : HasOldOrNew old new it.beside it.records
   pub others : KeepsAllBut old new it.name it.beside
 
 -- Both files were stored, and no fault was counted.
@@ -49,15 +56,16 @@ pub record StoredBoth (it : TwoFiles) (old new : ShelfState) : Type 0 where
   pub kept : new.faults ≡ old.faults
   pub files : Changes old.files new.files (PutBoth it)
 
--- A store failed: the first one, and the second wasn't tried, or the second one behind it.
+-- A store failed: the first one, and the second wasn't tried, or the second one behind it. Of atomic files none is lost.
 pub record StoreFailed (it : TwoFiles) (old new : ShelfState) : Type 0 where
   pub later : old.faults ≤ new.faults
   pub rose : Rose old.faults new.faults
   pub files : Changes old.files new.files (λ before now. KeepsOthers before now it.name ⊎ PutFirst it before now)
+  pub kept : Changes old.files new.files (λ before now. IsTrue before.atomic → KeepsOrPuts it before now)
 
 -- The first name is as it was, or has its bytes; all others are as they were.
 pub record LeftFirst (it : TwoFiles) (old new : Files) : Type 0 where
-  pub first : (new it.name ≡ old it.name) ⊎ (new it.name ≡ Some it.bytes)
+  pub first : HasOldOrNew old new it.name it.bytes
   pub others : KeepsOthers old new it.name
 
 -- How want of memory may leave a shelf before two stores or in them: the second wasn't done, and no fault was counted.

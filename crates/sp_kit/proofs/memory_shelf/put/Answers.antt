@@ -1,4 +1,4 @@
-use Rattle.std.proofs.Common.{◌≡◌, ℕ, Some, arith, ap, sym, ◌∙◌}
+use Rattle.std.proofs.Common.{◌≡◌, ℕ, Some, arith, ap, refl, sym, ◌∙◌}
 use Rattle.std.specs.Prelude.{option_map}
 use Rattle.std.specs.declared.vec.Vec.{Vec}
 use Rattle.std.specs.declared.alloc.Global.{Global}
@@ -14,6 +14,10 @@ returns-clause-found c =
     found-files c.insert.new.self c.args.name.now ∙ ap (option_map (λ (w : Vec ℕ Global). w.items)) here ∙ ap Some copied
 
 pub returns-clause-others : goal.returns-clause-others
-returns-clause-others c = λ other differs.
-    let same : get_by_text c.insert.new.self other ≡ get_by_text c.args.files.now other = grind (arith, text_keys) in
-    found-files c.insert.new.self other ∙ ap (option_map (λ (w : Vec ℕ Global). w.items)) same ∙ sym (found-files c.args.files.now other)
+returns-clause-others c =
+    record {
+      names = λ other differs.
+          let same : get_by_text c.insert.new.self other ≡ get_by_text c.args.files.now other = grind (arith, text_keys) in
+          found-files c.insert.new.self other ∙ ap (option_map (λ (w : Vec ℕ Global). w.items)) same ∙ sym (found-files c.args.files.now other);
+      atomic = refl;
+    }

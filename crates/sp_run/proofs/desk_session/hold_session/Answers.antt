@@ -10,7 +10,7 @@ use Rattle.sp_run.specs.Saving.{Changes, KeepsAllBut}
 use Rattle.sp_run.specs.DeskEnding.{DeskEnds, HeldSession}
 use Rattle.sp_run.specs.Unopened.{outside}
 use Rattle.sp_run.proofs.DeskSessions.{session-held, held-ends, held-others, unopened-ends}
-use Rattle.sp_run.proofs.Stores.{changes-none}
+use Rattle.sp_run.proofs.Stores.{changes-none, keeps-itself}
 use Rattle.sp_run.proofs.desk_session.hold_session.Goals as goal
 
 pub returns-in-Err-clause-ends : goal.returns-in-Err-clause-ends
@@ -24,7 +24,7 @@ returns-in-Err-clause-ends g c =
 pub returns-in-Err-clause-others : goal.returns-in-Err-clause-others
 returns-in-Err-clause-others g c =
     let name = c.args.name.now in
-    changes-none _ _ (λ (old new : Files). KeepsAllBut old new name (records_name name)) (λ files other not-first not-second. refl) c.open_desk.ensures.files_kept
+    changes-none _ _ (λ (old new : Files). KeepsAllBut old new name (records_name name)) (λ files. keeps-itself files name (records_name name)) c.open_desk.ensures.files_kept
 
 pub returns-clause-ends : goal.returns-clause-ends
 returns-clause-ends g c =
