@@ -1,13 +1,15 @@
 """Runs the proofs and edits of the gate and says how many processor seconds each crate took: for its proof, builds included, for the checks
-of the crate as it stands with which the toolchain begins and ends its edits, and for the edits that must fail; and how many checks there
-were, what those took that found nothing to prove, how long the longest edit took, and what the gate took with all that it does beside.
-A check is last looked at up to half a second before it ends. A line above the table says where and when that was.
+of the crate as it stands with which the toolchain begins and ends its edits, and for the edits that must fail, with how many checks of edits
+there were and what one took. Below it tells how many checks there were, what those took that found nothing to prove, how long the longest
+edit took, and what the gate took with all that it does beside. A check is last looked at up to half a second before it ends. A line above
+the table says when that was, on which machine, on how many processors, and with which load before.
 
 `python3 bench/gate.py WORDS..` runs `rt ci WORDS..`, hands its lines on to standard error, and prints a table at the end, and the longest
 chain of crates one above the other, in processor time and by the clock. What an earlier run passed isn't proved again, so the table is whole
 only with `--anew` or on a machine without one. `taskset -c 0,1 python3 bench/gate.py --anew` measures it on two processors.
 """
 
+import collections
 import functools
 import os
 import pathlib
@@ -92,6 +94,10 @@ class Meter:
             sums.setdefault(crate, dict.fromkeys(PHASES, 0.0))[phase] += seconds
         return sums
 
+    def edits(self):
+        """How many checks of each crate's edits were seen."""
+        return collections.Counter(crate for _, crate, phase in self.seen if phase == "edits")
+
 
 def run_gate(words, meter):
     run = subprocess.Popen(["rt", "ci", *words], stdout=subprocess.PIPE, stderr=subprocess.STDOUT, text=True)
@@ -106,13 +112,16 @@ def run_gate(words, meter):
         watcher.join()
 
 
-def print_table(sums, minutes):
-    print("| crate | proof s | around edits s | edits s | all s |")
-    print("|---|---|---|---|---|")
+def print_table(meter, minutes):
+    sums, counts = meter.table(), meter.edits()
+    print("| crate | proof s | around edits s | edits s | all s | edits | s an edit |")
+    print("|" + "---|" * 7)
     for crate, row in sorted(sums.items(), key=lambda item: -sum(item[1].values())):
-        print("| " + " | ".join([crate, *(f"{row[phase]:.0f}" for phase in PHASES), f"{sum(row.values()):.0f}"]) + " |")
+        count = counts.get(crate, 0)
+        each = f"{row['edits'] / count:.1f}" if count else ""
+        print("| " + " | ".join([crate, *(f"{row[phase]:.0f}" for phase in PHASES), f"{sum(row.values()):.0f}", str(count or ""), each]) + " |")
     whole = [sum(row[phase] for row in sums.values()) / 60 for phase in PHASES]
-    print("| all, in minutes | " + " | ".join(f"{part:.1f}" for part in [*whole, sum(whole)]) + " |")
+    print("| all, in minutes | " + " | ".join([*(f"{part:.1f}" for part in [*whole, sum(whole)]), str(sum(counts.values())), ""]) + " |")
     print(f"\n{minutes:.1f} minutes by the clock")
 
 
@@ -174,7 +183,7 @@ def main():
     where, begun = surroundings(), time.monotonic()
     status = run_gate(sys.argv[1:], meter)
     print("began {}, {}, processors {}, load before {}\n".format(*where))
-    print_table(meter.table(), (time.monotonic() - begun) / 60)
+    print_table(meter, (time.monotonic() - begun) / 60)
     print_readings(meter)
     print_longest_edit(meter)
     print_whole()
