@@ -62,10 +62,8 @@ pub fn trade_turned<T>(list: &mut Vec<T>, from: usize, to: usize, items: &mut Ve
     requires order { from ≤ to }
     requires within { to ≤ vec_len list.old }
     requires many { vec_len items.old ≡ to - from }
-    ensures list { reverse list.new.items ≡ exchanged (reverse list.old.items) (vec_len list.old - to)
-        (vec_len list.old - from) items.old.items }
-    ensures items { items.new.items ≡ slice_range (reverse list.old.items) (vec_len list.old - to)
-        (vec_len list.old - from) }
+    ensures list { reverse list.new.items ≡ exchanged (reverse list.old.items) (vec_len list.old - to) (vec_len list.old - from) items.old.items }
+    ensures items { items.new.items ≡ slice_range (reverse list.old.items) (vec_len list.old - to) (vec_len list.old - from) }
     ensures len { vec_len list.new ≡ vec_len list.old }
     ensures list_room { vec_capacity list.new ≡ vec_capacity list.old }
     ensures items_room { vec_capacity items.new ≡ vec_capacity items.old }
@@ -82,8 +80,7 @@ fn trade_behind<T>(ahead: usize, back: &mut Vec<T>, from: usize, to: usize, item
     requires within { to ≤ ahead + vec_len back.old }
     requires many { vec_len items.old ≡ to - from }
     requires fits { ahead + vec_len back.old ≤ 9223372036854775807 }
-    ensures back { reverse back.new.items ≡ exchanged (reverse back.old.items) (from - ahead)
-        (to - ahead) items.old.items }
+    ensures back { reverse back.new.items ≡ exchanged (reverse back.old.items) (from - ahead) (to - ahead) items.old.items }
     ensures items { items.new.items ≡ slice_range (reverse back.old.items) (from - ahead) (to - ahead) }
     ensures len { vec_len back.new ≡ vec_len back.old }
     ensures items_room { vec_capacity items.new ≡ vec_capacity items.old }
@@ -104,8 +101,7 @@ fn exchange_round<T>(
     requires within { to ≤ vec_len front.old + vec_len back.old }
     requires room { vec_len front.old + vec_len back.old + vec_len items.old ≤ vec_capacity front.old }
     requires items_room { to - from ≤ vec_capacity items.old }
-    ensures list { front.new.items ++ reverse back.new.items ≡ exchanged (front.old.items ++ reverse back.old.items)
-        from to items.old.items }
+    ensures list { front.new.items ++ reverse back.new.items ≡ exchanged (front.old.items ++ reverse back.old.items) from to items.old.items }
     ensures items { items.new.items ≡ slice_range (front.old.items ++ reverse back.old.items) from to }
     ensures fits { vec_len front.new + vec_len back.new ≤ vec_capacity front.new }
     ensures room { vec_capacity front.new ≡ vec_capacity front.old }
