@@ -35,7 +35,8 @@ fn refused(error: &io::Error) -> Status {
 /// Tells how a run ended: its line to a sink, its number as the exit status. Where the sink fails, the number alone tells.
 fn tell<O: Sink>(status: &Status, errors: &mut O) -> ExitCode
     ensures code { exit_status result ≡ code_of status.now }
-    ensures line { (told : Result (Unit {0}) Failed) × Writes (O.state errors.old) (O.state errors.new) (line_of status.now) told }
+    ensures line { (told : Result (Unit {0}) Failed)
+        × Writes (O.state errors.old) (O.state errors.new) (line_of status.now) told }
 {
     let _ = fault_line(status, errors);
     ExitCode::from(status.code())

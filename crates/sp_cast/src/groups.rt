@@ -95,7 +95,8 @@ fn add_by_name<'a>(
     said: &'a Said,
 ) -> Result<(), AllocError>
     requires { length names.old.keys ≡ length groups.old.items }
-    ensures { OnOk result (IsAdded lent_text bytes_eq name_of names.old.keys names.new.keys groups.old.items groups.new.items said.now) }
+    ensures { OnOk result
+        (IsAdded lent_text bytes_eq name_of names.old.keys names.new.keys groups.old.items groups.new.items said.now) }
 {
     let (place, _) = names.insert_full(said.name.as_str())?;
     add_at(alloc, groups, place, said)
@@ -120,7 +121,8 @@ fn add_by_scene<'a>(
     said: &'a Said,
 ) -> Result<(), AllocError>
     requires { length scenes.old.keys ≡ length groups.old.items }
-    ensures { OnOk result (IsAdded scene_of_key scene_eq scene_of scenes.old.keys scenes.new.keys groups.old.items groups.new.items said.now) }
+    ensures { OnOk result (IsAdded scene_of_key scene_eq scene_of scenes.old.keys scenes.new.keys groups.old.items
+        groups.new.items said.now) }
 {
     let (place, _) = scenes.insert_full(scene_key(said))?;
     add_at(alloc, groups, place, said)

@@ -15,11 +15,17 @@ use std::alloc::{AllocError, Global};
 /// The sides: for each name, in order of first speech, the name and the scenes in which it speaks, each with the number of
 /// its speeches there and the labels of their sheets (docs/RULES.md, "Cast sides"). These numbers add up to the number of
 /// speeches. Time grows with the text of the speeches' names and labels. `AllocError` comes for want of memory alone.
-pub fn sides(alloc: Global, said: &[Said]) -> Result<String, AllocError>
-    ensures sides { IfOk result (λ text. string_bytes text ≡ sides_of said.now) }
+pub fn sides(alloc: Global, said: &[Said]) -> Result<Vec<u8>, AllocError>
+    ensures sides { IfOk result (λ bytes. bytes.items ≡ sides_of said.now) }
     ensures total { sides_count said.now ≡ length said.now }
 {
-    sides_text(alloc, said)
+    sides_bytes(alloc, said)
+}
+
+fn sides_bytes(alloc: Global, said: &[Said]) -> Result<Vec<u8>, AllocError>
+    ensures { IfOk result (λ bytes. bytes.items ≡ sides_of said.now) }
+{
+    Ok(sides_text(alloc, said)?.into_bytes())
 }
 
 fn sides_text(alloc: Global, said: &[Said]) -> Result<String, AllocError>

@@ -46,7 +46,8 @@ fn number_rows(alloc: Global, block: &Block, rows: &mut Vec<Row>) -> Result<(), 
     number_cells(alloc, block, &mut row.cells)
 }
 
-fn is_title(kind: Kind) -> bool
+/// Whether blocks of a kind stand on the title page.
+pub fn is_title(kind: Kind) -> bool
     ensures { result ≡ is_title kind }
 {
     matches!(kind, Kind::Title)
@@ -134,7 +135,8 @@ pub fn dual_rows(
     requires left { BlockLies (line_texts lines.now.lines) first block.now }
     requires right { BlockLies (line_texts lines.now.lines) second_first second.now }
     requires order { first ≤ second_first }
-    ensures { IfOk result (λ rows. rows.items ≡ dual_rows lines.now.lines first block.now continued second_first second.now second_continued) }
+    ensures { IfOk result (λ rows.
+        rows.items ≡ dual_rows lines.now.lines first block.now continued second_first second.now second_continued) }
 {
     let mut rows = blocks_beside(alloc, lines, first, block, second_first, second)?;
     tell_speakers(

@@ -14,7 +14,7 @@ mod speakers;
 mod values;
 
 pub use columns::width_of;
-pub use elements::{dual_rows, single_rows};
+pub use elements::{dual_rows, is_title, single_rows};
 pub use joins::join_rows;
 pub use order::in_column_order;
 pub use pair_speakers::{goes_on, has_speaker};

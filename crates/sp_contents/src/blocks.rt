@@ -2,7 +2,7 @@
 ghost use Rattle.std.specs.Prelude.{◌≡◌, ◌≤◌, length, map, option_map, string_bytes, All, IfOk};
 ghost use Rattle.spec_text.specs.Limits.{line_count_limit};
 ghost use Rattle.spec_script.specs.BlockParts.{LineLies};
-ghost use Rattle.spec_script.specs.Elements.{PlacedLies, is_speech_kind};
+ghost use Rattle.spec_script.specs.Elements.{PlacedLies};
 ghost use Rattle.spec_script.specs.Stanzas.{stanzas_of};
 ghost use Rattle.spec_sheets.specs.Speakers.{visible_text};
 ghost use Rattle.spec_machine.specs.Blocks.{block_reply, block_replies, kind_name, written_number};
@@ -10,7 +10,7 @@ ghost use Rattle.sp_contents.specs.Pairs.{is_second, opens_pair};
 ghost use Rattle.sp_reread.specs.Cache.{texts_in};
 ghost use Rattle.sp_contents.specs.Texts.{placed_text, visible_texts, replies_in};
 
-use sp_blocks::{BlockLine, Kind, PlacedBlock, parts_text, shown_text};
+use sp_blocks::{BlockLine, Kind, PlacedBlock, is_speech_kind, parts_text, shown_text};
 use sp_reread::{Stanzas, placed_blocks};
 use sp_text::Lines;
 use sp_wire::BlockReply;
@@ -34,18 +34,12 @@ fn kind_name(kind: Kind) -> &'static str
     }
 }
 
-fn is_speech(kind: Kind) -> bool
-    ensures { result ≡ is_speech_kind kind }
-{
-    matches!(kind, Kind::Speech)
-}
-
 /// Whether a block may be the first speech of a pair.
 fn opens_pair(placed: &PlacedBlock<'_>) -> bool
     ensures { result ≡ opens_pair placed.now }
 {
     let block = placed.block;
-    is_speech(block.kind) && !block.caret
+    is_speech_kind(block.kind) && !block.caret
 }
 
 /// Whether a block is the second speech of a pair, by whether the block before it may be the first.
@@ -53,7 +47,7 @@ fn is_second(opened: bool, placed: &PlacedBlock<'_>) -> bool
     ensures { result ≡ is_second opened placed.now }
 {
     let block = placed.block;
-    opened && is_speech(block.kind) && block.caret
+    opened && is_speech_kind(block.kind) && block.caret
 }
 
 /// The number that is written in the line of a block that lies in the lines; None where there is none. `AllocError` comes

@@ -95,7 +95,8 @@ fn scene_number(
 ) -> Result<String, AllocError>
     requires lies { PlacedLies (line_texts lines.now.lines) placed.now }
     requires inside { i < length scenes.now.labels }
-    ensures { IfOk result (λ number. string_bytes number ≡ scene_number scenes.now (line_texts lines.now.lines) i placed.now) }
+    ensures { IfOk result (λ number.
+        string_bytes number ≡ scene_number scenes.now (line_texts lines.now.lines) i placed.now) }
 {
     if !scenes.locked {
         if let Some(number) = written_number(alloc, lines, placed)? {
@@ -148,7 +149,8 @@ fn add_heading(
     requires inside { walk.headings < length scenes.now.labels }
     requires rising { AllPairs Below scenes.now.gone }
     requires walked { IsWalked scenes.now.labels scenes.now.gone walk.headings walk.gone }
-    ensures { IfOk result (λ next. AddsBlock scenes.now (line_texts lines.now.lines) placed.now entries.old.items entries.new.items walk.headings next.headings next.gone) }
+    ensures { IfOk result (λ next. AddsBlock scenes.now (line_texts lines.now.lines)
+        placed.now entries.old.items entries.new.items walk.headings next.headings next.gone) }
 {
     let i = walk.headings;
     let gone = gone_in(scenes);
@@ -174,7 +176,8 @@ fn add_block(
     requires inside { is_heading_block placed.now ≡ true → walk.headings < length scenes.now.labels }
     requires rising { AllPairs Below scenes.now.gone }
     requires walked { IsWalked scenes.now.labels scenes.now.gone walk.headings walk.gone }
-    ensures { IfOk result (λ next. AddsBlock scenes.now (line_texts lines.now.lines) placed.now entries.old.items entries.new.items walk.headings next.headings next.gone) }
+    ensures { IfOk result (λ next. AddsBlock scenes.now (line_texts lines.now.lines)
+        placed.now entries.old.items entries.new.items walk.headings next.headings next.gone) }
 {
     let block = placed.block;
     match block.kind {
@@ -204,7 +207,8 @@ pub fn entries_of(
     requires lie { All (PlacedLies (line_texts lines.now.lines)) blocks.now }
     requires labels { length scenes.now.labels ≡ length (filter is_heading_block blocks.now) }
     requires rising { AllPairs Below scenes.now.gone }
-    ensures { IfOk result (λ entries. map entry_of entries.items ≡ entries_of scenes.now (line_texts lines.now.lines) blocks.now) }
+    ensures { IfOk result (λ entries.
+        map entry_of entries.items ≡ entries_of scenes.now (line_texts lines.now.lines) blocks.now) }
 {
     let mut entries = Vec::new(alloc);
     let mut walk = Walk {

@@ -52,7 +52,8 @@ pub fn gone_labels(
     headings: &[HeadingAt],
     scenes: &Option<Vec<SceneRecord>>,
 ) -> Result<Vec<Label>, AllocError>
-    ensures { IfOk result (λ gone. gone.items ≡ gone_labels headings.now (option_map (λ those. those.items) scenes.now)) }
+    ensures { IfOk result (λ gone.
+        gone.items ≡ gone_labels headings.now (option_map (λ those. those.items) scenes.now)) }
 {
     match scenes {
         None => Ok(Vec::new(alloc)),

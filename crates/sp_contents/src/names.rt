@@ -16,7 +16,8 @@ pub fn speaker_names(
     blocks: &[PlacedBlock<'_>],
 ) -> Result<Vec<String>, AllocError>
     requires { All (PlacedLies (line_texts lines.now.lines)) blocks.now }
-    ensures { IfOk result (λ names. map string_bytes names.items ≡ speaker_names (line_texts lines.now.lines) blocks.now) }
+    ensures { IfOk result (λ names.
+        map string_bytes names.items ≡ speaker_names (line_texts lines.now.lines) blocks.now) }
 {
     let mut names = Vec::new(alloc);
     for placed in blocks {

@@ -157,7 +157,8 @@ fn said_by(
     placed: &PlacedBlock<'_>,
 ) -> Result<Said, AllocError>
     requires { PlacedLies (line_texts lines.now.lines) placed.now }
-    ensures { IfOk result (λ said. said ≡ said_by scenes.now sheets.now (line_texts lines.now.lines) walk.now placed.now) }
+    ensures { IfOk result (λ said.
+        said ≡ said_by scenes.now sheets.now (line_texts lines.now.lines) walk.now placed.now) }
 {
     Ok(Said {
         name: speaker_name(alloc, lines, placed)?,
@@ -177,7 +178,8 @@ fn add_block(
     placed: &PlacedBlock<'_>,
 ) -> Result<(), AllocError>
     requires { PlacedLies (line_texts lines.now.lines) placed.now }
-    ensures { OnOk result (said.new.items ≡ said.old.items ++ block_said scenes.now sheets.now (line_texts lines.now.lines) walk.now placed.now) }
+    ensures { OnOk result (said.new.items ≡ said.old.items ++ block_said scenes.now sheets.now
+        (line_texts lines.now.lines) walk.now placed.now) }
 {
     if is_speech_block(placed) {
         said.push(said_by(alloc, lines, scenes, sheets, walk, placed)?)?;
@@ -194,7 +196,8 @@ pub fn said_among(
     blocks: &[PlacedBlock<'_>],
 ) -> Result<Vec<Said>, AllocError>
     requires { All (PlacedLies (line_texts lines.now.lines)) blocks.now }
-    ensures { IfOk result (λ said. said.items ≡ said_from scenes.now sheets.now (line_texts lines.now.lines) walk_start blocks.now) }
+    ensures { IfOk result (λ said.
+        said.items ≡ said_from scenes.now sheets.now (line_texts lines.now.lines) walk_start blocks.now) }
 {
     let mut said = Vec::new(alloc);
     let mut walk = Walk {

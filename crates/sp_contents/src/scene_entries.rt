@@ -49,7 +49,8 @@ pub fn labels_of(
 ) -> Result<Vec<Label>, AllocError>
     requires headings { AreHeadings headings.now }
     requires records { IfSome scenes.now (λ records. AreSceneRecords records.items) }
-    ensures { IfOk result (λ labels. labels.items ≡ scene_labels headings.now (option_map (λ those. those.items) scenes.now)) }
+    ensures { IfOk result (λ labels.
+        labels.items ≡ scene_labels headings.now (option_map (λ those. those.items) scenes.now)) }
 {
     match scenes {
         None => numbers(alloc, headings, None),

@@ -28,7 +28,8 @@ pub fn said(alloc: Global, view: &StateView<'_>) -> Result<Vec<Said>, AllocError
 
 /// The first labels of the sheets on which the speeches and pairs of a script begin.
 fn speech_sheets_of(alloc: Global, view: &StateView<'_>) -> Result<Vec<Label>, AllocError>
-    ensures { IfOk result (λ labels. labels.items ≡ speech_sheets (body_sheets view.now) 0 (map shape_of (rows_in view.now))) }
+    ensures { IfOk result (λ labels.
+        labels.items ≡ speech_sheets (body_sheets view.now) 0 (map shape_of (rows_in view.now))) }
 {
     let sheets = view.body_sheets();
     speech_sheets(alloc, sheets, view.shapes())

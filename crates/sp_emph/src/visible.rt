@@ -52,7 +52,8 @@ fn stretch_len(looks: &[Option<u8>]) -> usize
 
 /// Adds a piece of the line, if anything is seen of it.
 fn add_piece(runs: &mut Joiner, from: u32, to: u32, look: Option<u8>) -> Result<(), AllocError>
-    ensures { OnOk result ((more : List Run) → joined_with runs.new more ≡ joined_with runs.old (seen_run from to look ++ more)) }
+    ensures { OnOk result ((more : List Run)
+        → joined_with runs.new more ≡ joined_with runs.old (seen_run from to look ++ more)) }
 {
     match look {
         Some(style) => runs.add(Run { from, to, style }),
@@ -63,7 +64,8 @@ fn add_piece(runs: &mut Joiner, from: u32, to: u32, look: Option<u8>) -> Result<
 /// Adds what is seen of a part that begins at a place.
 fn add_part(runs: &mut Joiner, from: u32, looks: &[Option<u8>]) -> Result<(), AllocError>
     requires { from + length looks.now < 2 ^ 32 }
-    ensures { OnOk result ((more : List Run) → joined_with runs.new more ≡ joined_with runs.old (byte_runs from looks.now ++ more)) }
+    ensures { OnOk result ((more : List Run)
+        → joined_with runs.new more ≡ joined_with runs.old (byte_runs from looks.now ++ more)) }
 {
     let mut place = from;
     let mut rest = looks;

@@ -22,7 +22,8 @@ fn shift_run(places: &mut Vec<usize>, from: usize, to: usize, less: usize, more:
     requires order { from ≤ to }
     requires within { to ≤ vec_len places.old }
     requires can { All (CanShift less more) (slice_range places.old.items from to) }
-    ensures places { places.new.items ≡ take from places.old.items ++ (map (shifted less more) (slice_range places.old.items from to) ++ drop to places.old.items) }
+    ensures places { places.new.items ≡ take from places.old.items
+        ++ (map (shifted less more) (slice_range places.old.items from to) ++ drop to places.old.items) }
     ensures len { vec_len places.new ≡ vec_len places.old }
     ensures room { vec_capacity places.new ≡ vec_capacity places.old }
 {
@@ -57,7 +58,8 @@ pub fn exchange_places(
     requires come { All (CanShift 0 base) items.old.items }
     requires go { All (CanShift base 0) (slice_range list.old.items from to) }
     requires later { All (CanShift less more) (drop to list.old.items) }
-    ensures list { list.new.items ≡ take from list.old.items ++ (map (shifted 0 base) items.old.items ++ map (shifted less more) (drop to list.old.items)) }
+    ensures list { list.new.items ≡ take from list.old.items
+        ++ (map (shifted 0 base) items.old.items ++ map (shifted less more) (drop to list.old.items)) }
     ensures items { items.new.items ≡ map (shifted base 0) (slice_range list.old.items from to) }
     ensures list_room { vec_capacity list.new ≡ vec_capacity list.old }
     ensures items_room { vec_capacity items.new ≡ vec_capacity items.old }

@@ -16,7 +16,8 @@ use sp_print::{CellText, PartWriter};
 pub(crate) struct MarkedText;
 
 fn write_text<O: Sink>(sink: &mut O, text: CellText<'_>) -> Result<(), Failed>
-    ensures { Writes (O.state sink.old) (O.state sink.new) (escaped (untabbed (shown_bytes (text_of text.entry)))) result }
+    ensures { Writes (O.state sink.old) (O.state sink.new)
+        (escaped (untabbed (shown_bytes (text_of text.entry)))) result }
 {
     match text {
         CellText::Slice(text) => write_escaped(sink, text.as_bytes()),
@@ -25,7 +26,8 @@ fn write_text<O: Sink>(sink: &mut O, text: CellText<'_>) -> Result<(), Failed>
 }
 
 fn write_marked<O: Sink>(sink: &mut O, style: u8, text: CellText<'_>) -> Result<(), Failed>
-    ensures { Writes (O.state sink.old) (O.state sink.new) (marked_part style (shown_bytes (text_of text.entry))) result }
+    ensures { Writes (O.state sink.old) (O.state sink.new)
+        (marked_part style (shown_bytes (text_of text.entry))) result }
 {
     write_opening(sink, style)?;
     write_text(sink, text)?;

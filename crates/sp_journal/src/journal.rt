@@ -59,7 +59,11 @@ impl<T> Journal<T> {
     where
         T: Drop,
         requires { 0 < self.old.room }
-        ensures { self.new ≡ record { done = self.old.done ++ entry ∷ []; undone = []; room = self.old.room + length self.old.undone - 1 } }
+        ensures { self.new ≡ record {
+          done = self.old.done ++ entry ∷ [];
+          undone = [];
+          room = self.old.room + length self.old.undone - 1;
+        } }
     {
         self.forget_undone();
         self.keep_done(entry);
@@ -69,7 +73,11 @@ impl<T> Journal<T> {
     fn forget_undone(&mut self)
     where
         T: Drop,
-        ensures { self.new ≡ record { done = self.old.done; undone = []; room = self.old.room + length self.old.undone } }
+        ensures { self.new ≡ record {
+          done = self.old.done;
+          undone = [];
+          room = self.old.room + length self.old.undone;
+        } }
     {
         for _ in 0..self.undone {
             self.entries.pop_front();
@@ -80,7 +88,8 @@ impl<T> Journal<T> {
     /// Takes the last entry of done, or gives None exactly where there is none. The room of the entry stays.
     pub fn take_done(&mut self) -> Option<T>
         ensures some { IfSome result (λ entry. self.old.done ≡ self.new.done ++ entry ∷ []) }
-        ensures some_leaves { IfSome result (λ _. self.new ≡ record { done = self.new.done; undone = self.old.undone; room = self.old.room + 1 }) }
+        ensures some_leaves { IfSome result (λ _.
+            self.new ≡ record { done = self.new.done; undone = self.old.undone; room = self.old.room + 1 }) }
         ensures none { IfNone result ((self.old.done ≡ []) × (self.new ≡ self.old)) }
     {
         if self.entries.len() == self.undone {
@@ -92,7 +101,8 @@ impl<T> Journal<T> {
     /// Takes the last entry of undone, or gives None exactly where there is none. The room of the entry stays.
     pub fn take_undone(&mut self) -> Option<T>
         ensures some { IfSome result (λ entry. self.old.undone ≡ self.new.undone ++ entry ∷ []) }
-        ensures some_leaves { IfSome result (λ _. self.new ≡ record { done = self.old.done; undone = self.new.undone; room = self.old.room + 1 }) }
+        ensures some_leaves { IfSome result (λ _.
+            self.new ≡ record { done = self.old.done; undone = self.new.undone; room = self.old.room + 1 }) }
         ensures none { IfNone result ((self.old.undone ≡ []) × (self.new ≡ self.old)) }
     {
         if self.undone == 0 {
@@ -105,7 +115,11 @@ impl<T> Journal<T> {
     /// Adds an entry to done. It needs room for one, and takes no memory.
     pub fn keep_done(&mut self, entry: T)
         requires { 0 < self.old.room }
-        ensures { self.new ≡ record { done = self.old.done ++ entry ∷ []; undone = self.old.undone; room = self.old.room - 1 } }
+        ensures { self.new ≡ record {
+          done = self.old.done ++ entry ∷ [];
+          undone = self.old.undone;
+          room = self.old.room - 1;
+        } }
     {
         self.entries.push_back_reserved(entry);
     }
@@ -113,7 +127,11 @@ impl<T> Journal<T> {
     /// Adds an entry to undone. It needs room for one, and takes no memory.
     pub fn keep_undone(&mut self, entry: T)
         requires { 0 < self.old.room }
-        ensures { self.new ≡ record { done = self.old.done; undone = self.old.undone ++ entry ∷ []; room = self.old.room - 1 } }
+        ensures { self.new ≡ record {
+          done = self.old.done;
+          undone = self.old.undone ++ entry ∷ [];
+          room = self.old.room - 1;
+        } }
     {
         self.undone += 1;
         self.entries.push_front_reserved(entry);
@@ -123,7 +141,11 @@ impl<T> Journal<T> {
     pub fn clear(&mut self)
     where
         T: Drop,
-        ensures { self.new ≡ record { done = []; undone = []; room = self.old.room + length self.old.done + length self.old.undone } }
+        ensures { self.new ≡ record {
+          done = [];
+          undone = [];
+          room = self.old.room + length self.old.done + length self.old.undone;
+        } }
     {
         self.entries.clear();
         self.undone = 0;

@@ -39,7 +39,8 @@ impl MemorySink {
         fails: Vec<u64>,
     ) -> Result<MemorySink, AllocError>
         requires { 0 < piece }
-        ensures { IfOk result (λ s. s ≡ record { taken = []; room = room; piece = piece; fails = fails.items; call = 0; faults = 0 }) }
+        ensures { IfOk result (λ s.
+            s ≡ record { taken = []; room = room; piece = piece; fails = fails.items; call = 0; faults = 0 }) }
     {
         let bytes = Vec::with_capacity(alloc, room)?;
         Ok(MemorySink {
@@ -73,10 +74,13 @@ impl Sink for MemorySink {
         ensures progress { 0 < length piece.now → IfOk result (λ n. 0 < n) }
         ensures cause { HasCause self.old.faults self.new.faults result }
         ensures one_fault { OnErr result (self.new.faults ≡ one_more self.old.faults) }
-        ensures fails { IsErr result ↔ (Contains self.old.fails self.old.call ⊎ (self.old.room ≤ length self.old.taken)) }
-        ensures count { IfOk result (λ n. n ≡ min (min self.old.piece (length piece.now)) (self.old.room - length self.old.taken)) }
+        ensures fails { IsErr result
+            ↔ (Contains self.old.fails self.old.call ⊎ (self.old.room ≤ length self.old.taken)) }
+        ensures count { IfOk result (λ n.
+            n ≡ min (min self.old.piece (length piece.now)) (self.old.room - length self.old.taken)) }
         ensures call { self.new.call ≡ one_more self.old.call }
-        ensures plan { (self.new.piece ≡ self.old.piece) × (self.new.fails ≡ self.old.fails) × (self.new.room ≡ self.old.room) }
+        ensures plan { (self.new.piece ≡ self.old.piece) × (self.new.fails ≡ self.old.fails)
+            × (self.new.room ≡ self.old.room) }
     {
         let is_listed = self.fails.contains(&self.call);
         self.call = self.call.saturating_add(1);

@@ -49,7 +49,8 @@ fn ends_in_zero(path: &[u32]) -> bool
 
 /// The step that the bytes begin with, and what stands behind it.
 fn first_step(text: &[u8]) -> Option<(u32, &[u8])>
-    ensures { MatchOption result ((step : ℕ) (rest : List ℕ) → StepFront text.now step rest → ⊥) (λ r. StepFront text.now r.0 r.1.now) }
+    ensures { MatchOption result ((step : ℕ) (rest : List ℕ) → StepFront text.now step rest → ⊥) (λ r.
+        StepFront text.now r.0 r.1.now) }
 {
     let [first, rest @ ..] = text else {
         return None;
@@ -63,7 +64,8 @@ fn first_step(text: &[u8]) -> Option<(u32, &[u8])>
 
 /// The step that the bytes behind an opening bracket begin with, and what stands behind the closing one.
 fn step_in_brackets(text: &[u8]) -> Option<(u32, &[u8])>
-    ensures { MatchOption result ((step : ℕ) (rest : List ℕ) → StepFront (40 ∷ text.now) step rest → ⊥) (λ r. StepFront (40 ∷ text.now) r.0 r.1.now) }
+    ensures { MatchOption result ((step : ℕ) (rest : List ℕ) → StepFront (40 ∷ text.now) step rest → ⊥) (λ r.
+        StepFront (40 ∷ text.now) r.0 r.1.now) }
 {
     let (step, rest) = first_number(text, STEP_LIMIT)?;
     if step <= 24 {
@@ -74,7 +76,8 @@ fn step_in_brackets(text: &[u8]) -> Option<(u32, &[u8])>
 
 /// The step that a letter stands for.
 fn step_of_letter(letter: u8) -> Option<u32>
-    ensures { MatchOption result ((k : ℕ) → k < 24 → slice_index step_letters k ≡ letter → ⊥) (λ step. (0 < step) × (step ≤ 24) × (slice_index step_letters (step - 1) ≡ letter)) }
+    ensures { MatchOption result ((k : ℕ) → k < 24 → slice_index step_letters k ≡ letter → ⊥) (λ step.
+        (0 < step) × (step ≤ 24) × (slice_index step_letters (step - 1) ≡ letter)) }
 {
     let place = place_of(STEP_LETTERS, letter)?;
     Some(place as u32 + 1)
@@ -90,7 +93,8 @@ fn place_of(bytes: &[u8], byte: u8) -> Option<usize>
 /// The number that the bytes begin with, and what stands behind it: `None` where they begin with no digit, with a number
 /// past the limit, or with a leading zero.
 fn first_number(text: &[u8], limit: u32) -> Option<(u32, &[u8])>
-    ensures { MatchOption result ((number : ℕ) (rest : List ℕ) → NumberFront text.now limit number rest → ⊥) (λ r. NumberFront text.now limit r.0 r.1.now) }
+    ensures { MatchOption result ((number : ℕ) (rest : List ℕ) → NumberFront text.now limit number rest → ⊥) (λ r.
+        NumberFront text.now limit r.0 r.1.now) }
 {
     let (digits, rest) = text.split_at(digit_count(text));
     if !is_decimal(digits) {
@@ -109,7 +113,8 @@ fn digit_count(text: &[u8]) -> usize
 
 /// There is a digit, and no leading zero.
 fn is_decimal(digits: &[u8]) -> bool
-    ensures { result ≡ (nat_lt 0 (length digits.now) && not (nat_lt 1 (length digits.now) && slice_index digits.now 0 == 48)) }
+    ensures { result ≡ (nat_lt 0 (length digits.now)
+        && not (nat_lt 1 (length digits.now) && slice_index digits.now 0 == 48)) }
 {
     !digits.is_empty() && !(digits.len() > 1 && digits[0] == b'0')
 }

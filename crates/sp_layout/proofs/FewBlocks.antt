@@ -155,7 +155,7 @@ laid-count lines groups =
     ∙ length-filter_both is_title_element in_body (λ g. refl) groups
 
 -- How many elements there are when some stand in the place of others.
-run-size : (body : KeyedElements) (from to : ℕ) (others : KeyedElements) (less more : ℕ) → from ≤ to → to ≤ length body.elements
+pub run-size : (body : KeyedElements) (from to : ℕ) (others : KeyedElements) (less more : ℕ) → from ≤ to → to ≤ length body.elements
     → length (with_run body from to others less more).elements + (to - from) ≡ length body.elements + length others.elements
 run-size body from to others less more order within =
     let es = body.elements in

@@ -27,4 +27,4 @@ pub mod WindowLaws
 pub mod WindowSpeakers
 mod OutsideLaws
 mod SpeechAlone
-mod FewBlocks
+pub mod FewBlocks

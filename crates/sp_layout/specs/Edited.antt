@@ -124,8 +124,9 @@ elements_at places = (places.title_to - places.title_from) + (places.to - places
 abbrev pub elements_kept : KeptOf → ℕ
 elements_kept kept = length kept.titles.elements + length kept.body.elements
 
--- A change keeps to the window of its edit: of elements that were laid out anew it has at most two more than the window has blocks, one
--- in front of it and one behind it, and it keeps at most two more than the stanzas had blocks that the edit displaced.
+-- A change keeps to the window of its edit. The elements that it laid out anew are at most two more than the window has blocks, since the
+-- block before the window and the one behind it may be laid out again; the elements that it took out are at most two more than the
+-- displaced stanzas had blocks.
 pub record KeepsToWindow (stanzas : List StanzaOf) (swapped : SwappedState) (change : ChangeOf) : Type 0 where
   pub laid : elements_at change.part.places ≤ blocks_in (slice_range stanzas swapped.at (swapped.at + swapped.stands)) + 2
   pub kept : elements_kept change.part.kept ≤ blocks_in swapped.stanzas + 2

@@ -1,15 +1,13 @@
 //! Where the part of a layout that an edit changes begins and ends.
 ghost use Rattle.std.specs.Prelude.{◌≡◌, ◌<◌, ◌≤◌, ◌+◌, length, take};
-ghost use Rattle.spec_script.specs.Elements.{is_speech_kind};
 ghost use Rattle.spec_edit.specs.Windows.{stanza_lines_in};
 ghost use Rattle.spec_edit.specs.RelaidStanzas.{OpensApart, first_apart, last_apart};
 ghost use Rattle.sp_layout.specs.Edges.{CanBegin, CanBeginWindow, CanEnd, CanPart, IsEdge, IsNearestBegin, IsNearestEnd, IsNearestStart, IsPartBegin, IsPartEnd, IsPartStart, opens_first, windows_open};
 ghost use Rattle.sp_layout.specs.Kept.{laid_of};
 
 use crate::{KeptLayout, count_below, elements_before};
-use sp_blocks::Stanza;
+use sp_blocks::{Stanza, is_speech_kind};
 use sp_reread::{Stanzas, Swapped};
-use spec_script::Kind;
 
 /// Where a part of a layout begins or ends: before which stanza, before which element of the title page and which of the
 /// body, and before which page break.
@@ -31,18 +29,12 @@ fn opens_apart(stanza: &Stanza) -> bool
     }
 }
 
-fn is_speech(kind: Kind) -> bool
-    ensures { result ≡ is_speech_kind kind }
-{
-    matches!(kind, Kind::Speech)
-}
-
 /// Whether the last block of a stanza is no speech without a caret, so that it is joined with none behind it.
 fn closes_apart(stanza: &Stanza) -> bool
     ensures { result ≡ last_apart stanza.now.blocks }
 {
     match stanza.blocks.last() {
-        Some(block) => !is_speech(block.kind) || block.caret,
+        Some(block) => !is_speech_kind(block.kind) || block.caret,
         None => false,
     }
 }

@@ -1,9 +1,8 @@
 //! The elements of a text, laid out.
 ghost use Rattle.std.specs.Prelude.{◌≡◌, ◌+◌, ◌<◌, ◌≤◌, length, true, All, IfOk, OnOk};
 ghost use Rattle.spec_text.specs.Lines.{IsText, line_texts};
-ghost use Rattle.spec_script.specs.Elements.{is_dual, is_speech_kind, PlacedLies, PlacesRise};
+ghost use Rattle.spec_script.specs.Elements.{is_dual, PlacedLies, PlacesRise};
 ghost use Rattle.spec_script.specs.Stanzas.{blocks_of};
-ghost use Rattle.spec_pages.specs.Rows.{is_title};
 ghost use Rattle.spec_sheets.specs.Layout.{is_page_break};
 ghost use Rattle.sp_text.specs.Gap.{text_of};
 ghost use Rattle.sp_layout.specs.LaidOut.{AddsElement, IsLayoutOf, layout_behind, spoken_beside, spoken_block, with_laid};
@@ -11,8 +10,8 @@ ghost use Rattle.sp_layout.specs.Speaking.{speakers_before};
 
 use crate::speakers::Speakers;
 use crate::{Body, Element};
-use sp_blocks::PlacedBlock;
-use sp_columns::{dual_rows, single_rows};
+use sp_blocks::{PlacedBlock, is_speech_kind};
+use sp_columns::{dual_rows, is_title, single_rows};
 use sp_text::Lines;
 use spec_pages::Side;
 use spec_script::Kind;
@@ -37,18 +36,6 @@ impl Model for Layout {
     ghost view = { λ l. record { titles = keyed_elements l.titles; body = keyed_elements l.body; breaks = l.breaks.items } };
 }
 
-fn is_speech(kind: Kind) -> bool
-    ensures { result ≡ is_speech_kind kind }
-{
-    matches!(kind, Kind::Speech)
-}
-
-fn is_title(kind: Kind) -> bool
-    ensures { result ≡ is_title kind }
-{
-    matches!(kind, Kind::Title)
-}
-
 fn is_page_break(kind: Kind) -> bool
     ensures { result ≡ is_page_break kind }
 {
@@ -61,7 +48,7 @@ fn is_dual(left: &PlacedBlock<'_>, right: &PlacedBlock<'_>) -> bool
 {
     let left = left.block;
     let right = right.block;
-    is_speech(left.kind) && !left.caret && is_speech(right.kind) && right.caret
+    is_speech_kind(left.kind) && !left.caret && is_speech_kind(right.kind) && right.caret
 }
 
 /// Adds a block by itself.
@@ -103,7 +90,8 @@ fn add_pair(
     requires right { PlacedLies (line_texts lines.now.lines) right.now }
     requires order { left.now.first ≤ right.now.first }
     requires dual { is_dual left.now right.now ≡ true }
-    ensures { OnOk result (layout.new ≡ with_laid lines.now.lines layout.old (spoken_beside left.now continued right.now second_continued)) }
+    ensures { OnOk result (layout.new ≡ with_laid lines.now.lines layout.old
+        (spoken_beside left.now continued right.now second_continued)) }
 {
     let rows = dual_rows(
         alloc,
@@ -134,7 +122,8 @@ fn add_element(
     requires inside { place < length blocks.now }
     requires lie { All (PlacedLies (line_texts lines.now.lines)) blocks.now }
     requires rise { PlacesRise 0 blocks.now }
-    ensures { IfOk result (AddsElement lines.now.lines blocks.now place layout.old speakers.old layout.new speakers.new) }
+    ensures { IfOk result
+        (AddsElement lines.now.lines blocks.now place layout.old speakers.old layout.new speakers.new) }
 {
     let first = &blocks[place];
     if place + 1 < blocks.len() && is_dual(first, &blocks[place + 1]) {

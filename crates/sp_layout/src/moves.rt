@@ -18,7 +18,8 @@ fn move_all(elements: &mut [Element], less: u64, more: u64)
 pub fn move_elements(elements: &mut Vec<Element>, from: usize, less: u64, more: u64)
     requires within { from ≤ vec_len elements.old }
     requires can { All (CanMove less more) (drop from elements.old.items) }
-    ensures elements { elements.new.items ≡ take from elements.old.items ++ map (moved_element less more) (drop from elements.old.items) }
+    ensures elements { elements.new.items ≡ take from elements.old.items ++ map (moved_element less more)
+        (drop from elements.old.items) }
     ensures len { vec_len elements.new ≡ vec_len elements.old }
     ensures room { vec_capacity elements.new ≡ vec_capacity elements.old }
 {

@@ -28,10 +28,15 @@ pub fn relay(
     requires lie { All (PlacedLies (line_texts lines.now.lines)) blocks.now }
     requires rise { PlacesRise 0 blocks.now }
     requires can { CanSwap (laid_of kept.old) places (layout_behind lines.now.lines speakers blocks.now) }
-    ensures part { OnOk result (laid_of kept.new ≡ with_part (laid_of kept.old) places (layout_behind lines.now.lines speakers blocks.now)) }
-    ensures layout { OnOk result (IsLaidAnew lines.now.lines speakers blocks.now places (laid_of kept.old) (laid_of kept.new)) }
-    ensures places { IfOk result (λ it. it.places ≡ places_back places (layout_behind lines.now.lines speakers blocks.now)) }
-    ensures outside { (before : List LineState) → IsRelaid before lines.now.lines speakers blocks.now places (laid_of kept.old) → IfOk result (λ it. StaysOutside before lines.now.lines (laid_of kept.new).body.elements it.places) }
+    ensures part { OnOk result
+        (laid_of kept.new ≡ with_part (laid_of kept.old) places (layout_behind lines.now.lines speakers blocks.now)) }
+    ensures layout { OnOk result
+        (IsLaidAnew lines.now.lines speakers blocks.now places (laid_of kept.old) (laid_of kept.new)) }
+    ensures places { IfOk result (λ it.
+        it.places ≡ places_back places (layout_behind lines.now.lines speakers blocks.now)) }
+    ensures outside { (before : List LineState)
+        → IsRelaid before lines.now.lines speakers blocks.now places (laid_of kept.old)
+        → IfOk result (λ it. StaysOutside before lines.now.lines (laid_of kept.new).body.elements it.places) }
     ensures back { IfOk result (λ it. with_part (laid_of kept.new) it.places (laid_of it.kept) ≡ laid_of kept.old) }
     ensures again { IfOk result (λ it. CanSwap (laid_of kept.new) it.places (laid_of it.kept)) }
     ensures returns { IfOk result (λ it. HasPartRoom kept.new it.places it.kept) }

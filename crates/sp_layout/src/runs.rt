@@ -52,10 +52,12 @@ pub fn exchange_run(
 ) -> usize
     requires can { CanExchange (keyed_elements body.old) from to less more }
     requires room { HasRoom body.old from to other.old }
-    ensures body { keyed_elements body.new ≡ with_run (keyed_elements body.old) from to (keyed_elements other.old) less more }
+    ensures body { keyed_elements body.new ≡ with_run (keyed_elements body.old) from to
+        (keyed_elements other.old) less more }
     ensures other { keyed_elements other.new ≡ run_of (keyed_elements body.old) from to }
     ensures to { result ≡ from + length other.old.elements }
-    ensures back { with_run (keyed_elements body.new) from result (keyed_elements other.new) more less ≡ keyed_elements body.old }
+    ensures back { with_run (keyed_elements body.new) from result
+        (keyed_elements other.new) more less ≡ keyed_elements body.old }
     ensures can { CanExchange (keyed_elements body.new) from result more less }
     ensures taken { from + length other.new.elements ≡ to }
     ensures room { HasRoom body.new from result other.new }
@@ -86,7 +88,8 @@ pub fn exchange_breaks(
     ensures to { result ≡ from + length others.old.items }
     ensures back { with_breaks breaks.new.items from result others.new.items base more less ≡ breaks.old.items }
     ensures can { CanExchangeBreaks breaks.new.items from result others.new.items base more less }
-    ensures room { (vec_len breaks.new + vec_len others.new ≤ vec_capacity breaks.new) × (result - from ≤ vec_capacity others.new) }
+    ensures room { (vec_len breaks.new + vec_len others.new ≤ vec_capacity breaks.new)
+        × (result - from ≤ vec_capacity others.new) }
     ensures breaks_room { vec_capacity breaks.new ≡ vec_capacity breaks.old }
     ensures others_room { vec_capacity others.new ≡ vec_capacity others.old }
 {
@@ -105,9 +108,12 @@ pub fn make_break_room(
     requires order { from ≤ to }
     ensures breaks { breaks.new.items ≡ breaks.old.items }
     ensures others { others.new.items ≡ others.old.items }
-    ensures ok { OnOk result ((vec_len breaks.new + vec_len others.new ≤ vec_capacity breaks.new) × (to - from ≤ vec_capacity others.new)) }
-    ensures room { (vec_capacity breaks.old ≤ vec_capacity breaks.new) × (vec_capacity others.old ≤ vec_capacity others.new) }
-    ensures succeeds { vec_len breaks.old + vec_len others.old ≤ vec_capacity breaks.old → to - from ≤ vec_capacity others.old → IsOk result }
+    ensures ok { OnOk result
+        ((vec_len breaks.new + vec_len others.new ≤ vec_capacity breaks.new) × (to - from ≤ vec_capacity others.new)) }
+    ensures room { (vec_capacity breaks.old ≤ vec_capacity breaks.new)
+        × (vec_capacity others.old ≤ vec_capacity others.new) }
+    ensures succeeds { vec_len breaks.old + vec_len others.old ≤ vec_capacity breaks.old
+        → to - from ≤ vec_capacity others.old → IsOk result }
 {
     let total = breaks.len() + others.len();
     make_room(breaks, total)?;

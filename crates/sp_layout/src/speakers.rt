@@ -125,8 +125,11 @@ fn pass_block(
     placed: &PlacedBlock<'_>,
 ) -> Result<bool, AllocError>
     requires { PlacedLies (line_texts lines.now.lines) placed.now }
-    ensures same { IfOk result (λ same. same ≡ is_speech_kind placed.now.block.kind && is_last_speaker (option_map string_bytes last.old) (name_in (cue_text (line_texts lines.now.lines) placed.now))) }
-    ensures last { OnOk result (option_map string_bytes last.new ≡ speaker_after (line_texts lines.now.lines) (option_map string_bytes last.old) placed.now) }
+    ensures same { IfOk result (λ same. same ≡ is_speech_kind placed.now.block.kind
+        && is_last_speaker (option_map string_bytes last.old)
+        (name_in (cue_text (line_texts lines.now.lines) placed.now))) }
+    ensures last { OnOk result (option_map string_bytes last.new ≡ speaker_after (line_texts lines.now.lines)
+        (option_map string_bytes last.old) placed.now) }
 {
     let block = placed.block;
     match block.kind {
@@ -212,7 +215,8 @@ fn last_speaker(
     blocks: &[PlacedBlock<'_>],
 ) -> Result<Option<String>, AllocError>
     requires { All (PlacedLies (line_texts lines.now.lines)) blocks.now }
-    ensures { IfOk result (λ last. option_map string_bytes last ≡ last_speaker (line_texts lines.now.lines) blocks.now) }
+    ensures { IfOk result (λ last.
+        option_map string_bytes last ≡ last_speaker (line_texts lines.now.lines) blocks.now) }
 {
     match last_speech(blocks) {
         Some(place) => Ok(Some(speaker_name(alloc, lines, &blocks[place])?)),
@@ -317,7 +321,8 @@ impl Speakers {
         placed: &PlacedBlock<'_>,
     ) -> Result<bool, AllocError>
         requires { PlacedLies (line_texts lines.now.lines) placed.now }
-        ensures goes_on { IfOk result (λ goes_on. goes_on ≡ (settled lines.now.lines side (named_block self.old.on (line_texts lines.now.lines) self.old.last placed.now)).continued) }
+        ensures goes_on { IfOk result (λ goes_on. goes_on ≡ (settled lines.now.lines side
+            (named_block self.old.on (line_texts lines.now.lines) self.old.last placed.now)).continued) }
         ensures behind { OnOk result (self.new ≡ speakers_behind (line_texts lines.now.lines) self.old placed.now) }
     {
         if !self.on || !pass_block(alloc, &mut self.last, lines, placed)? {

@@ -3,9 +3,8 @@ ghost use Rattle.std.specs.Prelude.{◌≡◌, ◌⊎◌, ℕ, ◌<◌, ◌≤�
 ghost use Rattle.std.specs.List.{list_any};
 ghost use Rattle.spec_text.specs.Lines.{line_texts};
 ghost use Rattle.spec_script.specs.BlockValues.{BlockOf, StanzaOf};
-ghost use Rattle.spec_script.specs.Elements.{PlacedLies, is_speech_kind};
+ghost use Rattle.spec_script.specs.Elements.{PlacedLies};
 ghost use Rattle.spec_script.specs.Stanzas.{blocks_from, stanzas_of};
-ghost use Rattle.spec_pages.specs.Rows.{is_title};
 ghost use Rattle.spec_edit.specs.Windows.{stanza_lines_in};
 ghost use Rattle.spec_edit.specs.Settling.{IsNextSettling, block_settles};
 ghost use Rattle.sp_layout.specs.Exchanges.{rows_at};
@@ -14,7 +13,8 @@ ghost use Rattle.sp_layout.specs.Kept.{laid_of};
 ghost use Rattle.sp_layout.specs.Speeches.{CanStandIn, GoesAlike, IsFirstSpeech, IsPlacedIn, IsSaidAnew, IsSpeechElement, Speaks, SpeaksNone, body_blocks};
 
 use crate::{KeptLayout, Layout, Row, Speakers, SpeechRows, elements_before, lay_out_behind};
-use sp_blocks::{Block, Kind, PlacedBlock};
+use sp_blocks::{Block, PlacedBlock, is_speech_kind};
+use sp_columns::is_title;
 use sp_reread::{Stanzas, block_settles, placed_blocks_between};
 use sp_text::Lines;
 use std::alloc::{AllocError, Global};
@@ -91,17 +91,11 @@ fn speech_in(stanzas: &Stanzas, from: usize, stanza: usize) -> Option<BlockPlace
 {
     let own = stanzas.stanza(stanza);
     let block = first_settling(&own.blocks);
-    if block < own.blocks.len() && is_speech(&own.blocks[block]) {
+    if block < own.blocks.len() && is_speech_kind(own.blocks[block].kind) {
         Some(BlockPlace { stanza, block })
     } else {
         None
     }
-}
-
-fn is_speech(block: &Block) -> bool
-    ensures { result ≡ is_speech_kind block.now.kind }
-{
-    matches!(block.kind, Kind::Speech)
 }
 
 /// The place behind the first stanza from one on that has a block, or behind all.
@@ -109,7 +103,8 @@ fn next_filled(stanzas: &Stanzas, from: usize) -> usize
     requires { from ≤ length stanzas.now.stanzas }
     ensures low { from ≤ result }
     ensures within { result ≤ length stanzas.now.stanzas }
-    ensures filled { (result ≡ length stanzas.now.stanzas) ⊎ ((p : ℕ) → 0 < length (blocks_from p (slice_range stanzas.now.stanzas from result))) }
+    ensures filled { (result ≡ length stanzas.now.stanzas)
+        ⊎ ((p : ℕ) → 0 < length (blocks_from p (slice_range stanzas.now.stanzas from result))) }
 {
     for place in from..stanzas.len() {
         let stanza = stanzas.stanza(place);
@@ -211,12 +206,6 @@ fn said_at(
     }))
 }
 
-fn is_title(block: &Block) -> bool
-    ensures { result ≡ is_title block.now.kind }
-{
-    matches!(block.kind, Kind::Title)
-}
-
 /// How many of these blocks don't stand on a title page.
 fn body_blocks(blocks: &[Block]) -> usize
     ensures value { result ≡ body_blocks blocks.now }
@@ -224,7 +213,7 @@ fn body_blocks(blocks: &[Block]) -> usize
 {
     let mut count = 0;
     for block in blocks {
-        if !is_title(block) {
+        if !is_title(block.kind) {
             count += 1;
         }
     }
@@ -234,8 +223,10 @@ fn body_blocks(blocks: &[Block]) -> usize
 /// Which element of a body a speech is, before which none is joined with another in its stanza.
 fn speech_element(stanzas: &Stanzas, kept: &KeptLayout, place: BlockPlace) -> usize
     requires inside { place.stanza < length stanzas.now.stanzas }
-    requires block { (s : StanzaOf) → slice_get stanzas.now.stanzas place.stanza ≡ Some s → place.block ≤ length s.blocks }
-    requires parted { ArePartedAt (laid_of kept.now).body.elements (stanza_lines_in (take place.stanza stanzas.now.stanzas)) }
+    requires block { (s : StanzaOf) → slice_get stanzas.now.stanzas place.stanza ≡ Some s
+        → place.block ≤ length s.blocks }
+    requires parted { ArePartedAt (laid_of kept.now).body.elements
+        (stanza_lines_in (take place.stanza stanzas.now.stanzas)) }
     ensures { IsSpeechElement stanzas.now.stanzas (laid_of kept.now).body.elements place result }
 {
     let _len = stanzas.len();

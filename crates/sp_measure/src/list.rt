@@ -32,7 +32,8 @@ pub trait ClusterList: Drop {
     fn fitting(&self, width: u32) -> usize
         ensures within { result ≤ length (clusters self.now) }
         ensures fit { total_width (take result (clusters self.now)) ≤ width }
-        ensures over { result < length (clusters self.now) → width < total_width (take (result + 1) (clusters self.now)) };
+        ensures over { result < length (clusters self.now)
+            → width < total_width (take (result + 1) (clusters self.now)) };
 
     /// The row that they make.
     fn row(&self, alloc: Global) -> Result<WrapRow, AllocError>

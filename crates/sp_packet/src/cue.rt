@@ -3,10 +3,25 @@ ghost use Rattle.std.specs.Prelude.{◌≡◌, ◌^◌, ◌<◌, ◌≤◌, AllP
 ghost use Rattle.std.specs.List.{prefix_len};
 ghost use Rattle.sp_packet.specs.Cues.{is_cue_shape, place_with, places_by, reach, reach_row, speech_row};
 
-use crate::facts::Places;
 use sp_fill::continues_speech;
 use sp_gap::GapList;
 use spec_pages::{RowKind, Shape};
+use std::marker::Model;
+
+/// Records from one place, from 0, to another, both included.
+#[derive(Drop)]
+pub struct Places {
+    pub first: usize,
+    pub last: usize,
+}
+
+impl Model for Places {
+    ghost use Rattle.spec_packet.specs.SheetFacts.{PlacesOf};
+
+    ghost Value = { PlacesOf };
+
+    ghost view = { λ p. record { first = p.first; last = p.last } };
+}
 
 /// Whether the row is a cue's.
 fn is_cue(shape: &Shape) -> bool

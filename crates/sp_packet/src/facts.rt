@@ -8,7 +8,7 @@ ghost use Rattle.spec_packet.specs.SheetFacts.{laid_facts};
 ghost use Rattle.spec_packet.specs.StatePackets.{laid_of};
 ghost use Rattle.sp_packet.specs.Runs.{LieWithin, empty_run, facts_by, starts_before};
 
-use crate::cue::cue_places;
+use crate::cue::{Places, cue_places};
 use sp_gap::GapList;
 use sp_locks::Sheet;
 use sp_sheets::StateView;
@@ -16,21 +16,6 @@ use sp_state::Script;
 use spec_pages::Shape;
 use std::alloc::{AllocError, Global};
 use std::marker::Model;
-
-/// Records from one place, from 0, to another, both included.
-#[derive(Drop)]
-pub struct Places {
-    pub first: usize,
-    pub last: usize,
-}
-
-impl Model for Places {
-    ghost use Rattle.spec_packet.specs.SheetFacts.{PlacesOf};
-
-    ghost Value = { PlacesOf };
-
-    ghost view = { λ p. record { first = p.first; last = p.last } };
-}
 
 /// What a packet asks of a sheet with labels (docs/RULES.md, "Packets").
 #[derive(Drop)]
@@ -105,7 +90,8 @@ fn add_pages(
 ) -> Result<(), AllocError>
     requires order { AllPairs (λ one other. one ≤ other) starts.now }
     requires inside { All (λ (sheet : SheetOf). sheet.start < length shapes.now.items) pages.now }
-    ensures { OnOk result (facts.new.items ≡ facts.old.items ++ map (facts_by starts.now shapes.now.items place (length pages.now)) pages.now) }
+    ensures { OnOk result (facts.new.items ≡ facts.old.items
+        ++ map (facts_by starts.now shapes.now.items place (length pages.now)) pages.now) }
 {
     for page in pages {
         facts.push(SheetFacts {

@@ -3,7 +3,8 @@ ghost use Rattle.std.specs.Prelude.{◌≡◌, ◌+◌, ◌-◌, ◌^◌, ◌<�
 ghost use Rattle.sp_packet.specs.Fresh.{count_before, counts_of, has_fresh, has_fresh_cue, is_handed_by, is_of_round};
 ghost use Rattle.sp_packet.specs.Runs.{LieWithin, LiesBelow};
 
-use crate::facts::{Places, SheetFacts};
+use crate::cue::Places;
+use crate::facts::SheetFacts;
 use sp_locks::PageRecord;
 use std::alloc::{AllocError, Global};
 use std::marker::Model;
@@ -74,7 +75,8 @@ fn has_fresh_cue(fresh: &FreshCounts, cue: &Option<Places>) -> bool
 /// Whether the record directly before some or directly behind them is fresh.
 fn has_fresh_neighbour(fresh: &FreshCounts, records: &Places) -> bool
     requires { (records.now).last < 2 ^ 63 }
-    ensures { result ≡ (has_fresh fresh.now ((records.now).first - 1) (records.now).first || has_fresh fresh.now ((records.now).last + 1) ((records.now).last + 2)) }
+    ensures { result ≡ (has_fresh fresh.now ((records.now).first - 1) (records.now).first
+        || has_fresh fresh.now ((records.now).last + 1) ((records.now).last + 2)) }
 {
     has_fresh(fresh, records.first.saturating_sub(1), records.first)
         || has_fresh(fresh, records.last + 1, records.last + 2)

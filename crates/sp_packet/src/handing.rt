@@ -77,7 +77,8 @@ fn add_handed(
 ) -> Result<(), AllocError>
     requires within { All (LieWithin (2 ^ 63)) facts.now }
     requires few { titles + length facts.now < 2 ^ 64 }
-    ensures { OnOk result (places.new.items ≡ places.old.items ++ places_from titles (map (is_handed_by fresh.now) facts.now)) }
+    ensures { OnOk result
+        (places.new.items ≡ places.old.items ++ places_from titles (map (is_handed_by fresh.now) facts.now)) }
 {
     for (place, it) in facts.iter().enumerate() {
         if is_handed(fresh, it) {

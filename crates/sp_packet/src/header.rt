@@ -26,7 +26,8 @@ impl Model for Span {
 
 /// What stands before the first such byte, and what behind it.
 pub fn cut_at(bytes: &[u8], byte: u8) -> Option<(&[u8], &[u8])>
-    ensures { MatchOption result (IsUncut (λ b. b == byte) bytes.now) (λ parts. IsCut (λ b. b == byte) bytes.now parts.0.now parts.1.now) }
+    ensures { MatchOption result (IsUncut (λ b. b == byte) bytes.now) (λ parts.
+        IsCut (λ b. b == byte) bytes.now parts.0.now parts.1.now) }
 {
     match place_of(bytes, byte) {
         Some(place) => Some((&bytes[..place], &bytes[place + 1..])),

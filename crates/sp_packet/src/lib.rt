@@ -13,6 +13,7 @@ mod header;
 mod sheets;
 
 pub use collation::collate;
-pub use facts::{Places, SheetFacts, sheet_facts};
+pub use cue::Places;
+pub use facts::{SheetFacts, sheet_facts};
 pub use fault::CollateFault;
 pub use handing::{PacketFault, packet};

@@ -75,7 +75,8 @@ impl<'a> SheetList<'a> {
 
     /// Puts a title sheet behind the others.
     fn add_title(&mut self, bytes: &'a [u8]) -> Result<(), AllocError>
-        ensures { OnOk result (self.new ≡ record { titles = self.old.titles ++ bytes.now ∷ []; labelled = self.old.labelled }) }
+        ensures { OnOk result
+            (self.new ≡ record { titles = self.old.titles ++ bytes.now ∷ []; labelled = self.old.labelled }) }
     {
         self.titles.push(bytes)?;
         Ok(())
@@ -83,7 +84,10 @@ impl<'a> SheetList<'a> {
 
     /// Puts a sheet with labels behind the others.
     fn add_sheet(&mut self, span: Span, bytes: &'a [u8]) -> Result<(), AllocError>
-        ensures { OnOk result (self.new ≡ record { titles = self.old.titles; labelled = self.old.labelled ++ record { label = span; bytes = bytes.now } ∷ [] }) }
+        ensures { OnOk result (self.new ≡ record {
+          titles = self.old.titles;
+          labelled = self.old.labelled ++ record { label = span; bytes = bytes.now } ∷ [];
+        }) }
     {
         self.sheets.push(Sheet { span, bytes })?;
         Ok(())
@@ -135,7 +139,8 @@ impl<'a> SheetList<'a> {
 
 /// The first sheet of bytes without its form feed and with it, and what stands behind it; `None` where there is no form feed.
 fn first_sheet(bytes: &[u8]) -> Option<(&[u8], &[u8], &[u8])>
-    ensures { MatchOption result (IsUncut (λ b. b == 12) bytes.now) (λ parts. IsCut (λ b. b == 12) bytes.now parts.0.now parts.2.now × (parts.1.now ≡ parts.0.now ++ 12 ∷ [])) }
+    ensures { MatchOption result (IsUncut (λ b. b == 12) bytes.now) (λ parts.
+        IsCut (λ b. b == 12) bytes.now parts.0.now parts.2.now × (parts.1.now ≡ parts.0.now ++ 12 ∷ [])) }
 {
     match cut_at(bytes, 12) {
         Some((piece, behind)) => Some((piece, &bytes[..piece.len() + 1], behind)),

@@ -14,5 +14,6 @@ pub trait PartWriter {
     /// Writes a text that isn't empty. `Failed` comes only where the sink's count of faults rose in this call, and then the
     /// sink took a proper prefix.
     fn write_part<O: Sink>(&self, sink: &mut O, style: u8, text: CellText<'_>) -> Result<(), Failed>
-        ensures { Writes (O.state sink.old) (O.state sink.new) (written style (shown_bytes (text_of text.entry))) result };
+        ensures { Writes (O.state sink.old) (O.state sink.new)
+            (written style (shown_bytes (text_of text.entry))) result };
 }

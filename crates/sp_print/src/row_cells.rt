@@ -65,7 +65,8 @@ fn part_count(cell: &Cell) -> usize
 fn cell_part<'a>(lines: &'a Lines, first: u64, cell: &Cell, place: usize) -> CellView<'a>
     requires shows { ShowsParts (line_texts lines.now.lines) (shifted_cell first cell.now) }
     requires within { place < part_count cell.now }
-    ensures view { slice_get (cell_views (shown_cell (line_texts lines.now.lines) (shifted_cell first cell.now))) place ≡ Some (view_of result) }
+    ensures view { slice_get (cell_views (shown_cell (line_texts lines.now.lines) (shifted_cell first cell.now)))
+        place ≡ Some (view_of result) }
     ensures slice { IsSlice result.text }
 {
     if cell.is_fixed() {
@@ -83,7 +84,8 @@ fn cell_part<'a>(lines: &'a Lines, first: u64, cell: &Cell, place: usize) -> Cel
 fn run_part<'a>(lines: &'a Lines, first: u64, cell: &Cell, place: usize) -> CellView<'a>
     requires shows { ShowsParts (line_texts lines.now.lines) (shifted_cell first cell.now) }
     requires within { place < length cell.now.runs }
-    ensures view { slice_get (runs_views (line_texts lines.now.lines) (shifted_cell first cell.now)) place ≡ Some (view_of result) }
+    ensures view { slice_get (runs_views (line_texts lines.now.lines) (shifted_cell first cell.now))
+        place ≡ Some (view_of result) }
     ensures slice { IsSlice result.text }
 {
     let text = line_text(lines, first, cell.line);
@@ -104,7 +106,8 @@ pub(crate) fn row_cells<'a>(
     unnumbered: bool,
 ) -> RowCells<'a>
     requires { RowShows (line_texts lines.now.lines) (shifted_row first row.now) }
-    ensures { result ≡ map (shown_cell (line_texts lines.now.lines)) (kept_cells unnumbered (shifted_row first row.now).cells) }
+    ensures { result ≡ map (shown_cell (line_texts lines.now.lines))
+        (kept_cells unnumbered (shifted_row first row.now).cells) }
 {
     RowCells {
         lines,

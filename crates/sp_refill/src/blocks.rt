@@ -1,16 +1,9 @@
 //! The blocks next to the window of an edit.
 ghost use Rattle.std.specs.Prelude.{◌≡◌, ◌+◌, ◌-◌, ◌≤◌, ◌&&◌, length, take, drop, option_copied, Some};
-ghost use Rattle.spec_script.specs.Elements.{is_speech_kind};
 ghost use Rattle.sp_refill.specs.Neighbours.{first_in, first_one, is_pair, is_there, last_in, last_one, nearer, parts_behind, parts_rest, relays_before, relays_front};
 
-use sp_blocks::{Block, Kind, Stanza};
+use sp_blocks::{Block, Stanza, is_speech_kind};
 use sp_reread::{Stanzas, Swapped};
-
-fn is_speech(block: &Block) -> bool
-    ensures { result ≡ is_speech_kind block.now.kind }
-{
-    matches!(block.kind, Kind::Speech)
-}
 
 /// Whether two neighbours are dual dialogue, where both are there.
 fn is_pair(left: Option<&Block>, right: Option<&Block>) -> bool
@@ -22,7 +15,7 @@ fn is_pair(left: Option<&Block>, right: Option<&Block>) -> bool
     let Some(right) = right else {
         return false;
     };
-    is_speech(left) && !left.caret && is_speech(right) && right.caret
+    is_speech_kind(left.kind) && !left.caret && is_speech_kind(right.kind) && right.caret
 }
 
 /// Whether there is a block.
@@ -126,7 +119,8 @@ fn relays_front(
     come: Option<&Block>,
     rest: Option<&Block>,
 ) -> bool
-    ensures { result ≡ relays_front (option_copied front.entry) (option_copied gone.entry) (option_copied come.entry) (option_copied rest.entry) }
+    ensures { result ≡ relays_front (option_copied front.entry) (option_copied gone.entry) (option_copied come.entry)
+        (option_copied rest.entry) }
 {
     (is_there(gone) || is_there(come))
         && (is_pair(front, nearer(gone, rest)) || is_pair(front, nearer(come, rest)))

@@ -94,9 +94,12 @@ pub fn exchanged_rows(
     news: &Body,
 ) -> ExchangedRows
     requires edit { IsBehindSomeEdit lines.now.lines stanzas.now.stanzas swapped.now ahead.now news.now.elements }
-    ensures found { (state : State) (it : Replacement) (a b : ℕ) → IsOfEdit state it lines.now.lines stanzas.now.stanzas swapped.now
-        → AreAhead stanzas.now.stanzas swapped.now (layout_in state).body ahead.now → news.now.elements ≡ (layout_in (edited_state state it)).body
-        → IsWindowOf (range_of it) state (edited_state state it) a b → result ≡ edit_exchange (range_of it) state (edited_state state it) a b }
+    ensures found { (state : State) (it : Replacement) (a b : ℕ)
+        → IsOfEdit state it lines.now.lines stanzas.now.stanzas swapped.now
+        → AreAhead stanzas.now.stanzas swapped.now (layout_in state).body ahead.now
+        → news.now.elements ≡ (layout_in (edited_state state it)).body
+        → IsWindowOf (range_of it) state (edited_state state it) a b
+        → result ≡ edit_exchange (range_of it) state (edited_state state it) a b }
 {
     let at = swapped.at();
     let _count = stanzas.len();

@@ -35,11 +35,14 @@ pub fn settled_at(
     p: usize,
 ) -> Option<usize>
     requires { AllPairs (λ one other. one < other) old_starts.now }
-    ensures some { IfSome result (λ at. is_settled (record { first = first; old = old; new = new }) old_starts.now p ≡ true) }
-    ensures place { IfSome result (λ at. at ≡ prefix_len (λ start. nat_lt start (came_from (record { first = first; old = old; new = new }) p)) old_starts.now) }
+    ensures some { IfSome result (λ at.
+        is_settled (record { first = first; old = old; new = new }) old_starts.now p ≡ true) }
+    ensures place { IfSome result (λ at. at ≡ prefix_len (λ start.
+        nat_lt start (came_from (record { first = first; old = old; new = new }) p)) old_starts.now) }
     ensures inside { IfSome result (λ at. at < length old_starts.now) }
     ensures behind { IfSome result (λ at. first + old ≤ get_or old_starts.now at 0) }
-    ensures none { IfNone result (is_settled (record { first = first; old = old; new = new }) old_starts.now p ≡ false) }
+    ensures none { IfNone result
+        (is_settled (record { first = first; old = old; new = new }) old_starts.now p ≡ false) }
 {
     if p < new || p - new < first {
         return None;

@@ -73,7 +73,8 @@ pub fn present_place(
 ) -> Result<u64, Refusal>
     requires kept { length changes.now.items ≡ min version kept_changes }
     requires fits { Fits lines (ranges changes.now.items) }
-    ensures { IsPlace (asked_edit (ranges changes.now.items) version lines seen (range_of range)) (range_of range) result }
+    ensures { IsPlace (asked_edit (ranges changes.now.items) version lines seen (range_of range))
+        (range_of range) result }
 {
     if version < seen {
         return Err(Refusal::Ahead(version));

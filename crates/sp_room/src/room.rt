@@ -124,7 +124,7 @@ impl Room {
             Command::Edit(edit) => self.edit(lines, seat, seen, edit, steps),
             Command::Undo => self.undo(seat, steps),
             Command::Redo => self.redo(seat, steps),
-            command => self.look(command, steps),
+            command => self.ask_other(command, steps),
         }
     }
 
@@ -219,16 +219,18 @@ impl Room {
     }
 
     /// Any other command, which makes no change. Where it empties what can be undone and redone, the seats go too.
-    fn look<S: Steps>(&mut self, command: Command, steps: &mut S) -> Result<Reply, DeskFault>
+    fn ask_other<S: Steps>(&mut self, command: Command, steps: &mut S) -> Result<Reply, DeskFault>
         requires lines { length self.old.desk.state.lines < 2 ^ 64 }
         requires kind { MakesNoChange (kind_of (command_of command)) }
         ensures step { (seat : List ℕ) (seen : ℕ)
             → IsRoomAnswer self.old (line_of seat seen (command_of command)) self.new result }
         ensures unrefused { IfOk result (λ reply. is_refused (reply_of reply) ≡ false) }
         ensures reads { (seat : List ℕ) (seen : ℕ)
-            → RoomReads self.old (line_of seat seen (command_of command)) result (S.reads steps.old) (S.reads steps.new) }
+            → RoomReads self.old (line_of seat seen (command_of command)) result (S.reads steps.old)
+            (S.reads steps.new) }
         ensures fills { (seat : List ℕ) (seen : ℕ)
-            → RoomFills self.old (line_of seat seen (command_of command)) result (S.fills steps.old) (S.fills steps.new) }
+            → RoomFills self.old (line_of seat seen (command_of command)) result (S.fills steps.old)
+            (S.fills steps.new) }
     {
         let forgets = is_forgetting(&command);
         let reply = ask(self.alloc, &mut self.desk, command, steps)?;

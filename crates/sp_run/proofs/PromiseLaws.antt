@@ -7,7 +7,7 @@ use Rattle.spec_state.specs.State.{State}
 use Rattle.spec_state.specs.Keeping.{IsWhole}
 use Rattle.spec_machine.specs.Machine.{Memory, edited_memory, entry_of, memory_after, memory_behind, opened_memory, undone_to}
 use Rattle.spec_machine.specs.KeptMemories.{IsWholeMemory}
-use Rattle.spec_machine.specs.Sessions.{AcceptsAll, AcceptsSessions, LeadsOn, session_behind, sessions_behind}
+use Rattle.spec_machine.specs.Sessions.{AcceptsAll, AcceptsSessions, LeadsTo, session_behind, sessions_behind}
 use Rattle.spec_machine.proofs.MachineLaws.{all-stay, lost-on, opened-whole, steps-whole, steps-lost}
 use Rattle.spec_machine.proofs.LabelLaw.{state-labelled}
 use Rattle.spec_machine.proofs.DeskLaws.{locking-stays, beginning-stays}
@@ -64,7 +64,7 @@ sessions-follow earlier (commands ∷ later) whole linked can =
     let here = session-follows earlier commands whole can.0 in
     follows-on earlier now (sessions_behind now later) here (sessions-follow now later here.whole here.linked can.1)
 
-leads-follow : (earlier now : Memory) → IsWholeMemory earlier → AreLinked earlier → LeadsOn earlier now → Follows earlier now
+leads-follow : (earlier now : Memory) → IsWholeMemory earlier → AreLinked earlier → LeadsTo earlier now → Follows earlier now
 leads-follow earlier now whole linked lead =
     let memory = memory_behind earlier lead.commands in
     let here = commands-follow earlier lead.commands whole linked lead.taken in

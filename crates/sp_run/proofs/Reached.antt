@@ -6,7 +6,7 @@ use Rattle.spec_wire.specs.Lines.{command_of_line, room_line_of_line}
 use Rattle.spec_wire.specs.Replies.{RefusalOf, ReplyOf}
 use Rattle.spec_machine.specs.Machine.{Memory, memory_after}
 use Rattle.spec_machine.specs.Refusals.{refusal_to}
-use Rattle.spec_machine.specs.Sessions.{Accepts, LeadsOn}
+use Rattle.spec_machine.specs.Sessions.{Accepts, LeadsTo}
 use Rattle.spec_machine.specs.KeptMemories.{IsWholeMemory}
 use Rattle.spec_machine.specs.Answers.{Step, step_by}
 use Rattle.spec_machine.proofs.SessionLaws.{leads-itself, command-leads}
@@ -22,9 +22,9 @@ use Rattle.sp_run.specs.Seats.{AreTakenSeen, IsTakenSeen}
 abbrev Moves : Memory → Memory → Type 0
 Moves old new = (new ≡ old) ⊎ ((command : CommandOf) × Accepts old command × (new ≡ memory_after old command))
 
-moves-lead : (old new now : Memory) → Moves old new → LeadsOn new now → LeadsOn old now
-moves-lead old new now (inl same) lead = subst (λ (it : Memory). LeadsOn it now) same lead
-moves-lead old new now (inr (command, can, is)) lead = command-leads old now command can (subst (λ (it : Memory). LeadsOn it now) is lead)
+moves-lead : (old new now : Memory) → Moves old new → LeadsTo new now → LeadsTo old now
+moves-lead old new now (inl same) lead = subst (λ (it : Memory). LeadsTo it now) same lead
+moves-lead old new now (inr (command, can, is)) lead = command-leads old now command can (subst (λ (it : Memory). LeadsTo it now) is lead)
 
 -- ---- the lines of a desk
 
@@ -60,8 +60,8 @@ none-one memory same = let bad : ⊥ = cc in bad
 
 -- Each memory of a desk.
 pub desk-leads : (before : AtShelf NamedDesk) (lines : List (List ℕ)) (steps : List (Answered (AtShelf NamedDesk))) → Runs AnswersLine before lines steps
-    → (j : ℕ) (now : Memory) → slice_get (memories_of desk_itself before.it.memory steps) j ≡ Some now → LeadsOn before.it.memory now
-desk-leads before lines steps runs zero now is = subst (LeadsOn before.it.memory) (some-one before.it.memory now is) (leads-itself before.it.memory)
+    → (j : ℕ) (now : Memory) → slice_get (memories_of desk_itself before.it.memory steps) j ≡ Some now → LeadsTo before.it.memory now
+desk-leads before lines steps runs zero now is = subst (LeadsTo before.it.memory) (some-one before.it.memory now is) (leads-itself before.it.memory)
 desk-leads before [] [] runs (suc j) now is = absurd (none-one now is)
 desk-leads before [] (step ∷ steps) runs (suc j) now is = absurd runs
 desk-leads before (line ∷ lines) [] runs (suc j) now is = absurd runs
@@ -79,8 +79,8 @@ room-moves old new texts behind line (inr took) = (let takes = took.takes in inr
 
 -- Each memory of a room.
 pub room-leads : (room : RoomState) (texts : List Text) (lines : List (List ℕ)) (steps : List (Answered (AtShelf NamedRoom))) → AreTakenSeen room texts lines steps → length steps ≤ length lines
-    → (j : ℕ) (now : Memory) → slice_get (memories_of desk_in room.desk steps) j ≡ Some now → LeadsOn room.desk now
-room-leads room texts lines steps seen few zero now is = subst (LeadsOn room.desk) (some-one room.desk now is) (leads-itself room.desk)
+    → (j : ℕ) (now : Memory) → slice_get (memories_of desk_in room.desk steps) j ≡ Some now → LeadsTo room.desk now
+room-leads room texts lines steps seen few zero now is = subst (LeadsTo room.desk) (some-one room.desk now is) (leads-itself room.desk)
 room-leads room texts lines [] seen few (suc j) now is = absurd (none-one now is)
 room-leads room texts [] (step ∷ steps) seen few (suc j) now is = absurd (omega (arith, few))
 room-leads room texts (line ∷ lines) (step ∷ steps) seen few (suc j) now is =

@@ -13,7 +13,7 @@ use Rattle.spec_machine.specs.Machine.{Memory, memory_after}
 use Rattle.spec_machine.specs.Refusals.{refusal_to}
 use Rattle.spec_machine.specs.Answers.{Step, accepted_reply, found_sheet, step_by, step_of}
 use Rattle.spec_packet.specs.StatePackets.{packet_places}
-use Rattle.sp_wire.specs.Done.{TellsPlainly, is_done}
+use Rattle.sp_wire.specs.Done.{TellsPlainly, may_have_changed}
 use Rattle.sp_run.specs.Saving.{files_of}
 use Rattle.sp_run.proofs.Stores.{unstored-left}
 use Rattle.sp_run.specs.DeskLines.{NamedDesk, Leaves, RepliesTo, StopsAt, Stores, asks_save, is_packet, is_save, line_step_by, other_step, packet_reply, packet_step, saved_step}
@@ -85,7 +85,7 @@ replied-plain before after asked reply (inr it) = subst TellsPlainly (sym it.tol
 
 -- ---- a reply that tells nothing of the kind left all as it was
 
-accepted-undone : (memory : Memory) (command : CommandOf) → is_done (accepted_reply memory (memory_after memory command).state command) ≡ false → memory_after memory command ≡ memory
+accepted-undone : (memory : Memory) (command : CommandOf) → may_have_changed (accepted_reply memory (memory_after memory command).state command) ≡ false → memory_after memory command ≡ memory
 accepted-undone memory (edit it) told = absurd (let bad : ⊥ = cc in bad)
 accepted-undone memory undo told = absurd (let bad : ⊥ = cc in bad)
 accepted-undone memory redo told = absurd (let bad : ⊥ = cc in bad)
@@ -101,41 +101,41 @@ accepted-undone memory outline told = refl
 accepted-undone memory save told = refl
 accepted-undone memory packet told = refl
 
-step-undone : (memory : Memory) (command : CommandOf) → is_done (step_of memory command).reply ≡ false → (step_of memory command).after ≡ memory
+step-undone : (memory : Memory) (command : CommandOf) → may_have_changed (step_of memory command).reply ≡ false → (step_of memory command).after ≡ memory
 step-undone memory command = by (refusal_to memory command)
   where
-    by : (refusal : Option RefusalOf) → is_done (step_by memory command refusal).reply ≡ false → (step_by memory command refusal).after ≡ memory
+    by : (refusal : Option RefusalOf) → may_have_changed (step_by memory command refusal).reply ≡ false → (step_by memory command refusal).after ≡ memory
     by None told = accepted-undone memory command told
     by (Some reason) told = refl
 
-line-same : (memory : Memory) (asked : Result CommandOf FaultOf) → is_done (line_step_by memory asked).reply ≡ false → (line_step_by memory asked).after ≡ memory
+line-same : (memory : Memory) (asked : Result CommandOf FaultOf) → may_have_changed (line_step_by memory asked).reply ≡ false → (line_step_by memory asked).after ≡ memory
 line-same memory (Err fault) = λ told. refl
 line-same memory (Ok command) = by (is_save command) (is_packet command)
   where
-    by : (saves packs : Bool) → is_done (if saves then saved_step memory else (if packs then packet_step memory else step_of memory command)).reply ≡ false
+    by : (saves packs : Bool) → may_have_changed (if saves then saved_step memory else (if packs then packet_step memory else step_of memory command)).reply ≡ false
         → (if saves then saved_step memory else (if packs then packet_step memory else step_of memory command)).after ≡ memory
     by true packs told = refl
     by false true told = refl
     by false false told = step-undone memory command told
 
-line-unasked : (memory : Memory) (asked : Result CommandOf FaultOf) → is_done (line_step_by memory asked).reply ≡ false → asks_save asked ≡ false
+line-unasked : (memory : Memory) (asked : Result CommandOf FaultOf) → may_have_changed (line_step_by memory asked).reply ≡ false → asks_save asked ≡ false
 line-unasked memory (Err fault) = λ told. refl
 line-unasked memory (Ok command) = by (is_save command)
   where
-    by : (saves : Bool) → is_done (if saves then saved_step memory else other_step memory command).reply ≡ false → saves ≡ false
+    by : (saves : Bool) → may_have_changed (if saves then saved_step memory else other_step memory command).reply ≡ false → saves ≡ false
     by true told = absurd (let bad : ⊥ = cc in bad)
     by false told = refl
 
-pub undone-stops : (before after : AtShelf NamedDesk) (asked : Result CommandOf FaultOf) (reply : ReplyOf) → is_done reply ≡ false → RepliesTo before asked after reply → StopsAt before asked after
+pub undone-stops : (before after : AtShelf NamedDesk) (asked : Result CommandOf FaultOf) (reply : ReplyOf) → may_have_changed reply ≡ false → RepliesTo before asked after reply → StopsAt before asked after
 undone-stops before after asked reply told (inl it) =
-    let undone = sym (ap (λ (s : Step). is_done s.reply) it.step) ∙ told in
+    let undone = sym (ap (λ (s : Step). may_have_changed s.reply) it.step) ∙ told in
     let unasked = line-unasked before.it.memory asked undone in
     record {
       memory = ap (λ (s : Step). s.after) it.step ∙ line-same before.it.memory asked undone;
       name = it.name;
       leaves = subst (λ (b : Bool). Leaves b before after) (sym unasked) (subst (λ (b : Bool). Stores b before after) unasked it.stores);
     }
-undone-stops before after asked reply told (inr it) = absurd (let bad : true ≡ false = sym (ap is_done it.told) ∙ told in let no : ⊥ = cc in no)
+undone-stops before after asked reply told (inr it) = absurd (let bad : true ≡ false = sym (ap may_have_changed it.told) ∙ told in let no : ⊥ = cc in no)
 
 -- Where nothing was done, all is as it was.
 pub none-left : (asks : Bool) (at : AtShelf NamedDesk) → Leaves asks at at

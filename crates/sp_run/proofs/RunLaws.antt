@@ -4,7 +4,7 @@ use Rattle.std.specs.declared.option.Option.{Option}
 use Rattle.std.specs.declared.alloc.Global.{Global}
 use Rattle.std.specs.declared.string.String.{String}
 use Rattle.spec_machine.specs.Machine.{Memory, opened_memory}
-use Rattle.spec_machine.specs.Sessions.{LeadsOn}
+use Rattle.spec_machine.specs.Sessions.{LeadsTo}
 use Rattle.spec_room.specs.Rooms.{opened_room}
 use Rattle.spec_session.specs.CommandLines.{command_lines}
 use Rattle.spec_session.specs.Runs.{Counts}
@@ -161,18 +161,18 @@ module _ {I O F S : Type 0} {words : List (String Global)} {old new : World I O 
   -- Accepted commands lead from there to each memory that it had.
   pub run-leads : (name : List ℕ) (is : asked_in words ≡ Some (desk name)) (done : status ≡ statuses.Done) (j : ℕ) (now : Memory)
       → slice_get (memories_of desk_itself (opened_memory (run-answered name is done).state) (run-answered name is done).steps) j ≡ Some now
-      → LeadsOn (opened_memory (run-answered name is done).state) now
+      → LeadsTo (opened_memory (run-answered name is done).state) now
   run-leads name is done =
       let all = run-answered name is done in
       desk-leads (desk_at name (opened_memory all.state) old.told.shelf all.opened) (command_lines all.input) all.steps all.runs
 
   -- So what led to the memory that was saved leads on to them.
-  pub run-goes-on : (earlier saved : Memory) (name : List ℕ) (is : asked_in words ≡ Some (desk name)) (done : status ≡ statuses.Done) → LeadsOn earlier saved
+  pub run-goes-on : (earlier saved : Memory) (name : List ℕ) (is : asked_in words ≡ Some (desk name)) (done : status ≡ statuses.Done) → LeadsTo earlier saved
       → IsWhole saved.state → HasSaved old.told.shelf name saved.state → (j : ℕ) (now : Memory)
-      → slice_get (memories_of desk_itself (opened_memory (run-answered name is done).state) (run-answered name is done).steps) j ≡ Some now → LeadsOn earlier now
+      → slice_get (memories_of desk_itself (opened_memory (run-answered name is done).state) (run-answered name is done).steps) j ≡ Some now → LeadsTo earlier now
   run-goes-on earlier saved name is done leads whole stands j now there =
       reopened-leads earlier saved now leads
-      (subst (λ (state : State). LeadsOn (opened_memory state) now) (run-reopened name saved.state is done whole stands) (run-leads name is done j now there))
+      (subst (λ (state : State). LeadsTo (opened_memory state) now) (run-reopened name saved.state is done whole stands) (run-leads name is done j now there))
 
   -- Where no store failed, each save was done.
   pub run-saved : (name : List ℕ) → asked_in words ≡ Some (desk name) → status ≡ statuses.Done
@@ -211,7 +211,7 @@ module _ {I O F S : Type 0} {words : List (String Global)} {old new : World I O 
   -- Accepted commands lead from there to each memory that its desk had.
   pub run-seats-lead : (name : List ℕ) (is : asked_in words ≡ Some (room name)) (done : status ≡ statuses.Done) (j : ℕ) (now : Memory)
       → slice_get (memories_of desk_in (opened_memory (run-seats-answered name is done).state) (run-seats-answered name is done).steps) j ≡ Some now
-      → LeadsOn (opened_memory (run-seats-answered name is done).state) now
+      → LeadsTo (opened_memory (run-seats-answered name is done).state) now
   run-seats-lead name is done =
       let all = run-seats-answered name is done in
       let first = opened_room (opened_memory all.state) in
@@ -219,12 +219,12 @@ module _ {I O F S : Type 0} {words : List (String Global)} {old new : World I O 
       (runs-few AnswersRoomLine (room_at name first old.told.shelf all.opened) (command_lines all.input) all.steps all.runs)
 
   -- So what led to the memory that was saved leads on to them.
-  pub run-seats-go-on : (earlier saved : Memory) (name : List ℕ) (is : asked_in words ≡ Some (room name)) (done : status ≡ statuses.Done) → LeadsOn earlier saved
+  pub run-seats-go-on : (earlier saved : Memory) (name : List ℕ) (is : asked_in words ≡ Some (room name)) (done : status ≡ statuses.Done) → LeadsTo earlier saved
       → IsWhole saved.state → HasSaved old.told.shelf name saved.state → (j : ℕ) (now : Memory)
-      → slice_get (memories_of desk_in (opened_memory (run-seats-answered name is done).state) (run-seats-answered name is done).steps) j ≡ Some now → LeadsOn earlier now
+      → slice_get (memories_of desk_in (opened_memory (run-seats-answered name is done).state) (run-seats-answered name is done).steps) j ≡ Some now → LeadsTo earlier now
   run-seats-go-on earlier saved name is done leads whole stands j now there =
       reopened-leads earlier saved now leads
-      (subst (λ (state : State). LeadsOn (opened_memory state) now) (run-seats-reopened name saved.state is done whole stands) (run-seats-lead name is done j now there))
+      (subst (λ (state : State). LeadsTo (opened_memory state) now) (run-seats-reopened name saved.state is done whole stands) (run-seats-lead name is done j now there))
 
   -- Where no store failed, each save was done.
   pub run-seats-saved : (name : List ℕ) → asked_in words ≡ Some (room name) → status ≡ statuses.Done

@@ -29,7 +29,7 @@ use Rattle.sp_desk.specs.declared.fault.DeskFault.{DeskFault}
 use Rattle.sp_room.specs.Answers.{IsRoomAnswer}
 use Rattle.sp_run.specs.DeskLines.{Leaves, Stores, asks_save, is_packet, is_save}
 use Rattle.sp_run.specs.RoomLines.{NamedRoom, SeatReplies, SeatStops, desk_of_room, other_room, packet_room, room_line_step_by, saved_room, seatless}
-use Rattle.sp_wire.specs.Done.{TellsPlainly, is_done}
+use Rattle.sp_wire.specs.Done.{TellsPlainly, may_have_changed}
 use Rattle.sp_run.proofs.Plain.{plain-digest}
 use Rattle.sp_run.proofs.Replies.{none-left, packet-plain, step-plain}
 use Rattle.sp_run.specs.Promises.{Follows}
@@ -105,16 +105,16 @@ answer-follows old it new (Err fault) step same whole now linked = same-follows 
 -- ---- the line of a reply
 
 -- A command whose reply would tell what was done is refused, where its reply doesn't.
-done-told : (memory : Memory) (command : CommandOf) → ((after : State) → is_done (accepted_reply memory after command) ≡ true) → is_done (step_of memory command).reply ≡ false
+done-told : (memory : Memory) (command : CommandOf) → ((after : State) → may_have_changed (accepted_reply memory after command) ≡ true) → may_have_changed (step_of memory command).reply ≡ false
     → is_refused (step_of memory command).reply ≡ false → ⊥
 done-told memory command done = by (refusal_to memory command)
   where
-    by : (refusal : Option RefusalOf) → is_done (step_by memory command refusal).reply ≡ false → is_refused (step_by memory command refusal).reply ≡ false → ⊥
+    by : (refusal : Option RefusalOf) → may_have_changed (step_by memory command refusal).reply ≡ false → is_refused (step_by memory command refusal).reply ≡ false → ⊥
     by None told free = let bad : true ≡ false = sym (done (memory_after memory command).state) ∙ told in let no : ⊥ = cc in no
     by (Some reason) told free = let no : ⊥ = cc in no
 
 -- One whose reply tells nothing of the kind only looks.
-told-looks : (memory : Memory) (command : CommandOf) (asked : Kind) → is_done (step_of memory (command_at command asked)).reply ≡ false → is_refused (step_of memory (command_at command asked)).reply ≡ false
+told-looks : (memory : Memory) (command : CommandOf) (asked : Kind) → may_have_changed (step_of memory (command_at command asked)).reply ≡ false → is_refused (step_of memory (command_at command asked)).reply ≡ false
     → kind_of command ≡ looks
 told-looks memory (edit it) (edits range) told free = absurd (done-told memory (edit (edit_moved it range.first)) (λ after. refl) told free)
 told-looks memory (edit it) undoes told free = absurd (done-told memory (edit it) (λ after. refl) told free)
@@ -136,7 +136,7 @@ told-looks memory save asked told free = refl
 told-looks memory packet asked told free = refl
 
 -- A reply that tells nothing of the kind leaves the room as it was.
-undone-step : (old : RoomState) (it : RoomLineOf) (new : RoomState) (reply : ReplyOf) → room_step_to new reply ≡ room_step_of old it → (kind_of it.command ≡ looks → new ≡ old) → is_done reply ≡ false → new ≡ old
+undone-step : (old : RoomState) (it : RoomLineOf) (new : RoomState) (reply : ReplyOf) → room_step_to new reply ≡ room_step_of old it → (kind_of it.command ≡ looks → new ≡ old) → may_have_changed reply ≡ false → new ≡ old
 undone-step old it new reply is looked told = by (asked_of old it.seat it.seen (kind_of it.command)) (is_refused reply) refl is
   where
     by : (asked : Result Kind RefusalOf) (refuses : Bool) → is_refused reply ≡ refuses → room_step_to new reply ≡ room_step_by old it asked → new ≡ old
@@ -144,11 +144,11 @@ undone-step old it new reply is looked told = by (asked_of old it.seat it.seen (
     by (Ok asked) true known same = step-stays old it new reply is known
     by (Ok asked) false known same =
         let made = step_of old.desk (command_at it.command asked) in
-        let undone : is_done made.reply ≡ false = ap (λ (s : RoomStep). is_done s.reply) (sym same) ∙ told in
+        let undone : may_have_changed made.reply ≡ false = ap (λ (s : RoomStep). may_have_changed s.reply) (sym same) ∙ told in
         let free : is_refused made.reply ≡ false = ap (λ (s : RoomStep). is_refused s.reply) (sym same) ∙ known in looked (told-looks old.desk it.command asked undone free)
 
 pub answer-undone : (old : RoomState) (it : RoomLineOf) (new : RoomState) (result : Result Reply DeskFault) → IsRoomAnswer old it new result → (kind_of it.command ≡ looks → new ≡ old)
-    → IfOk result (λ reply. is_done (reply_of reply) ≡ false → new ≡ old)
+    → IfOk result (λ reply. may_have_changed (reply_of reply) ≡ false → new ≡ old)
 answer-undone old it new (Ok reply) answer looked = undone-step old it new (reply_of reply) answer looked
 answer-undone old it new (Err fault) answer looked = tt
 
@@ -172,24 +172,24 @@ pub seat-plain : (before after : AtShelf NamedRoom) (asked : Result RoomLineOf F
 seat-plain before after asked reply (inl it) = subst TellsPlainly (sym (ap (λ (s : RoomStep). s.reply) it.step)) (seat-line-plain before.it.room asked)
 seat-plain before after asked reply (inr it) = subst TellsPlainly (sym it.told) tt
 
-seat-unasked : (room : RoomState) (asked : Result RoomLineOf FaultOf) → is_done (room_line_step_by room asked).reply ≡ false → asks_save (seatless asked) ≡ false
+seat-unasked : (room : RoomState) (asked : Result RoomLineOf FaultOf) → may_have_changed (room_line_step_by room asked).reply ≡ false → asks_save (seatless asked) ≡ false
 seat-unasked room (Err fault) = λ told. refl
 seat-unasked room (Ok it) = by (is_save it.command)
   where
-    by : (saves : Bool) → is_done (if saves then saved_room room else other_room room it).reply ≡ false → saves ≡ false
+    by : (saves : Bool) → may_have_changed (if saves then saved_room room else other_room room it).reply ≡ false → saves ≡ false
     by true told = absurd (let bad : ⊥ = cc in bad)
     by false told = refl
 
-pub seat-stops : (before after : AtShelf NamedRoom) (asked : Result RoomLineOf FaultOf) (reply : ReplyOf) → is_done reply ≡ false → after.it.room ≡ before.it.room → SeatReplies before asked after reply
+pub seat-stops : (before after : AtShelf NamedRoom) (asked : Result RoomLineOf FaultOf) (reply : ReplyOf) → may_have_changed reply ≡ false → after.it.room ≡ before.it.room → SeatReplies before asked after reply
     → SeatStops before asked after
 seat-stops before after asked reply told same (inl it) =
-    let unasked = seat-unasked before.it.room asked (sym (ap (λ (s : RoomStep). is_done s.reply) it.step) ∙ told) in
+    let unasked = seat-unasked before.it.room asked (sym (ap (λ (s : RoomStep). may_have_changed s.reply) it.step) ∙ told) in
     record {
       room = same;
       name = it.name;
       leaves = subst (λ (b : Bool). Leaves b (desk_of_room before) (desk_of_room after)) (sym unasked) (subst (λ (b : Bool). Stores b (desk_of_room before) (desk_of_room after)) unasked it.stores);
     }
-seat-stops before after asked reply told same (inr it) = absurd (let bad : true ≡ false = sym (ap is_done it.told) ∙ told in let no : ⊥ = cc in no)
+seat-stops before after asked reply told same (inr it) = absurd (let bad : true ≡ false = sym (ap may_have_changed it.told) ∙ told in let no : ⊥ = cc in no)
 
 -- Where nothing was done, all is as it was.
 pub seat-none-stops : (at : AtShelf NamedRoom) (asked : Result RoomLineOf FaultOf) → SeatStops at asked at

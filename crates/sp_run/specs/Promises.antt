@@ -8,7 +8,7 @@ use Rattle.spec_machine.specs.Machine.{Memory, memory_after, opened_memory}
 use Rattle.spec_machine.specs.Refusals.{refusal_to}
 use Rattle.spec_machine.specs.KeptMemories.{IsWholeMemory}
 use Rattle.spec_machine.specs.LabelPromises.{AreLabelled, LosesNone}
-use Rattle.spec_machine.specs.Sessions.{LeadsOn}
+use Rattle.spec_machine.specs.Sessions.{LeadsTo}
 use Rattle.spec_locked_pages.specs.Chains.{AreLinked}
 use Rattle.spec_locked_pages.specs.Segments.{IsLockedPage, StandsAmong, bytes_at}
 use Rattle.spec_locked_pages.specs.Promises.{ArePageLaws}
@@ -42,4 +42,4 @@ pub record Follows (earlier now : Memory) : Type 0 where
 -- So it is for all commands that are accepted, one after another, from an opened state on, over any number of sessions, each of which opens
 -- what the one before saved.
 pub record IsPromised (state : State) : Type 0 where
-  pub kept : (earlier now : Memory) → LeadsOn (opened_memory state) earlier → LeadsOn earlier now → KeepsPromises earlier now
+  pub kept : (earlier now : Memory) → LeadsTo (opened_memory state) earlier → LeadsTo earlier now → KeepsPromises earlier now

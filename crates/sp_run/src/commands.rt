@@ -28,7 +28,8 @@ pub fn sample_commands(alloc: Global, rooms: u32) -> Result<Vec<Command>, AllocE
 
 /// Puts the edits of a room behind the commands.
 fn add_edits(alloc: Global, commands: &mut Vec<Command>, room: u32) -> Result<(), AllocError>
-    ensures { OnOk result (map command_of commands.new.items ≡ map command_of commands.old.items ++ (told_more room ++ added_lines room)) }
+    ensures { OnOk result (map command_of commands.new.items ≡ map command_of commands.old.items
+        ++ (told_more room ++ added_lines room)) }
 {
     if room % 3 == 0 {
         commands.push(Command::Edit(telling(alloc, room)?))?;
@@ -53,7 +54,8 @@ fn telling(alloc: Global, room: u32) -> Result<Edit, AllocError>
 
 /// The edit that puts ten lines before the line that tells of the lamp of a room.
 fn adding(alloc: Global, room: u32) -> Result<Edit, AllocError>
-    ensures { IfOk result (λ edit. edit_of edit ≡ replace (lamp_line room) 0 (replicate 10 (codes "A new line of action."))) }
+    ensures { IfOk result (λ edit.
+        edit_of edit ≡ replace (lamp_line room) 0 (replicate 10 (codes "A new line of action."))) }
 {
     let mut lines = Vec::new(alloc);
     for _ in 0..10u32 {

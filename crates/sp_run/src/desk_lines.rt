@@ -13,7 +13,7 @@ use sp_desk::{Desk, DeskFault};
 use sp_kit::{Shelf, Steps};
 use sp_packet::{PacketFault, packet};
 use sp_session::Responder;
-use sp_wire::{Command, Refusal, Reply, WireFault, read_command, reply_room, write_reply};
+use sp_wire::{Command, Refusal, Reply, WireFault, line_buffer, read_command, write_reply};
 use std::alloc::{AllocError, Global};
 use std::marker::Model;
 
@@ -68,10 +68,19 @@ fn reply_to_command<F: Shelf, S: Steps>(
     shelf: &mut F,
     steps: &mut S,
 ) -> Result<Reply, AllocError>
-    ensures reply { IfOk result (λ reply. RepliesTo (desk_at name.now desk.old (F.state shelf.old) (counts_of (S.reads steps.old) (S.fills steps.old))) (Ok (command_of command)) (desk_at name.now desk.new (F.state shelf.new) (counts_of (S.reads steps.new) (S.fills steps.new))) (reply_of reply)) }
-    ensures stops { OnErr result (StopsAt (desk_at name.now desk.old (F.state shelf.old) (counts_of (S.reads steps.old) (S.fills steps.old))) (Ok (command_of command)) (desk_at name.now desk.new (F.state shelf.new) (counts_of (S.reads steps.new) (S.fills steps.new)))) }
-    ensures counts { OnOk result (LineCounts desk.old (Ok (command_of command)) (counts_of (S.reads steps.old) (S.fills steps.old)) (counts_of (S.reads steps.new) (S.fills steps.new))) }
-    ensures at_most { OnErr result (LineCountsAtMost desk.old (Ok (command_of command)) (counts_of (S.reads steps.old) (S.fills steps.old)) (counts_of (S.reads steps.new) (S.fills steps.new))) }
+    ensures reply { IfOk result (λ reply. RepliesTo
+        (desk_at name.now desk.old (F.state shelf.old) (counts_of (S.reads steps.old) (S.fills steps.old)))
+        (Ok (command_of command))
+        (desk_at name.now desk.new (F.state shelf.new) (counts_of (S.reads steps.new) (S.fills steps.new)))
+        (reply_of reply)) }
+    ensures stops { OnErr result (StopsAt
+        (desk_at name.now desk.old (F.state shelf.old) (counts_of (S.reads steps.old) (S.fills steps.old)))
+        (Ok (command_of command))
+        (desk_at name.now desk.new (F.state shelf.new) (counts_of (S.reads steps.new) (S.fills steps.new)))) }
+    ensures counts { OnOk result (LineCounts desk.old (Ok (command_of command))
+        (counts_of (S.reads steps.old) (S.fills steps.old)) (counts_of (S.reads steps.new) (S.fills steps.new))) }
+    ensures at_most { OnErr result (LineCountsAtMost desk.old (Ok (command_of command))
+        (counts_of (S.reads steps.old) (S.fills steps.old)) (counts_of (S.reads steps.new) (S.fills steps.new))) }
     ensures lost { LosesNone (desk.old).state (desk.new).state }
 {
     if is_save(&command) {
@@ -96,10 +105,19 @@ fn reply_to_line<F: Shelf, S: Steps>(
     shelf: &mut F,
     steps: &mut S,
 ) -> Result<Reply, AllocError>
-    ensures reply { IfOk result (λ reply. RepliesTo (desk_at name.now desk.old (F.state shelf.old) (counts_of (S.reads steps.old) (S.fills steps.old))) (command_of_line line.now) (desk_at name.now desk.new (F.state shelf.new) (counts_of (S.reads steps.new) (S.fills steps.new))) (reply_of reply)) }
-    ensures stops { OnErr result (StopsAt (desk_at name.now desk.old (F.state shelf.old) (counts_of (S.reads steps.old) (S.fills steps.old))) (command_of_line line.now) (desk_at name.now desk.new (F.state shelf.new) (counts_of (S.reads steps.new) (S.fills steps.new)))) }
-    ensures counts { OnOk result (LineCounts desk.old (command_of_line line.now) (counts_of (S.reads steps.old) (S.fills steps.old)) (counts_of (S.reads steps.new) (S.fills steps.new))) }
-    ensures at_most { OnErr result (LineCountsAtMost desk.old (command_of_line line.now) (counts_of (S.reads steps.old) (S.fills steps.old)) (counts_of (S.reads steps.new) (S.fills steps.new))) }
+    ensures reply { IfOk result (λ reply. RepliesTo
+        (desk_at name.now desk.old (F.state shelf.old) (counts_of (S.reads steps.old) (S.fills steps.old)))
+        (command_of_line line.now)
+        (desk_at name.now desk.new (F.state shelf.new) (counts_of (S.reads steps.new) (S.fills steps.new)))
+        (reply_of reply)) }
+    ensures stops { OnErr result (StopsAt
+        (desk_at name.now desk.old (F.state shelf.old) (counts_of (S.reads steps.old) (S.fills steps.old)))
+        (command_of_line line.now)
+        (desk_at name.now desk.new (F.state shelf.new) (counts_of (S.reads steps.new) (S.fills steps.new)))) }
+    ensures counts { OnOk result (LineCounts desk.old (command_of_line line.now)
+        (counts_of (S.reads steps.old) (S.fills steps.old)) (counts_of (S.reads steps.new) (S.fills steps.new))) }
+    ensures at_most { OnErr result (LineCountsAtMost desk.old (command_of_line line.now)
+        (counts_of (S.reads steps.old) (S.fills steps.old)) (counts_of (S.reads steps.new) (S.fills steps.new))) }
     ensures lost { LosesNone (desk.old).state (desk.new).state }
 {
     match read_command(alloc, line) {
@@ -127,9 +145,9 @@ impl<'a> Responder for DeskLines<'a> {
         shelf: &mut F,
         steps: &mut S,
     ) -> Result<Vec<u8>, AllocError> {
-        let room = reply_room(self.alloc)?;
+        let buffer = line_buffer(self.alloc)?;
         let reply = reply_to_line(self.alloc, self.name, &mut self.desk, line, shelf, steps)?;
         let _sheets = self.desk.sheets();
-        write_reply(self.alloc, &reply, room)
+        write_reply(self.alloc, &reply, buffer)
     }
 }

@@ -18,8 +18,10 @@ pub fn save_desk<F: Shelf>(
     desk: &Desk,
     shelf: &mut F,
 ) -> Result<Reply, AllocError>
-    ensures saved { IfOk result (λ reply. RepliesToSave name.now (desk.now).state (F.state shelf.old) (F.state shelf.new) (reply_of reply)) }
-    ensures left { OnErr result (StoreLeft (files_of name.now (desk.now).state) (F.state shelf.old) (F.state shelf.new)) }
+    ensures saved { IfOk result (λ reply.
+        RepliesToSave name.now (desk.now).state (F.state shelf.old) (F.state shelf.new) (reply_of reply)) }
+    ensures left { OnErr result
+        (StoreLeft (files_of name.now (desk.now).state) (F.state shelf.old) (F.state shelf.new)) }
 {
     let _sheets = desk.sheets();
     save(alloc, name, desk.lines(), desk.records(), shelf)

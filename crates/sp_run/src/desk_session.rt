@@ -28,9 +28,12 @@ pub fn open_desk<I: Source, F: Shelf, S: Steps>(
     steps: &mut S,
 ) -> Result<Desk, Status>
     ensures opened { IfOk result (OpensDesk (F.state shelf.old) (F.state shelf.new) name.now) }
-    ensures counts { IfOk result (λ desk. OpeningCounts desk.state (counts_of (S.reads steps.old) (S.fills steps.old)) (counts_of (S.reads steps.new) (S.fills steps.new))) }
-    ensures uncounted { IfErr result (NotOpenedCounts (F.state shelf.old) name.now (counts_of (S.reads steps.old) (S.fills steps.old)) (counts_of (S.reads steps.new) (S.fills steps.new))) }
-    ensures refused { (sink : SinkState) → IfErr result (Unopened (from_file name.now) (outside (I.state input.old) sink (F.state shelf.old)) (outside (I.state input.new) sink (F.state shelf.new))) }
+    ensures counts { IfOk result (λ desk. OpeningCounts desk.state (counts_of (S.reads steps.old) (S.fills steps.old))
+        (counts_of (S.reads steps.new) (S.fills steps.new))) }
+    ensures uncounted { IfErr result (NotOpenedCounts (F.state shelf.old) name.now
+        (counts_of (S.reads steps.old) (S.fills steps.old)) (counts_of (S.reads steps.new) (S.fills steps.new))) }
+    ensures refused { (sink : SinkState) → IfErr result (Unopened (from_file name.now)
+        (outside (I.state input.old) sink (F.state shelf.old)) (outside (I.state input.new) sink (F.state shelf.new))) }
     ensures source_kept { input.new ≡ input.old }
     ensures files_kept { (F.state shelf.new).files ≡ (F.state shelf.old).files }
 {
@@ -50,8 +53,11 @@ pub fn hold_session<I: Source, O: Sink, F: Shelf, S: Steps>(
     shelf: &mut F,
     steps: &mut S,
 ) -> Status
-    ensures ends { DeskEnds name.now (outside (I.state input.old) (O.state output.old) (F.state shelf.old)) (outside (I.state input.new) (O.state output.new) (F.state shelf.new)) (counts_of (S.reads steps.old) (S.fills steps.old)) (counts_of (S.reads steps.new) (S.fills steps.new)) result }
-    ensures others { Changes (F.state shelf.old).files (F.state shelf.new).files (λ old new. KeepsAllBut old new name.now (records_name name.now)) }
+    ensures ends { DeskEnds name.now (outside (I.state input.old) (O.state output.old) (F.state shelf.old))
+        (outside (I.state input.new) (O.state output.new) (F.state shelf.new))
+        (counts_of (S.reads steps.old) (S.fills steps.old)) (counts_of (S.reads steps.new) (S.fills steps.new)) result }
+    ensures others { Changes (F.state shelf.old).files (F.state shelf.new).files (λ old new.
+        KeepsAllBut old new name.now (records_name name.now)) }
 {
     let desk = match open_desk(alloc, name, input, shelf, steps) {
         Ok(desk) => desk,

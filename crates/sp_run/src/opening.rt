@@ -36,9 +36,11 @@ pub fn open_state<I: Source, F: Shelf>(
     input: &mut I,
     shelf: &mut F,
 ) -> Result<Opened, Status>
-    ensures had { IfOk result (λ opened. HadState (origin_of origin.entry) (I.state input.old) (I.state input.new) (F.state shelf.old) (F.state shelf.new) (state_of (text_of opened.lines) opened.records)) }
+    ensures had { IfOk result (λ opened. HadState (origin_of origin.entry) (I.state input.old) (I.state input.new)
+        (F.state shelf.old) (F.state shelf.new) (state_of (text_of opened.lines) opened.records)) }
     ensures whole { IfOk result (λ opened. IsWhole (state_of (text_of opened.lines) opened.records)) }
-    ensures refused { (sink : SinkState) → IfErr result (Unopened (origin_of origin.entry) (outside (I.state input.old) sink (F.state shelf.old)) (outside (I.state input.new) sink (F.state shelf.new))) }
+    ensures refused { (sink : SinkState) → IfErr result (Unopened (origin_of origin.entry)
+        (outside (I.state input.old) sink (F.state shelf.old)) (outside (I.state input.new) sink (F.state shelf.new))) }
     ensures budget { ReadsUpTo (I.state input.old).unread (I.state input.new).unread (raw_limit + 1) }
     ensures source_kept { LeavesSource (origin_of origin.entry) input.old input.new }
     ensures shelf_kept { LeavesShelf (origin_of origin.entry) shelf.old shelf.new }
@@ -73,9 +75,11 @@ fn open_beside<F: Shelf>(
     shelf: &mut F,
 ) -> Result<Opened, Status>
     requires { AreFresh lines }
-    ensures found { IfOk result (λ opened. FoundBeside name.now (F.state shelf.old) (F.state shelf.new) (line_texts lines.lines) (state_of (text_of opened.lines) opened.records)) }
+    ensures found { IfOk result (λ opened. FoundBeside name.now (F.state shelf.old) (F.state shelf.new)
+        (line_texts lines.lines) (state_of (text_of opened.lines) opened.records)) }
     ensures whole { IfOk result (λ opened. IsWhole (state_of (text_of opened.lines) opened.records)) }
-    ensures refused { IfErr result (NotBeside name.now (F.state shelf.old) (F.state shelf.new) (line_texts lines.lines)) }
+    ensures refused { IfErr result
+        (NotBeside name.now (F.state shelf.old) (F.state shelf.new) (line_texts lines.lines)) }
     ensures files_kept { (F.state shelf.new).files ≡ (F.state shelf.old).files }
 {
     match fetch_records(alloc, name, shelf)? {
@@ -87,7 +91,8 @@ fn open_beside<F: Shelf>(
 /// Lines that were just read, with the records of these bytes.
 fn with_records(alloc: Global, lines: Lines, bytes: &[u8]) -> Result<Opened, Status>
     requires { AreFresh lines }
-    ensures opened { IfOk result (λ opened. OpensFresh lines (Some bytes.now) (state_of (text_of opened.lines) opened.records)) }
+    ensures opened { IfOk result (λ opened.
+        OpensFresh lines (Some bytes.now) (state_of (text_of opened.lines) opened.records)) }
     ensures refused { IfErr result (RefusesFresh lines bytes.now) }
 {
     let mut lines = lines;
@@ -111,7 +116,8 @@ fn fetch_records<F: Shelf>(
     name: &str,
     shelf: &mut F,
 ) -> Result<Option<Vec<u8>>, Status>
-    ensures given { IfOk result (λ records. FetchedRecords (F.state shelf.old) (F.state shelf.new) name.now (option_map (λ v. v.items) records)) }
+    ensures given { IfOk result (λ records.
+        FetchedRecords (F.state shelf.old) (F.state shelf.new) name.now (option_map (λ v. v.items) records)) }
     ensures refused { IfErr result (NoRecords (F.state shelf.old) (F.state shelf.new) name.now) }
     ensures files_kept { (F.state shelf.new).files ≡ (F.state shelf.old).files }
 {

@@ -3,7 +3,7 @@ ghost use Rattle.std.specs.Prelude.{◌≡◌, ◌+◌, ◌-◌, ◌^◌, ◌<�
 ghost use Rattle.std.specs.declared.result.Result.TheVariants.{Ok};
 ghost use Rattle.spec_wire.specs.Lines.{room_line_of_line};
 ghost use Rattle.sp_wire.specs.Values.{room_line_of, reply_of};
-ghost use Rattle.sp_wire.specs.Done.{is_done};
+ghost use Rattle.sp_wire.specs.Done.{may_have_changed};
 ghost use Rattle.sp_room.specs.Answers.{IsRoomAnswer};
 ghost use Rattle.spec_session.specs.Runs.{counts_of};
 ghost use Rattle.sp_room.specs.Counts.{RoomReads, RoomFills};
@@ -17,7 +17,7 @@ use sp_kit::{Shelf, Steps};
 use sp_room::Room;
 use sp_session::Responder;
 use sp_wire::{
-    Refusal, Reply, RoomLine, WireFault, read_room_command, reply_room, write_room_reply,
+    Refusal, Reply, RoomLine, WireFault, line_buffer, read_room_command, write_room_reply,
 };
 use std::alloc::{AllocError, Global};
 use std::marker::Model;
@@ -43,7 +43,7 @@ fn ask_room<S: Steps>(room: &mut Room, asked: RoomLine, steps: &mut S) -> Result
     requires version { (room.old).version + 1 < 2 ^ 64 }
     ensures step { IsRoomAnswer room.old (room_line_of asked) room.new result }
     ensures same { OnErr result (room.new ≡ room.old) }
-    ensures undone { IfOk result (λ reply. is_done (reply_of reply) ≡ false → room.new ≡ room.old) }
+    ensures unchanged { IfOk result (λ reply. may_have_changed (reply_of reply) ≡ false → room.new ≡ room.old) }
     ensures reads { RoomReads room.old (room_line_of asked) result (S.reads steps.old) (S.reads steps.new) }
     ensures fills { RoomFills room.old (room_line_of asked) result (S.fills steps.old) (S.fills steps.new) }
     ensures follows { Follows (room.old).desk (room.new).desk }
@@ -83,7 +83,7 @@ fn reply_to_seat<F: Shelf, S: Steps>(
         (counts_of (S.reads steps.old) (S.fills steps.old)) (counts_of (S.reads steps.new) (S.fills steps.new))) }
     ensures at_most { OnErr result (SeatCountsAtMost room.old (Ok (room_line_of asked))
         (counts_of (S.reads steps.old) (S.fills steps.old)) (counts_of (S.reads steps.new) (S.fills steps.new))) }
-    ensures undone { IfOk result (λ reply. is_done (reply_of reply) ≡ false → room.new ≡ room.old) }
+    ensures unchanged { IfOk result (λ reply. may_have_changed (reply_of reply) ≡ false → room.new ≡ room.old) }
     ensures follows { Follows (room.old).desk (room.new).desk }
     ensures version { (room.new).version ≤ (room.old).version + 1 }
 {
@@ -125,7 +125,7 @@ fn reply_to_room_line<F: Shelf, S: Steps>(
         (counts_of (S.reads steps.old) (S.fills steps.old)) (counts_of (S.reads steps.new) (S.fills steps.new))) }
     ensures at_most { OnErr result (SeatCountsAtMost room.old (room_line_of_line line.now)
         (counts_of (S.reads steps.old) (S.fills steps.old)) (counts_of (S.reads steps.new) (S.fills steps.new))) }
-    ensures undone { IfOk result (λ reply. is_done (reply_of reply) ≡ false → room.new ≡ room.old) }
+    ensures unchanged { IfOk result (λ reply. may_have_changed (reply_of reply) ≡ false → room.new ≡ room.old) }
     ensures follows { Follows (room.old).desk (room.new).desk }
     ensures version { (room.new).version ≤ (room.old).version + 1 }
 {
@@ -155,8 +155,8 @@ impl<'a> Responder for RoomLines<'a> {
         shelf: &mut F,
         steps: &mut S,
     ) -> Result<Vec<u8>, AllocError> {
-        let room = reply_room(self.alloc)?;
+        let buffer = line_buffer(self.alloc)?;
         let reply = reply_to_room_line(self.alloc, self.name, &mut self.room, line, shelf, steps)?;
-        write_room_reply(self.alloc, &reply, self.room.version(), room)
+        write_room_reply(self.alloc, &reply, self.room.version(), buffer)
     }
 }

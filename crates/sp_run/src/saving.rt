@@ -22,8 +22,10 @@ pub fn save<F: Shelf>(
     shelf: &mut F,
 ) -> Result<Reply, AllocError>
     requires { IsWhole (state_of (text_of lines.now) records.now) }
-    ensures saved { IfOk result (λ reply. RepliesToSave name.now (state_of (text_of lines.now) records.now) (F.state shelf.old) (F.state shelf.new) (reply_of reply)) }
-    ensures left { OnErr result (StoreLeft (files_of name.now (state_of (text_of lines.now) records.now)) (F.state shelf.old) (F.state shelf.new)) }
+    ensures saved { IfOk result (λ reply. RepliesToSave name.now (state_of (text_of lines.now) records.now)
+        (F.state shelf.old) (F.state shelf.new) (reply_of reply)) }
+    ensures left { OnErr result (StoreLeft (files_of name.now (state_of (text_of lines.now) records.now))
+        (F.state shelf.old) (F.state shelf.new)) }
 {
     let text = lines.text()?;
     let file = encode(alloc, lines, records)?;
@@ -45,7 +47,8 @@ fn store_both<F: Shelf>(
     records: &[u8],
 ) -> Result<(), ShelfFault>
     requires { name.now ≢ beside.now }
-    ensures { StoresBoth (record { name = name.now; bytes = text.now; beside = beside.now; records = records.now }) (F.state shelf.old) (F.state shelf.new) result }
+    ensures { StoresBoth (record { name = name.now; bytes = text.now; beside = beside.now; records = records.now })
+        (F.state shelf.old) (F.state shelf.new) result }
 {
     match shelf.store(name, text) {
         Ok(()) => shelf.store(beside, records),

@@ -79,7 +79,8 @@ fn write_all<O: Sink>(
     script: &Script,
     output: &mut O,
 ) -> Result<(), Status>
-    ensures { IsWritten (O.state output.old) (O.state output.new) (flat_map (sheet_in form) (sheets_of_state script.now)) result }
+    ensures { IsWritten (O.state output.old) (O.state output.new)
+        (flat_map (sheet_in form) (sheets_of_state script.now)) result }
 {
     let mut buffer = GrowingSink::new(alloc);
     for i in 0..script.sheets() {
@@ -106,7 +107,8 @@ fn write_places<O: Sink>(
     output: &mut O,
 ) -> Result<(), Status>
     requires { All (λ (place : ℕ). place < length (sheets_of_state script.now)) places.now }
-    ensures { IsWritten (O.state output.old) (O.state output.new) (flat_map sheet_bytes (sheets_at (sheets_of_state script.now) places.now)) result }
+    ensures { IsWritten (O.state output.old) (O.state output.new)
+        (flat_map sheet_bytes (sheets_at (sheets_of_state script.now) places.now)) result }
 {
     let mut buffer = GrowingSink::new(alloc);
     for place in places {
@@ -139,8 +141,10 @@ fn write_text<O: Sink>(text: &str, output: &mut O) -> Result<(), Status>
 
 /// Writes all sheets of a script as a page for a browser.
 pub fn write_pages<O: Sink>(alloc: Global, script: &Script, output: &mut O) -> Result<(), Status>
-    ensures written { IsWritten (O.state output.old) (O.state output.new) (pages_html (sheets_of_state script.now)) result }
-    ensures shows { styled_text (pages_html (sheets_of_state script.now)) ≡ flat_map sheet_styled (sheets_of_state script.now) }
+    ensures written { IsWritten (O.state output.old) (O.state output.new)
+        (pages_html (sheets_of_state script.now)) result }
+    ensures shows { styled_text (pages_html (sheets_of_state script.now))
+        ≡ flat_map sheet_styled (sheets_of_state script.now) }
 {
     write_text(BEFORE_SHEETS, output)?;
     write_all(alloc, SheetForm::Html, script, output)?;

@@ -37,12 +37,17 @@ pub fn show_script<I: Source, O: Sink, F: Shelf, S: Steps>(
     shelf: &mut F,
     steps: &mut S,
 ) -> Result<(), Status>
-    ensures ends { EndsAs view (origin_of origin.entry) (outside (I.state input.old) (O.state output.old) (F.state shelf.old)) (outside (I.state input.new) (O.state output.new) (F.state shelf.new)) result }
+    ensures ends { EndsAs view (origin_of origin.entry)
+        (outside (I.state input.old) (O.state output.old) (F.state shelf.old))
+        (outside (I.state input.new) (O.state output.new) (F.state shelf.new)) result }
     ensures budget { ReadsUpTo (I.state input.old).unread (I.state input.new).unread (raw_limit + 1) }
     ensures source_kept { LeavesSource (origin_of origin.entry) input.old input.new }
     ensures shelf_kept { LeavesShelf (origin_of origin.entry) shelf.old shelf.new }
     ensures files_kept { (F.state shelf.new).files ≡ (F.state shelf.old).files }
-    ensures counts { ShowCountsAs view (origin_of origin.entry) (outside (I.state input.old) (O.state output.old) (F.state shelf.old)) (outside (I.state input.new) (O.state output.new) (F.state shelf.new)) (counts_of (S.reads steps.old) (S.fills steps.old)) (counts_of (S.reads steps.new) (S.fills steps.new)) result }
+    ensures counts { ShowCountsAs view (origin_of origin.entry)
+        (outside (I.state input.old) (O.state output.old) (F.state shelf.old))
+        (outside (I.state input.new) (O.state output.new) (F.state shelf.new))
+        (counts_of (S.reads steps.old) (S.fills steps.old)) (counts_of (S.reads steps.new) (S.fills steps.new)) result }
 {
     let opened = open_state(alloc, origin, input, shelf)?;
     show_opened(alloc, view, opened, output, steps)
@@ -57,7 +62,8 @@ fn show_opened<O: Sink, S: Steps>(
     steps: &mut S,
 ) -> Result<(), Status>
     requires { IsWhole (state_of (text_of opened.lines) opened.records) }
-    ensures { ShowsState view (state_of (text_of opened.lines) opened.records) (O.state output.old) (O.state output.new) (counts_of (S.reads steps.old) (S.fills steps.old)) (counts_of (S.reads steps.new) (S.fills steps.new)) result }
+    ensures { ShowsState view (state_of (text_of opened.lines) opened.records) (O.state output.old) (O.state output.new)
+        (counts_of (S.reads steps.old) (S.fills steps.old)) (counts_of (S.reads steps.new) (S.fills steps.new)) result }
 {
     let script = Script::open(alloc, opened.lines, opened.records, steps)?;
     if lacks_view(view, &script) {
@@ -117,7 +123,7 @@ fn write_cast<O: Sink>(alloc: Global, state: &StateView<'_>, output: &mut O) -> 
     ensures { IsWritten (O.state output.old) (O.state output.new) (sides_of (said_of state.now)) result }
 {
     let said = said(alloc, state)?;
-    let text = sides(alloc, &said)?;
-    write_whole(output, text.as_bytes())?;
+    let bytes = sides(alloc, &said)?;
+    write_whole(output, bytes.as_slice())?;
     Ok(())
 }

@@ -151,7 +151,8 @@ fn push_recorded(
     requires records { AreSceneRecords records.now }
     requires place { place < length records.now }
     requires few { count ≤ 200000 }
-    ensures { OnOk result (labels.new.items ≡ labels.old.items ++ new_labels records.now place 0 count ++ unwrap_or (label_at records.now place) (plain_label 0) ∷ []) }
+    ensures { OnOk result (labels.new.items ≡ labels.old.items ++ new_labels records.now place 0 count
+        ++ unwrap_or (label_at records.now place) (plain_label 0) ∷ []) }
 {
     push_new(alloc, labels, records, place, count)?;
     let record = &records[place];

@@ -24,16 +24,20 @@ pub fn session<R: Responder, I: Source, O: Sink, F: Shelf, S: Steps>(
     steps: &mut S,
 ) -> SessionEnd
     requires lasts { command_count_limit ≤ R.lasts responder.old }
-    ensures ends { SessionEnds R.answers R.stops (streams (I.state input.old) (O.state output.old)) (streams (I.state input.new) (O.state output.new))
-        (at_shelf responder.old (F.state shelf.old) (counts_of (S.reads steps.old) (S.fills steps.old))) (at_shelf responder.new (F.state shelf.new) (counts_of (S.reads steps.new) (S.fills steps.new))) result }
+    ensures ends { SessionEnds R.answers R.stops (streams (I.state input.old) (O.state output.old))
+        (streams (I.state input.new) (O.state output.new))
+        (at_shelf responder.old (F.state shelf.old) (counts_of (S.reads steps.old) (S.fills steps.old)))
+        (at_shelf responder.new (F.state shelf.new) (counts_of (S.reads steps.new) (S.fills steps.new))) result }
 
     // What the end tells of the whole input, where the source tells it.
     ensures tells { IfSome (I.state input.old).unread (λ all. Tells all result) }
 
     // Where nothing outside fails, it is the end that the input asks for: Done exactly where the limits are kept.
-    ensures settles { FailedNothing (streams (I.state input.old) (O.state output.old)) (streams (I.state input.new) (O.state output.new))
+    ensures settles { FailedNothing (streams (I.state input.old) (O.state output.old))
+        (streams (I.state input.new) (O.state output.new))
         → IfSome (I.state input.old).unread (λ all. Settles all result) }
-    ensures complete { FailedNothing (streams (I.state input.old) (O.state output.old)) (streams (I.state input.new) (O.state output.new))
+    ensures complete { FailedNothing (streams (I.state input.old) (O.state output.old))
+        (streams (I.state input.new) (O.state output.new))
         → IfSome (I.state input.old).unread (λ all. KeepsLimits all → AnswersAll result) }
 {
     answer_lines(alloc, responder, input, output, shelf, steps)
@@ -49,8 +53,10 @@ fn answer_lines<R: Responder, I: Source, O: Sink, F: Shelf, S: Steps>(
     steps: &mut S,
 ) -> SessionEnd
     requires lasts { command_count_limit ≤ R.lasts responder.old }
-    ensures { SessionEnds R.answers R.stops (streams (I.state input.old) (O.state output.old)) (streams (I.state input.new) (O.state output.new))
-        (at_shelf responder.old (F.state shelf.old) (counts_of (S.reads steps.old) (S.fills steps.old))) (at_shelf responder.new (F.state shelf.new) (counts_of (S.reads steps.new) (S.fills steps.new))) result }
+    ensures { SessionEnds R.answers R.stops (streams (I.state input.old) (O.state output.old))
+        (streams (I.state input.new) (O.state output.new))
+        (at_shelf responder.old (F.state shelf.old) (counts_of (S.reads steps.old) (S.fills steps.old)))
+        (at_shelf responder.new (F.state shelf.new) (counts_of (S.reads steps.new) (S.fills steps.new))) result }
 {
     let mut lines = match CommandLines::new(alloc) {
         Ok(lines) => lines,
@@ -84,7 +90,10 @@ fn answer_line<R: Responder, O: Sink, F: Shelf, S: Steps>(
     steps: &mut S,
 ) -> Result<(), SessionEnd>
     requires can { 0 < R.lasts responder.old }
-    ensures answers { AnswersLine R.answers R.stops (O.state output.old) (O.state output.new) (at_shelf responder.old (F.state shelf.old) (counts_of (S.reads steps.old) (S.fills steps.old))) (at_shelf responder.new (F.state shelf.new) (counts_of (S.reads steps.new) (S.fills steps.new))) line.now result }
+    ensures answers { AnswersLine R.answers R.stops (O.state output.old) (O.state output.new)
+        (at_shelf responder.old (F.state shelf.old) (counts_of (S.reads steps.old) (S.fills steps.old)))
+        (at_shelf responder.new (F.state shelf.new) (counts_of (S.reads steps.new) (S.fills steps.new)))
+        line.now result }
     ensures lasts_on { OnOk result (R.lasts responder.old ≤ R.lasts responder.new + 1) }
 {
     let reply = match responder.answer(line, shelf, steps) {

@@ -51,7 +51,8 @@ fn read_piece<I: Source>(
 ) -> Result<bool, Failed>
     requires some { 0 < length piece.old }
     requires room { vec_len bytes.old + length piece.old ≤ vec_capacity bytes.old }
-    ensures read { ReadsBehind (I.state input.old) (I.state input.new) (length piece.old) bytes.old.items bytes.new.items result }
+    ensures read { ReadsBehind (I.state input.old) (I.state input.new)
+        (length piece.old) bytes.old.items bytes.new.items result }
     ensures capacity { vec_capacity bytes.old ≤ vec_capacity bytes.new }
 {
     let count = input.read(piece)?;

@@ -26,7 +26,11 @@ pub trait Responder {
         steps: &mut S,
     ) -> Result<Vec<u8>, AllocError>
         requires can { 0 < lasts self.old }
-        ensures reply { IfOk result (λ reply. answers (at_shelf self.old (F.state shelf.old) (counts_of (S.reads steps.old) (S.fills steps.old))) line.now (at_shelf self.new (F.state shelf.new) (counts_of (S.reads steps.new) (S.fills steps.new))) reply.items) }
-        ensures no_memory { OnErr result (stops (at_shelf self.old (F.state shelf.old) (counts_of (S.reads steps.old) (S.fills steps.old))) line.now (at_shelf self.new (F.state shelf.new) (counts_of (S.reads steps.new) (S.fills steps.new)))) }
+        ensures reply { IfOk result (λ reply. answers
+            (at_shelf self.old (F.state shelf.old) (counts_of (S.reads steps.old) (S.fills steps.old))) line.now
+            (at_shelf self.new (F.state shelf.new) (counts_of (S.reads steps.new) (S.fills steps.new))) reply.items) }
+        ensures no_memory { OnErr result (stops
+            (at_shelf self.old (F.state shelf.old) (counts_of (S.reads steps.old) (S.fills steps.old))) line.now
+            (at_shelf self.new (F.state shelf.new) (counts_of (S.reads steps.new) (S.fills steps.new)))) }
         ensures lasts_on { OnOk result (lasts self.old ≤ lasts self.new + 1) };
 }

@@ -34,7 +34,8 @@ pub fn same_headings(
     requires within { to ≤ length shapes.now.items }
     requires keys { length keys.now.items ≡ length shapes.now.items }
     requires other_keys { length other_keys.now.items ≡ length others.now.items }
-    ensures { IsTrue result ↔ heading_ids (slice_range shapes.now.items from to) (slice_range keys.now.items from to) ≡ heading_ids others.now.items other_keys.now.items }
+    ensures { IsTrue result ↔ heading_ids (slice_range shapes.now.items from to)
+        (slice_range keys.now.items from to) ≡ heading_ids others.now.items other_keys.now.items }
 {
     let mut next = next_heading(others, 0);
     for place in from..to {

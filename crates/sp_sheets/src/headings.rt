@@ -52,7 +52,8 @@ fn as_scene_label(label: Label) -> Option<Label>
 /// The scene number that parts of a line are, where they are one.
 fn written_label(alloc: Global, text: &str, parts: &[Span]) -> Result<Option<Label>, AllocError>
     requires { Parts text.now 0 parts.now }
-    ensures { IfOk result (λ label. label ≡ (if length parts.now == 0 then None else option_and_then as_scene_label (label_read (text_in text.now parts.now)))) }
+    ensures { IfOk result (λ label. label ≡ (if length parts.now == 0 then None
+        else option_and_then as_scene_label (label_read (text_in text.now parts.now)))) }
 {
     if parts.is_empty() {
         return Ok(None);
@@ -108,7 +109,8 @@ pub fn headings_among(
     blocks: &[PlacedBlock<'_>],
 ) -> Result<Vec<HeadingAt>, AllocError>
     requires { All (PlacedLies (line_texts lines.now.lines)) blocks.now }
-    ensures { IfOk result (λ headings. headings.items ≡ map (heading_of lines.now.lines) (filter is_heading_block blocks.now)) }
+    ensures { IfOk result (λ headings.
+        headings.items ≡ map (heading_of lines.now.lines) (filter is_heading_block blocks.now)) }
 {
     let mut headings = Vec::new(alloc);
     for placed in blocks {
@@ -143,7 +145,8 @@ fn add_heading_lines(
     stanza: &Stanza,
 ) -> Result<(), AllocError>
     requires { All (BlockLies (line_texts lines.now.lines) first) (stanza.now).blocks }
-    ensures { OnOk result (ids.new.items ≡ ids.old.items ++ heading_lines lines.now.lines (map (placed_at first) (stanza.now).blocks)) }
+    ensures { OnOk result
+        (ids.new.items ≡ ids.old.items ++ heading_lines lines.now.lines (map (placed_at first) (stanza.now).blocks)) }
 {
     for block in &stanza.blocks {
         if is_heading_block(block) {

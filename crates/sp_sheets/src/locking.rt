@@ -77,7 +77,9 @@ pub fn lock_scenes_made(
     requires whole { IsWhole (state_of (text_of lines.now) records.old) }
     requires stanzas { stanzas.now.stanzas ≡ stanzas_of (line_texts lines.now.lines) }
     requires made { IsMadeOf (state_of (text_of lines.now) records.old) made.old }
-    ensures opening { IsOpening (scenes_refusal (state_of (text_of lines.now) records.old)) (scenes_locked (state_of (text_of lines.now) records.old)) (state_of (text_of lines.now) records.old) (state_of (text_of lines.now) records.new) result }
+    ensures opening { IsOpening (scenes_refusal (state_of (text_of lines.now) records.old))
+        (scenes_locked (state_of (text_of lines.now) records.old)) (state_of (text_of lines.now) records.old)
+        (state_of (text_of lines.now) records.new) result }
     ensures whole { IsWhole (state_of (text_of lines.now) records.new) }
     ensures made { IsMadeOf (state_of (text_of lines.now) records.new) made.new }
 {
@@ -130,9 +132,12 @@ fn extended_scenes(
     requires text { IsText (text_of lines.now) }
     requires records { IfSome records.now (λ those. AreSceneRecords those.items) }
     requires stanzas { stanzas.now.stanzas ≡ stanzas_of (line_texts lines.now.lines) }
-    ensures few { OnOk result (FewScenes (scenes_extended (headings_of lines.now.lines) (option_map (λ those. those.items) records.now))) }
-    ensures records { IfOk result (λ all. option_map (λ those. those.items) all ≡ scenes_extended (headings_of lines.now.lines) (option_map (λ those. those.items) records.now)) }
-    ensures full { IfErr result (IsFull (are_more scene_record_limit (scenes_extended (headings_of lines.now.lines) (option_map (λ those. those.items) records.now)) ≡ true)) }
+    ensures few { OnOk result
+        (FewScenes (scenes_extended (headings_of lines.now.lines) (option_map (λ those. those.items) records.now))) }
+    ensures records { IfOk result (λ all. option_map (λ those. those.items) all
+        ≡ scenes_extended (headings_of lines.now.lines) (option_map (λ those. those.items) records.now)) }
+    ensures full { IfErr result (IsFull (are_more scene_record_limit
+        (scenes_extended (headings_of lines.now.lines) (option_map (λ those. those.items) records.now)) ≡ true)) }
 {
     match records {
         None => Ok(None),
@@ -146,7 +151,8 @@ fn extended_scenes(
 /// The records of sheets that are numbered.
 fn first_pages(alloc: Global, made: &Made) -> Result<Vec<PageRecord>, LockFault>
     requires sheets { AreSheets made.now.numbered.sheets }
-    requires within { All (λ (sheet : SheetOf). sheet.omitted ≡ false → sheet.start < length made.now.layout.body.keys) made.now.numbered.sheets }
+    requires within { All (λ (sheet : SheetOf).
+        sheet.omitted ≡ false → sheet.start < length made.now.layout.body.keys) made.now.numbered.sheets }
     ensures { IsMade (extended_page_records [] made.now.numbered.sheets made.now.layout.body.keys) result }
 {
     let layout = &made.layout;
@@ -164,8 +170,10 @@ fn extend_pages(
 ) -> Result<(), LockFault>
     requires records { IfSome pages.old (λ those. AreLocked those.items) }
     requires sheets { AreSheets made.now.numbered.sheets }
-    requires within { All (λ (sheet : SheetOf). sheet.omitted ≡ false → sheet.start < length made.now.layout.body.keys) made.now.numbered.sheets }
-    ensures { ArePagesOpened made.now (option_map (λ those. those.items) pages.old) (option_map (λ those. those.items) pages.new) result }
+    requires within { All (λ (sheet : SheetOf).
+        sheet.omitted ≡ false → sheet.start < length made.now.layout.body.keys) made.now.numbered.sheets }
+    ensures { ArePagesOpened made.now (option_map (λ those. those.items) pages.old)
+        (option_map (λ those. those.items) pages.new) result }
 {
     let layout = &made.layout;
     let numbered = &made.numbered;
@@ -190,7 +198,9 @@ pub fn lock_pages_made(
     requires whole { IsWhole (state_of (text_of lines.now) records.old) }
     requires stanzas { stanzas.now.stanzas ≡ stanzas_of (line_texts lines.now.lines) }
     requires made { IsMadeOf (state_of (text_of lines.now) records.old) made.now }
-    ensures opening { IsOpening (pages_refusal (state_of (text_of lines.now) records.old)) (pages_locked (state_of (text_of lines.now) records.old)) (state_of (text_of lines.now) records.old) (state_of (text_of lines.now) records.new) result }
+    ensures opening { IsOpening (pages_refusal (state_of (text_of lines.now) records.old))
+        (pages_locked (state_of (text_of lines.now) records.old)) (state_of (text_of lines.now) records.old)
+        (state_of (text_of lines.now) records.new) result }
     ensures whole { IsWhole (state_of (text_of lines.now) records.new) }
     ensures made { IsMadeOf (state_of (text_of lines.now) records.new) made.now }
 {
@@ -226,7 +236,9 @@ pub fn next_round_made(
     requires whole { IsWhole (state_of (text_of lines.now) records.old) }
     requires stanzas { stanzas.now.stanzas ≡ stanzas_of (line_texts lines.now.lines) }
     requires made { IsMadeOf (state_of (text_of lines.now) records.old) made.now }
-    ensures opening { IsOpening (round_refusal (state_of (text_of lines.now) records.old)) (round_begun (state_of (text_of lines.now) records.old)) (state_of (text_of lines.now) records.old) (state_of (text_of lines.now) records.new) result }
+    ensures opening { IsOpening (round_refusal (state_of (text_of lines.now) records.old))
+        (round_begun (state_of (text_of lines.now) records.old)) (state_of (text_of lines.now) records.old)
+        (state_of (text_of lines.now) records.new) result }
     ensures whole { IsWhole (state_of (text_of lines.now) records.new) }
     ensures made { IsMadeOf (state_of (text_of lines.now) records.new) made.now }
 {

@@ -195,7 +195,8 @@ pub fn laid_stops(
     layout: &KeptLayout,
     firsts: &[usize],
 ) -> Result<Vec<usize>, AllocError>
-    ensures { (state : State) → IsWhole state → IsLaidOf state (laid_of layout.now) → firsts.now ≡ first_rows state → IfOk result (λ stops. AreStopsOf state stops.items) }
+    ensures { (state : State) → IsWhole state → IsLaidOf state (laid_of layout.now) → firsts.now ≡ first_rows state
+        → IfOk result (λ stops. AreStopsOf state stops.items) }
 {
     merged_stops(alloc, &layout.body, &layout.breaks, firsts)
 }

@@ -124,7 +124,8 @@ pub(crate) fn ends_at(sheets: &[Sheet], row: usize) -> bool
 /// Whether the last sheet ends at this row, less and more by so much; false where there is no sheet or no such row.
 fn ends_at_moved(sheets: &[Sheet], row: usize, less: usize, more: usize) -> bool
     ensures less { OnTrue result (less ≤ row) }
-    ensures ends { OnTrue result ((other : SheetOf) → (slice_index_or sheets.now (length sheets.now - 1) other).end ≡ shifted less more row) }
+    ensures ends { OnTrue result ((other : SheetOf)
+        → (slice_index_or sheets.now (length sheets.now - 1) other).end ≡ shifted less more row) }
 {
     if row < less {
         return false;
@@ -146,7 +147,9 @@ pub fn stale_places(
     swapped: &SwappedPages,
 ) -> Stale
     requires unmarked { renews_all ≡ false → All (λ mark. mark ≡ 0) marks.now.items }
-    ensures { (pages : List ℕ) → CanPutBack pages swapped.now → (renews_all ≡ false → AreUnmarked sheets.now (with_taken pages swapped.now)) → AreMovedOutside sheets.now (marked_sheets marks.now.items 1 pages) result }
+    ensures { (pages : List ℕ) → CanPutBack pages swapped.now
+        → (renews_all ≡ false → AreUnmarked sheets.now (with_taken pages swapped.now))
+        → AreMovedOutside sheets.now (marked_sheets marks.now.items 1 pages) result }
 {
     if renews_all {
         return Stale {
@@ -189,7 +192,8 @@ fn move_all(sheets: &mut [Sheet], less: usize, more: usize)
 fn move_sheets(sheets: &mut Vec<Sheet>, from: usize, less: usize, more: usize)
     requires within { from ≤ vec_len sheets.old }
     requires can { All (CanMoveSheet less more) (drop from sheets.old.items) }
-    ensures sheets { sheets.new.items ≡ take from sheets.old.items ++ map (moved_sheet less more) (drop from sheets.old.items) }
+    ensures sheets { sheets.new.items ≡ take from sheets.old.items ++ map (moved_sheet less more)
+        (drop from sheets.old.items) }
     ensures len { vec_len sheets.new ≡ vec_len sheets.old }
     ensures room { vec_capacity sheets.new ≡ vec_capacity sheets.old }
 {

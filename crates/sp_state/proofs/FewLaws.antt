@@ -1,7 +1,7 @@
 -- An entry that keeps few elements, and the one that leads back.
-use Rattle.std.proofs.Common.{◌≡◌, ℕ, ◌+◌, ◌-◌, ◌≤◌, List, ◌++◌, length, map, take, drop, slice_range, Option, Some, None, refl, sym, ap, ap₂, subst, ◌∙◌, arith, length-append, length-take, length-drop, take_at, drop_at}
-use Rattle.std.proofs.lemmas.List.{length-map}
+use Rattle.std.proofs.Common.{◌≡◌, ℕ, ◌+◌, ◌-◌, ◌≤◌, List, ◌++◌, length, take, drop, slice_range, Option, Some, None, refl, sym, ap, ap₂, subst, ◌∙◌, arith, length-append, length-take, length-drop, take_at, drop_at}
 use Rattle.spec_script.specs.BlockValues.{StanzaOf}
+use Rattle.sp_layout.proofs.FewBlocks.{run-size}
 use Rattle.sp_layout.proofs.RowSwaps.{length-rows}
 use Rattle.sp_layout.specs.LaidOut.{LayoutOf}
 use Rattle.sp_reread.specs.Cache.{GivesBack, SwappedState}
@@ -11,29 +11,10 @@ use Rattle.sp_layout.specs.Edited.{KeepsToWindow, blocks_in, elements_at, elemen
 use Rattle.sp_layout.specs.Kept.{laid_of, places_back}
 use Rattle.spec_state.specs.State.{State, text_of}
 use Rattle.sp_exchange.specs.Restoring.{CanRestoreText, IsTurned, text_before, text_stanzas}
-use Rattle.sp_layout.specs.Bodies.{KeyedElements}
-use Rattle.sp_layout.specs.Exchanges.{moved_element, with_run}
 use Rattle.sp_reflow.specs.Starts.{Taken}
 use Rattle.sp_text_entry.specs.TextEntries.{TextEntryState}
 use Rattle.sp_state.specs.Entries.{EntryState, HoldsFew, StandsBack}
 use Rattle.spec_text.specs.Lines.{TextState}
-
--- How many elements there are when some stand in the place of others.
-run-size : (body : KeyedElements) (from to : ℕ) (others : KeyedElements) (less more : ℕ) → from ≤ to → to ≤ length body.elements
-    → length (with_run body from to others less more).elements + (to - from) ≡ length body.elements + length others.elements
-run-size body from to others less more order within =
-    let es = body.elements in
-    let later = map (moved_element less more) (drop to es) in
-    omega (
-      arith,
-      order,
-      within,
-      length-append (take from es) (others.elements ++ later),
-      length-append others.elements later,
-      length-take from es,
-      length-map (drop to es) (moved_element less more),
-      length-drop to es,
-    )
 
 speech-size : (layout : LayoutOf) (speech : Option SpeechOf) → length (with_speech layout speech).body.elements ≡ length layout.body.elements
 speech-size layout None = refl

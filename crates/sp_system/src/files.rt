@@ -59,7 +59,8 @@ fn failed(faults: &mut u64) -> ShelfFault
 /// The bytes of a file, all of them, or that there are more than `most`. It reads at most one byte more.
 fn read_file<R: Read + Drop>(file: R, alloc: Global, most: usize) -> io::Result<Fetched>
     ensures bound { IfOk result (λ fetched. FetchesAtMost most (Ok fetched)) }
-    ensures gives { IfOk result (λ fetched. IfSome (R.remaining file) (λ bytes. FetchGives (Some bytes) most (Ok fetched))) }
+    ensures gives { IfOk result (λ fetched.
+        IfSome (R.remaining file) (λ bytes. FetchGives (Some bytes) most (Ok fetched))) }
 {
     let mut bytes = Vec::new(alloc);
     file.take((most as u64).saturating_add(1))

@@ -44,7 +44,8 @@ use Rattle.sp_compare.specs.Raised.{AreSegments, raises}
 use Rattle.sp_exchange.specs.Restoring.{CanRestoreText}
 use Rattle.sp_text_entry.specs.TextEntries.{TextEntryState, FitRecords, LeadsText, displaced, turned_records, with_text}
 use Rattle.sp_sheets.specs.Firsts.{first_rows, key_starts}
-use Rattle.sp_text_entry.specs.Raised.{AreCarried, CanCarry, FitPages, put_back_in, raises_in, records_carried, records_raised, state_before, with_pages}
+use Rattle.sp_locks.specs.Carrying.{CanCarry}
+use Rattle.sp_text_entry.specs.Raised.{AreCarried, FitPages, put_back_in, raises_in, records_carried, records_raised, state_before, with_pages}
 use Rattle.sp_sheets.proofs.FirstsLaws.{count-rows}
 use Rattle.sp_text_entry.proofs.RaisedLaws.{raises-distinct, raises-raised, raises-within}
 

@@ -1,10 +1,9 @@
 -- Page records in an edit, by the text after it and what it displaced (docs/RULES.md, "Edits and records").
-use Rattle.std.specs.Prelude.{◌≡◌, ◌+◌, ◌==◌, ◌||◌, IsTrue, List, [], All, Option, Some, None, option_map, IfSome}
-use Rattle.std.specs.List.{list_any}
+use Rattle.std.specs.Prelude.{◌≡◌, ◌+◌, List, [], All, Option, Some, None, option_map, IfSome}
 use Rattle.spec_text.specs.Lines.{LineState, TextState}
 use Rattle.spec_text.specs.Edits.{Displacement, restored}
 use Rattle.spec_labels.specs.declared.Moved.{Moved}
-use Rattle.spec_labels.specs.PageRecords.{PageRecordOf, carried_records, end_line, is_present, put_back_records}
+use Rattle.spec_labels.specs.PageRecords.{PageRecordOf, carried_records, put_back_records}
 use Rattle.spec_sheets.specs.Shown.{Shown}
 use Rattle.spec_records.specs.Kept.{RecordsOf}
 use Rattle.spec_state.specs.State.{State}
@@ -14,6 +13,7 @@ use Rattle.sp_text.specs.DisplacedLines.{DisplacedState, displaced_of}
 use Rattle.sp_text.specs.Gap.{LinesState, text_of}
 use Rattle.sp_exchange.specs.Restoring.{text_before}
 use Rattle.sp_compare.specs.Raised.{raises}
+use Rattle.sp_locks.specs.Carrying.{CanCarry}
 use Rattle.sp_sheets.specs.States.{state_in}
 use Rattle.sp_text_entry.specs.TextEntries.{FitRecords}
 
@@ -60,10 +60,7 @@ raised_by lines back records = records_raised (text_of lines) (displaced_of back
 abbrev pub LeadRecordsBack : RecordsOf → List Moved → List Moved → RecordsOf → Type 0
 LeadRecordsBack records raised moved before = put_back_in moved (put_back_in raised records) ≡ before
 
--- A record's line is in the text, is the end, or is displaced.
-abbrev pub CanCarry : List LineState → List LineState → PageRecordOf → Type 0
-CanCarry lines displaced it = IsTrue ((it.line == end_line) || is_present lines it.line || list_any (λ (line : LineState). line.id == it.line) displaced)
-
+-- Each record's line is in the text, is the end, or is displaced.
 abbrev pub AreCarried : List LineState → List LineState → RecordsOf → Type 0
 AreCarried lines displaced records = IfSome records.pages (All (CanCarry lines displaced))
 

@@ -18,7 +18,7 @@ use Rattle.spec_wire.specs.Replies as replies
 use Rattle.spec_wire.specs.Replies.{RefusalOf, ReplyOf, edited, set, scenes, pages, round, saved, refused, shelf, is_refused, reply_members, reply_data, room_members}
 use Rattle.spec_wire.specs.Spelling.{ReplyFits}
 use Rattle.spec_wire.proofs.Fitting.{Reads-reply, depth-room}
-use Rattle.sp_wire.specs.Done.{IsFront, IsPlain, is_done, line_front, unclosed}
+use Rattle.sp_wire.specs.Done.{IsFront, IsPlain, may_have_changed, line_front, unclosed}
 
 -- ---- what is put one behind the other
 
@@ -95,7 +95,7 @@ saved-front old mid new digest none one two plain utf8 = record {
       let whole = ap length two in let both = length-append mid (codes ",\"ok\":true") in omega (arith, low, whole, both);
 }
 
-pub shelf-front : (old new : List ℕ) (why : RefusalOf) → is_done (refused why) ≡ true → old ≡ [] → new ≡ old ++ codes "{\"no\":\"Shelf\"" → IsFront new (refused why)
+pub shelf-front : (old new : List ℕ) (why : RefusalOf) → may_have_changed (refused why) ≡ true → old ≡ [] → new ≡ old ++ codes "{\"no\":\"Shelf\"" → IsFront new (refused why)
 unfolding json_on_literals
 shelf-front old new shelf done none is = record {
   is = is ∙ ap (λ xs. xs ++ codes "{\"no\":\"Shelf\"") none;
@@ -157,7 +157,7 @@ record InRoom (reply : ReplyOf) (version : ℕ) : Type 0 where
   keys : Follow no_members (room_members reply version)
   writable : ReplyFits reply → version < 2 ^ 64 → WritableMembers (room_members reply version)
 
-in-room : (reply : ReplyOf) (version : ℕ) → is_done reply ≡ true → is_refused reply ≡ false → InRoom reply version
+in-room : (reply : ReplyOf) (version : ℕ) → may_have_changed reply ≡ true → is_refused reply ≡ false → InRoom reply version
 unfolding json_on_literals
 in-room (edited lines sheets) version done free = record {
   front = front-last (codes "version") (number_data version) (reply_members (edited lines sheets)) tt (refl, (refl, (refl, tt)));
@@ -220,7 +220,7 @@ in-room (replies.blocks its) version done free = absurd (let bad : ⊥ = cc in b
 in-room (replies.outline text) version done free = absurd (let bad : ⊥ = cc in bad)
 in-room (replies.packet sheets) version done free = absurd (let bad : ⊥ = cc in bad)
 
-pub front-room : (bytes : List ℕ) (reply : ReplyOf) (version : ℕ) → is_done reply ≡ true → is_refused reply ≡ false → version < 2 ^ 64 → IsFront bytes reply
+pub front-room : (bytes : List ℕ) (reply : ReplyOf) (version : ℕ) → may_have_changed reply ≡ true → is_refused reply ≡ false → version < 2 ^ 64 → IsFront bytes reply
     → IsLineFor ((bytes ++ (codes ",\"version\":" ++ decimal version)) ++ codes "}\n") (object (room_members reply version))
 front-room bytes reply version done free word front =
     let ms = room_members reply version in

@@ -7,25 +7,25 @@ use Rattle.serde_json.specs.Written.{comma_if, compact_text}
 use Rattle.spec_wire.specs.Replies.{ReplyOf, edited, set, scenes, pages, round, saved, refused, shelf, reply_members}
 use Rattle.spec_wire.specs.Spelling.{ReplyFits}
 
--- The room that the line of each of them fits into, also in a room of seats.
+-- How many bytes of room the line of each of them fits into, also in a room of seats.
 abbrev pub line_room : ℕ
 line_room = 256
 
 -- An empty buffer with this room.
-pub record IsRoom (buffer : Vec ℕ Global) : Type 0 where
+pub record IsLineBuffer (buffer : Vec ℕ Global) : Type 0 where
   pub empty : buffer.items ≡ []
   pub room : line_room ≤ vec_capacity buffer
 
--- The reply tells that a memory or a shelf was changed, or that a store failed.
-abbrev pub is_done : ReplyOf → Bool
-is_done (edited lines sheets) = true
-is_done (set sheets) = true
-is_done (scenes records) = true
-is_done (pages records) = true
-is_done (round name count) = true
-is_done (saved digest) = true
-is_done (refused shelf) = true
-is_done _ = false
+-- Behind such a reply a memory or a shelf may have changed: it tells that one was changed, or that a store failed.
+abbrev pub may_have_changed : ReplyOf → Bool
+may_have_changed (edited lines sheets) = true
+may_have_changed (set sheets) = true
+may_have_changed (scenes records) = true
+may_have_changed (pages records) = true
+may_have_changed (round name count) = true
+may_have_changed (saved digest) = true
+may_have_changed (refused shelf) = true
+may_have_changed _ = false
 
 -- A short text that stands in JSON as it is.
 pub record IsPlain (text : List ℕ) : Type 0 where

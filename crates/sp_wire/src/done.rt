@@ -1,11 +1,12 @@
-//! The lines of replies that tell what a command did, written into room that is there. Nothing here takes memory.
+//! The lines of replies that tell what a command did, written into a buffer that has room for them. Nothing here takes
+//! memory.
 ghost use Rattle.std.specs.Prelude.{◌≡◌, ◌+◌, ◌≤◌, ◌++◌, [], length, decimal, string_bytes, vec_len, vec_capacity};
 ghost use Rattle.std.specs.Bool.{OnTrue};
 ghost use Rattle.json.specs.Print.{quoted};
 ghost use Rattle.spec_wire.specs.Replies.{refused};
 ghost use Rattle.spec_wire.specs.Spelling.{IsWord};
 ghost use Rattle.sp_wire.specs.Values.{refusal_of, reply_of};
-ghost use Rattle.sp_wire.specs.Done.{IsFront, IsPlain, TellsPlainly, is_done, line_room};
+ghost use Rattle.sp_wire.specs.Done.{IsFront, IsPlain, TellsPlainly, may_have_changed, line_room};
 
 use crate::{Refusal, Reply};
 use itoa::Buffer;
@@ -54,7 +55,7 @@ fn put_text(line: &mut Vec<u8>, before: &[u8], text: &str)
 
 /// Whether a refusal tells that a store failed.
 fn is_shelf(reason: &Refusal) -> bool
-    ensures { result ≡ is_done (refused (refusal_of reason.now)) }
+    ensures { result ≡ may_have_changed (refused (refusal_of reason.now)) }
 {
     matches!(reason, Refusal::Shelf)
 }
@@ -65,7 +66,7 @@ pub(crate) fn put_front(line: &mut Vec<u8>, reply: &Reply) -> bool
     requires empty { line.old.items ≡ [] }
     requires room { line_room ≤ vec_capacity line.old }
     requires plain { TellsPlainly (reply_of reply.now) }
-    ensures told { result ≡ is_done (reply_of reply.now) }
+    ensures told { result ≡ may_have_changed (reply_of reply.now) }
     ensures front { OnTrue result (IsFront line.new.items (reply_of reply.now)) }
     ensures capacity { vec_capacity line.old ≤ vec_capacity line.new }
 {

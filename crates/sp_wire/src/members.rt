@@ -26,7 +26,8 @@ pub fn text_member(
     key: &str,
     text: &String,
 ) -> Result<Map<String, Value>, AllocError>
-    ensures { IfOk result (λ members. members_view members.entries ≡ member key.now (string (string_bytes text.now)) no_members) }
+    ensures { IfOk result (λ members.
+        members_view members.entries ≡ member key.now (string (string_bytes text.now)) no_members) }
 {
     let mut members = Map::new(alloc);
     put(

@@ -7,6 +7,7 @@ pub mod LabelReadings
 pub mod SceneRows
 pub mod SceneSpots
 pub mod SceneLabels
+pub mod PlacedLaws
 pub mod SceneRecordLaws
 pub mod PageRows
 pub mod PageRecordLaws

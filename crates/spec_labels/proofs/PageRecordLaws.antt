@@ -1,21 +1,22 @@
 -- The list of page records with new ones, and records that are carried to other lines and put back.
-use Rattle.std.proofs.Common.{◌≡◌, ◌≢◌, ℕ, ◌+◌, ◌<◌, ◌≤◌, ◌==◌, ◌&&◌, Bool, true, false, not, cond, List, [], ◌∷◌, ◌++◌, length, map, get_or, ne_eqb, ⊎_elim, refl, ap, ap₂, sym, ◌∙◌, subst, append-nil, length-append, eq-eqb, is_lt, is_eq, Less, Equal, Greater, Ordering, arith}
-use Rattle.std.specs.Prelude.{Option, Some, None, All, AllPairs, IsPermutation, fold, filter}
+use Rattle.std.proofs.Common.{◌≡◌, ◌≢◌, ℕ, ◌+◌, ◌<◌, ◌≤◌, ◌==◌, ◌&&◌, Bool, true, false, not, cond, List, [], ◌∷◌, ◌++◌, length, map, get_or, ne_eqb, refl, ap, ap₂, sym, ◌∙◌, subst, length-append, eq-eqb, is_eq, arith}
+use Rattle.std.specs.Prelude.{Option, Some, None, All, AllPairs, IsPermutation, filter}
 use Rattle.std.proofs.lemmas.Bool.{and_parts}
 use Rattle.std.proofs.lemmas.Cmp.{tied_itself}
 use Rattle.std.proofs.lemmas.List.{length-map, get_or-map}
-use Rattle.std.proofs.lemmas.List.Elements.{All-cons, All-head, All-tail, All-weaker, All-map, All-filter, All-append, filter_passes}
+use Rattle.std.proofs.lemmas.List.Elements.{All-map, All-filter, All-append, filter_passes}
 use Rattle.std.proofs.lemmas.List.Folds.{list_any_at}
 use Rattle.std.proofs.lemmas.List.Kept.{AllPairs-cons, AllPairs-filter}
-use Rattle.std.proofs.lemmas.List.Sorted.{IsPermutation-refl, IsPermutation-sym, IsPermutation-trans, IsPermutation-cons, IsPermutation-middle, IsPermutation-append_left, All-permutation, length_permutation}
+use Rattle.std.proofs.lemmas.List.Sorted.{All-permutation, length_permutation}
 use Rattle.spec_text.specs.Lines.{LineState}
 use Rattle.spec_text.proofs.ListLaws.{pairs-head, pairs-tail}
 use Rattle.spec_labels.specs.declared.Moved.{Moved}
 use Rattle.spec_labels.specs.declared.RowKey.{RowKey}
 use Rattle.spec_labels.specs.Labels.{LabelOf, IsLabel, label_cmp, Below}
 use Rattle.spec_labels.specs.Scenes.{record_number_limit}
-use Rattle.spec_labels.specs.PageRecords.{ArePageRecords, PageRecordOf, SheetOf, RisingRecords, end_line, is_present, line_from, is_removed, carried, carried_records, moved_of, moved_from, moved_at, with_anchor, put_back_from, put_back_records, is_recorded, record_of_sheet, is_new, new_page_records, put_in, extended_page_records}
-use Rattle.spec_labels.proofs.LabelOrder.{label_cmp_total, Below-irreflexive, Below-transitive, Below-total}
+use Rattle.spec_labels.specs.PageRecords.{ArePageRecords, PageRecordOf, SheetOf, RisingRecords, end_line, is_present, line_from, is_removed, carried, carried_records, moved_of, moved_from, moved_at, with_anchor, put_back_from, put_back_records, is_recorded, record_of_sheet, is_new, new_page_records, extended_page_records}
+use Rattle.spec_labels.proofs.PlacedLaws.{all_placed_by-permutation, all_placed_by-rises}
+use Rattle.spec_labels.proofs.LabelOrder.{label_cmp_total, Below-irreflexive}
 
 -- Records in order, and records with labels of their own.
 abbrev pub Before : PageRecordOf → PageRecordOf → Type 0
@@ -24,73 +25,10 @@ Before one other = Below one.label other.label
 abbrev pub Differs : PageRecordOf → PageRecordOf → Type 0
 Differs one other = one.label ≢ other.label
 
--- The record goes in among the others.
-pub put_in-permutation : (records : List PageRecordOf) (new : PageRecordOf) → IsPermutation (new ∷ records) (put_in records new)
-put_in-permutation [] new = IsPermutation-refl (new ∷ [])
-put_in-permutation (it ∷ records) new = by (is_lt (label_cmp it.label new.label)) (put_in-permutation records new)
-  where
-    by : (b : Bool) → IsPermutation (new ∷ records) (put_in records new) → IsPermutation (new ∷ it ∷ records) (cond b (it ∷ put_in records new) (new ∷ it ∷ records))
-    by true rest =
-        IsPermutation-trans (new ∷ it ∷ records) (it ∷ new ∷ records) (it ∷ put_in records new)
-        (IsPermutation-sym (it ∷ new ∷ records) (new ∷ it ∷ records) (IsPermutation-middle (it ∷ []) new records))
-        (IsPermutation-cons it (new ∷ records) (put_in records new) rest)
-    by false rest = IsPermutation-refl (new ∷ it ∷ records)
-
-pub all_put_in-permutation : (records news : List PageRecordOf) → IsPermutation (records ++ news) (fold put_in records news)
-all_put_in-permutation records [] = subst (λ (rs : List PageRecordOf). IsPermutation rs records) (sym (append-nil records)) (IsPermutation-refl records)
-all_put_in-permutation records (new ∷ news) =
-    IsPermutation-trans (records ++ new ∷ news) (put_in records new ++ news) (fold put_in (put_in records new) news)
-    (IsPermutation-trans (records ++ new ∷ news) (new ∷ (records ++ news)) (put_in records new ++ news)
-    (IsPermutation-middle records new news)
-    (IsPermutation-append_left news (new ∷ records) (put_in records new) (put_in-permutation records new)))
-    (all_put_in-permutation (put_in records new) news)
-
--- What holds of all and of the new one holds with it.
-put_in-All : (P : PageRecordOf → Type 0) (records : List PageRecordOf) (new : PageRecordOf) → P new → All P records → All P (put_in records new)
-put_in-All P records new here all = All-permutation P (new ∷ records) (put_in records new) (put_in-permutation records new) (All-cons P new records here all)
-
--- A record with a label of its own goes to where the list still rises.
-put_in-rises : (records : List PageRecordOf) (new : PageRecordOf) → AllPairs Before records → All (λ it. Differs it new) records → AllPairs Before (put_in records new)
-put_in-rises [] new rising differs = λ i j d less within. absurd (omega (arith, less, within))
-put_in-rises (it ∷ records) new rising differs =
-    by (is_lt (label_cmp it.label new.label)) refl (put_in-rises records new (pairs-tail Before it records rising) (All-tail (λ r. Differs r new) it records differs))
-  where
-    below : (o : Ordering) → label_cmp it.label new.label ≡ o → is_lt o ≡ true → Before it new
-    below Less is passes = record { less = is }
-    below Equal is passes = cc
-    below Greater is passes = cc
-
-    above : is_lt (label_cmp it.label new.label) ≡ false → Before new it
-    above fails = ⊎_elim
-        (λ less. let e : true ≡ false = sym (ap is_lt less.less) ∙ fails in cc)
-        (λ rest. ⊎_elim (λ same. absurd (All-head (λ r. Differs r new) it records differs same)) (λ more. more) rest)
-        (Below-total it.label new.label)
-
-    by : (b : Bool) → is_lt (label_cmp it.label new.label) ≡ b → AllPairs Before (put_in records new) → AllPairs Before (cond b (it ∷ put_in records new) (new ∷ it ∷ records))
-    by true is rest =
-        AllPairs-cons Before it (put_in records new)
-        (put_in-All (Before it) records new (below (label_cmp it.label new.label) refl is) (pairs-head Before it records rising)) rest
-    by false is rest =
-        let first = above is in
-        AllPairs-cons Before new (it ∷ records)
-        (All-cons (Before new) it records first
-        (All-weaker (Before it) (Before new) (λ other more. Below-transitive first more) records (pairs-head Before it records rising)))
-        rising
-
--- So do records with labels of their own, one after another.
-pub all_put_in-rises : (records news : List PageRecordOf) → AllPairs Before records → AllPairs Differs news → All (λ new. All (λ it. Differs it new) records) news
-    → AllPairs Before (fold put_in records news)
-all_put_in-rises records [] rising own differs = rising
-all_put_in-rises records (new ∷ news) rising own differs =
-    let P = λ (it : PageRecordOf). All (λ r. Differs r it) records in
-    let here = All-head P new news differs in
-    all_put_in-rises (put_in records new) news (put_in-rises records new rising here) (pairs-tail Differs new news own)
-    (λ k d within. put_in-All (λ r. Differs r (get_or news k d)) records new (pairs-head Differs new news own k d within) (All-tail P new news differs k d within))
-
 -- The extended list has the old records and the new ones, and no others.
 pub extended_page_records-permutation : (records : List PageRecordOf) (sheets : List SheetOf) (keys : List RowKey)
     → IsPermutation (records ++ new_page_records records sheets keys) (extended_page_records records sheets keys)
-extended_page_records-permutation records sheets keys = all_put_in-permutation records (new_page_records records sheets keys)
+extended_page_records-permutation records sheets keys = all_placed_by-permutation (λ (it : PageRecordOf). it.label) records (new_page_records records sheets keys)
 
 pub length-extended_page_records : (records : List PageRecordOf) (sheets : List SheetOf) (keys : List RowKey)
     → length (extended_page_records records sheets keys) ≡ length records + length (new_page_records records sheets keys)
@@ -143,7 +81,7 @@ pub extended_page_records-rise : (records : List PageRecordOf) (sheets : List Sh
     → AllPairs (λ (one other : SheetOf). Below one.first other.first) sheets → RisingRecords (extended_page_records records sheets keys)
 extended_page_records-rise records sheets keys rising firsts =
     let news = new_page_records records sheets keys in
-    all_put_in-rises records news rising (rising-Differ news (new_records-rise records sheets keys firsts)) (new_records-differ records sheets keys)
+    all_placed_by-rises (λ (it : PageRecordOf). it.label) records news rising (rising-Differ news (new_records-rise records sheets keys firsts)) (new_records-differ records sheets keys)
 
 -- A record whose line is in the text keeps its anchor.
 pub carried-present : (lines : List LineState) (place : ℕ) (it : PageRecordOf) → is_present lines it.line ≡ true → carried lines place it ≡ it

@@ -2,7 +2,7 @@
 use Rattle.std.specs.Prelude.{◌≡◌, ℕ, ◌+◌, ◌-◌, ◌<◌, nat_le, nat_eq, Bool, ◌==◌, ◌&&◌, if◌then◌else◌, List, [], ◌∷◌, ◌++◌, length, drop, replicate, slice_get, slice_index, flat_map, AllPairs, IfSome, Option, Some, None, decimal, codes}
 use Rattle.std.specs.List.{prefix_len, starts_with}
 use Rattle.std.specs.Cmp.Lexicographic.{slice_cmp}
-use Rattle.std.specs.Ordering.{nat_cmp, ordering_then}
+use Rattle.std.specs.Ordering.{nat_cmp, ordering_then, is_lt}
 use Rattle.std.specs.declared.cmp.Ordering.{Ordering}
 use Rattle.std.specs.declared.cmp.Ordering.TheVariants.{Less}
 
@@ -48,6 +48,11 @@ pub record Below (one other : LabelOf) : Type 0 where
 -- Labels rise strictly: each is below every later one.
 abbrev pub Rising : List LabelOf → Type 0
 Rising labels = AllPairs Below labels
+
+-- An item goes into a list by its label.
+abbrev pub placed_by : {X : Type 0} → (X → LabelOf) → List X → X → List X
+placed_by label [] new = new ∷ []
+placed_by label (it ∷ items) new = if is_lt (label_cmp (label it) (label new)) then it ∷ placed_by label items new else new ∷ it ∷ items
 
 -- The second label is the first one, or it with further steps.
 abbrev pub is_extended_by : LabelOf → LabelOf → Bool

@@ -1,11 +1,11 @@
 -- Page records: where their segments begin, their sheets, and what becomes of them in edits and rounds (docs/RULES.md, "Page records").
 use Rattle.std.specs.Prelude.{◌≡◌, ◌≢◌, ℕ, ◌+◌, ◌-◌, ◌^◌, ◌<◌, ◌≤◌, max, nat_lt, nat_le, Bool, true, false, IsTrue, ◌&&◌, ◌||◌, not, ◌==◌, if◌then◌else◌, List, [], ◌∷◌, length, map, flat_map, fold, filter, find, slice_get, slice_index_or, All, AllPairs, IfSome, Option, Some, None, unwrap_or, option_map}
 use Rattle.std.specs.List.{list_any, list_all, position_or_len}
-use Rattle.std.specs.Ordering.{is_lt, is_eq}
+use Rattle.std.specs.Ordering.{is_eq}
 use Rattle.spec_text.specs.Lines.{LineState}
 use Rattle.spec_labels.specs.declared.Moved.{Moved}
 use Rattle.spec_labels.specs.declared.RowKey.{RowKey}
-use Rattle.spec_labels.specs.Labels.{LabelOf, IsLabel, label_cmp, Below, between}
+use Rattle.spec_labels.specs.Labels.{LabelOf, IsLabel, label_cmp, Below, between, placed_by}
 use Rattle.spec_labels.specs.Scenes.{record_number_limit}
 
 -- Page records.
@@ -258,8 +258,7 @@ new_page_records records sheets keys = map (record_of_sheet keys) (filter (is_ne
 
 -- A record goes into the list by its label.
 abbrev pub put_in : List PageRecordOf → PageRecordOf → List PageRecordOf
-put_in [] new = new ∷ []
-put_in (it ∷ records) new = if is_lt (label_cmp it.label new.label) then it ∷ put_in records new else new ∷ it ∷ records
+put_in = placed_by (λ (it : PageRecordOf). it.label)
 
 -- The list with a record for every sheet with rows.
 abbrev pub extended_page_records : List PageRecordOf → List SheetOf → List RowKey → List PageRecordOf

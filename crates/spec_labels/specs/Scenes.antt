@@ -1,9 +1,9 @@
 -- Scene numbers: the labels of headings, and the records that keep them (docs/RULES.md, "Scene numbers").
-use Rattle.std.specs.Prelude.{◌≢◌, ℕ, zero, suc, ◌+◌, ◌<◌, ◌≤◌, Bool, true, IsTrue, ◌&&◌, not, ◌==◌, if◌then◌else◌, List, [], ◌∷◌, length, map, fold, filter, zip, drop, find, position, slice_get, All, AllPairs, IfSome, OnSome, Option, Some, None, unwrap_or, option_map, option_and_then, is_some}
+use Rattle.std.specs.Prelude.{◌≢◌, ℕ, zero, suc, ◌+◌, ◌<◌, ◌≤◌, Bool, true, IsTrue, ◌&&◌, not, ◌==◌, List, [], ◌∷◌, length, map, fold, filter, zip, drop, find, position, slice_get, All, AllPairs, IfSome, OnSome, Option, Some, None, unwrap_or, option_map, option_and_then, is_some}
 use Rattle.std.specs.Ordering.{is_lt}
 use Rattle.std.specs.Option.{option_map_or}
 use Rattle.spec_text.specs.Limits.{line_count_limit}
-use Rattle.spec_labels.specs.Labels.{LabelOf, plain_label, IsLabel, label_cmp, Below, between}
+use Rattle.spec_labels.specs.Labels.{LabelOf, plain_label, IsLabel, label_cmp, Below, between, placed_by}
 use Rattle.spec_labels.specs.LabelReading.{step_limit}
 
 -- The greatest number, and the most steps, of a scene number that is written in a script.
@@ -151,8 +151,7 @@ locked_records headings = records_of headings (unlocked_labels headings)
 
 -- A record goes into the list by its label.
 abbrev pub placed : List SceneRecordOf → SceneRecordOf → List SceneRecordOf
-placed [] new = new ∷ []
-placed (it ∷ records) new = if is_lt (label_cmp it.label new.label) then it ∷ placed records new else new ∷ it ∷ records
+placed = placed_by (λ (it : SceneRecordOf). it.label)
 
 -- The records of the headings that have none yet, with the labels that they have.
 abbrev pub new_records : List SceneRecordOf → List HeadingOf → List SceneRecordOf

@@ -1,4 +1,4 @@
--- A lock or a round is accepted exactly where nothing refuses it.
+-- Where a lock or a round is refused, by which reason, and that it can be made exactly where none refuses it.
 use Rattle.std.proofs.Common.{◌≡◌, ℕ, ◌<◌, ◌≤◌, Bool, true, false, not, ltb, leb, eqb, Option, Some, None, List, length, refl, ap, ◌∙◌, arith}
 use Rattle.std.specs.Prelude.{IfSome, is_some, option_map}
 use Rattle.std.proofs.lemmas.Bool.Decides.{nat_tests}

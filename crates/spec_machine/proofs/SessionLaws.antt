@@ -2,12 +2,12 @@
 use Rattle.std.proofs.Common.{◌≡◌, List, [], ◌∷◌, ◌++◌, refl, sym, ap, subst, ◌∙◌}
 use Rattle.spec_wire.specs.Commands.{CommandOf}
 use Rattle.spec_machine.specs.Machine.{Memory, opened_memory, memory_after, memory_behind}
-use Rattle.spec_machine.specs.Sessions.{Accepts, AcceptsSessions, LeadsOn, session_behind, sessions_behind}
+use Rattle.spec_machine.specs.Sessions.{Accepts, AcceptsSessions, LeadsTo, session_behind, sessions_behind}
 
-pub leads-itself : (memory : Memory) → LeadsOn memory memory
+pub leads-itself : (memory : Memory) → LeadsTo memory memory
 leads-itself memory = record { commands = []; taken = tt; sessions = []; accepted = tt; is = refl }
 
-pub command-leads : (memory now : Memory) (command : CommandOf) → Accepts memory command → LeadsOn (memory_after memory command) now → LeadsOn memory now
+pub command-leads : (memory now : Memory) (command : CommandOf) → Accepts memory command → LeadsTo (memory_after memory command) now → LeadsTo memory now
 command-leads memory now command can lead =
     record { commands = command ∷ lead.commands; taken = (can, lead.taken); sessions = lead.sessions; accepted = lead.accepted; is = lead.is }
 
@@ -22,7 +22,7 @@ accepts-join memory [] other first second = second
 accepts-join memory (commands ∷ one) other first second = (first.0, accepts-join (session_behind memory commands) one other first.1 second)
 
 -- What leads to a memory leads on to all that a session has that opens its state.
-pub reopened-leads : (earlier saved now : Memory) → LeadsOn earlier saved → LeadsOn (opened_memory saved.state) now → LeadsOn earlier now
+pub reopened-leads : (earlier saved now : Memory) → LeadsTo earlier saved → LeadsTo (opened_memory saved.state) now → LeadsTo earlier now
 reopened-leads earlier saved now first second =
     let memory = memory_behind earlier first.commands in
     let more = second.commands ∷ second.sessions in

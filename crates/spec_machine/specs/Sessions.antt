@@ -33,7 +33,7 @@ AcceptsSessions memory [] = Unit {0}
 AcceptsSessions memory (commands ∷ later) = AcceptsAll (opened_memory memory.state) commands × AcceptsSessions (session_behind memory commands) later
 
 -- An earlier memory leads to another by accepted commands of its session, and by those of sessions that open what was saved then.
-pub record LeadsOn (earlier now : Memory) : Type 0 where
+pub record LeadsTo (earlier now : Memory) : Type 0 where
   pub commands : List CommandOf
   pub taken : AcceptsAll earlier commands
   pub sessions : List (List CommandOf)

@@ -33,5 +33,6 @@ pub mod BlockPlaces
 pub mod RunPlaces
 pub mod ElementLaws
 pub mod RunSteps
+pub mod EachBlock
 pub mod SpeechParts
 mod ValueLaws

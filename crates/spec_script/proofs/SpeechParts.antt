@@ -1,5 +1,5 @@
 -- The lines of a block are all parts of a speech, or none of them is.
-use Rattle.std.proofs.Common.{◌≡◌, ℕ, ◌+◌, Bool, true, false, cond, ◌&&◌, List, [], ◌∷◌, map, refl}
+use Rattle.std.proofs.Common.{◌≡◌, ℕ, Bool, true, false, cond, List, [], ◌∷◌, map, refl}
 use Rattle.std.specs.Prelude.{All, drop}
 use Rattle.std.specs.List.{flat_map}
 use Rattle.std.proofs.lemmas.List.Elements.{All-nil, All-cons, All-head, All-tail, All-append}
@@ -8,18 +8,17 @@ use Rattle.spec_script.specs.declared.Part.{Part}
 use Rattle.spec_script.specs.declared.Part.TheVariants as parts
 use Rattle.spec_script.specs.LongestRuns.{Group, members, longest_runs}
 use Rattle.spec_script.specs.BlockValues.{LineOf, BlockOf}
-use Rattle.spec_script.specs.Left.{Left, left_lines, trimmed, inner, line_of, plain_line, block_of, text_block}
+use Rattle.spec_script.specs.Left.{Left, trimmed, inner, line_of, plain_line, block_of, text_block}
 use Rattle.spec_script.specs.Trim.{trim_all}
 use Rattle.spec_script.specs.Letters.{begins}
-use Rattle.spec_script.specs.Forms.{is_parenthetical, is_natural_heading, is_natural_transition, is_forced_heading, is_page_break, is_synopsis}
-use Rattle.spec_script.specs.Title.{opens_centred, title_opens}
+use Rattle.spec_script.specs.Forms.{is_parenthetical}
+use Rattle.spec_script.specs.Title.{opens_centred}
 use Rattle.spec_script.specs.TitlePages.{one_key, title_part, value_line, value_of, values_of, opened, title_lines, title_of}
-use Rattle.spec_script.specs.Headings.{heading_skip, number_len, numbered_heading, heading_of}
-use Rattle.spec_script.specs.Speeches.{is_speech, cue_line, spoken, speech_of}
-use Rattle.spec_script.specs.Divisions.{ends_part, section_of, ending_blocks, one_block, listed_line, group_block, run_blocks, part_blocks, piece_blocks, one_part, pieces_blocks}
-use Rattle.spec_script.specs.Blocks.{left_blocks}
-use Rattle.spec_script.specs.Stanzas.{Kept, PlacedBlock, one_stanza, cleaned_lines, stanza_of, stanzas_in, blocks_from, lines_from, blocks_of}
-use Rattle.spec_script.specs.Elements.{placed_at}
+use Rattle.spec_script.specs.Headings.{heading_skip, number_len, numbered_heading}
+use Rattle.spec_script.specs.Speeches.{cue_line, spoken, speech_of}
+use Rattle.spec_script.specs.Divisions.{section_of, listed_line}
+use Rattle.spec_script.specs.Stanzas.{PlacedBlock, blocks_of}
+use Rattle.spec_script.proofs.EachBlock.{OfEachForm, Placed, listed_block, blocks-each}
 
 -- The part is one of a speech.
 abbrev pub is_speech_part : Part → Bool
@@ -47,18 +46,6 @@ quiet block lines = record { speech = false; lines = lines }
 
 one-line : (speech : Bool) (line : LineOf) → IsSpoken speech line → All (IsSpoken speech) (line ∷ [])
 one-line speech line h = All-cons (IsSpoken speech) line [] h (All-nil (IsSpoken speech))
-
-one-block : (block : BlockOf) → IsUniform block → All IsUniform (block ∷ [])
-one-block block h = All-cons IsUniform block [] h (All-nil IsUniform)
-
--- By a test.
-if-blocks : (b : Bool) (xs ys : List BlockOf) → All IsUniform xs → All IsUniform ys → All IsUniform (cond b xs ys)
-if-blocks true xs ys x y = x
-if-blocks false xs ys x y = y
-
-if-block : (b : Bool) (x y : BlockOf) → IsUniform x → IsUniform y → IsUniform (cond b x y)
-if-block true x y one other = one
-if-block false x y one other = other
 
 -- A title page's lines.
 value-silent : (centred : Bool) (line : Left) → Silent (value_of centred line)
@@ -112,70 +99,26 @@ speech-spoken line more = record { speech = true; lines = All-cons (IsSpoken tru
     each (l ∷ ls) = All-cons (IsSpoken true) (spoken l) (map spoken ls) (line-spoken l) (each ls)
 
 -- The other blocks' lines.
-heading-silent : (line : Left) → IsUniform (heading_of line)
-heading-silent line =
-    let n = number_len (drop (heading_skip line) (trimmed line)) in
-    if-block _ (text_block kinds.Heading line (inner line (heading_skip line) 0)) (numbered_heading line n)
-    (quiet (text_block kinds.Heading line (inner line (heading_skip line) 0)) (one-line false _ refl))
-    (quiet (numbered_heading line n) (one-line false _ refl))
-
 listed-silent : (lines : List Left) → Silent (map listed_line lines)
 listed-silent [] = All-nil (IsSpoken false)
 listed-silent (line ∷ lines) = All-cons (IsSpoken false) (listed_line line) (map listed_line lines) refl (listed-silent lines)
 
-group-silent : (group : Group Left) → IsUniform (group_block group)
-group-silent group =
-    if-block (is_forced_heading (trimmed group.first)) (heading_of group.first) _ (heading-silent group.first)
-    (record { speech = false; lines = listed-silent (members group) })
-
-groups-silent : (groups : List (Group Left)) → All IsUniform (map group_block groups)
-groups-silent [] = All-nil IsUniform
-groups-silent (group ∷ groups) = All-cons IsUniform (group_block group) (map group_block groups) (group-silent group) (groups-silent groups)
-
-ending-silent : (line : Left) → All IsUniform (ending_blocks line)
-ending-silent line =
-    if-blocks line.held [] _ (All-nil IsUniform)
-    (if-blocks (is_page_break (trimmed line)) (block_of kinds.PageBreak line [] ∷ []) _ (one-block _ (quiet (block_of kinds.PageBreak line []) (All-nil (IsSpoken false))))
-    (if-blocks (is_synopsis (trimmed line)) _ (section_of line ∷ []) (one-block _ (quiet (block_of kinds.Synopsis line (plain_line line parts.Text (inner line 1 0) ∷ [])) (one-line false _ refl)))
-    (one-block (section_of line) (quiet (section_of line) (one-line false _ refl)))))
-
-part-silent : (line : Left) (more : List Left) → All IsUniform (part_blocks line more)
-part-silent line [] =
-    if-blocks (is_natural_heading (trimmed line)) (heading_of line ∷ []) _ (one-block (heading_of line) (heading-silent line))
-    (if-blocks (is_natural_transition line.text) (text_block kinds.Transition line (trim_all line.text) ∷ []) (run_blocks (line ∷ []))
-    (one-block _ (quiet (text_block kinds.Transition line (trim_all line.text)) (one-line false _ refl))) (groups-silent (longest_runs one_block (line ∷ []))))
-part-silent line (next ∷ more) = groups-silent (longest_runs one_block (line ∷ next ∷ more))
-
-pieces-silent : (groups : List (Group Left)) → All IsUniform (pieces_blocks groups)
-pieces-silent [] = All-nil IsUniform
-pieces-silent (group ∷ groups) =
-    All-append IsUniform (piece_blocks group) (pieces_blocks groups)
-    (if-blocks (ends_part group.first) (ending_blocks group.first) (part_blocks group.first group.more) (ending-silent group.first) (part-silent group.first group.more))
-    (pieces-silent groups)
-
-left-uniform : (first : Bool) (lines : List Left) → All IsUniform (left_blocks first lines)
-left-uniform first [] = All-nil IsUniform
-left-uniform first (line ∷ more) =
-    if-blocks (first && title_opens line.text) (title_of line more (longest_runs one_key (line ∷ more)) ∷ []) _
-    (one-block _ (quiet (title_of line more (longest_runs one_key (line ∷ more))) (titles-silent (longest_runs one_key (line ∷ more)))))
-    (if-blocks (is_speech line more) (speech_of line more ∷ []) (pieces_blocks (longest_runs one_part (line ∷ more)))
-    (one-block (speech_of line more) (speech-spoken line more)) (pieces-silent (longest_runs one_part (line ∷ more))))
+each-uniform : OfEachForm IsUniform
+each-uniform = record {
+  heading = λ line. quiet (text_block kinds.Heading line (inner line (heading_skip line) 0)) (one-line false _ refl);
+  numbered = λ line. quiet (numbered_heading line (number_len (drop (heading_skip line) (trimmed line)))) (one-line false _ refl);
+  listed = λ group plain. quiet (listed_block group) (listed-silent (members group));
+  page_break = λ line. quiet (block_of kinds.PageBreak line []) (All-nil (IsSpoken false));
+  synopsis = λ line. quiet (block_of kinds.Synopsis line (plain_line line parts.Text (inner line 1 0) ∷ [])) (one-line false _ refl);
+  section = λ line. quiet (section_of line) (one-line false _ refl);
+  transition = λ line. quiet (text_block kinds.Transition line (trim_all line.text)) (one-line false _ refl);
+  title = λ line more. quiet (title_of line more (longest_runs one_key (line ∷ more))) (titles-silent (longest_runs one_key (line ∷ more)));
+  speech = λ line more. speech-spoken line more;
+}
 
 -- The same of placed blocks.
 abbrev pub PlacedUniform : PlacedBlock → Type 0
-PlacedUniform placed = IsUniform placed.block
-
-placed-uniform : (place : ℕ) (blocks : List BlockOf) → All IsUniform blocks → All PlacedUniform (map (placed_at place) blocks)
-placed-uniform place [] all = All-nil PlacedUniform
-placed-uniform place (block ∷ blocks) all =
-    All-cons PlacedUniform (placed_at place block) (map (placed_at place) blocks) (All-head IsUniform block blocks all) (placed-uniform place blocks (All-tail IsUniform block blocks all))
-
-groups-uniform : (first : Bool) (place : ℕ) (groups : List (Group Kept)) → All PlacedUniform (blocks_from place (stanzas_in first groups))
-groups-uniform first place [] = All-nil PlacedUniform
-groups-uniform first place (group ∷ groups) =
-    let stanza = stanza_of first (members group) in
-    All-append PlacedUniform (map (placed_at place) stanza.blocks) (blocks_from (place + stanza.lines) (stanzas_in false groups))
-    (placed-uniform place stanza.blocks (left-uniform first (left_lines (cleaned_lines (members group))))) (groups-uniform false (place + stanza.lines) groups)
+PlacedUniform = Placed IsUniform
 
 pub blocks-uniform : (texts : List (List ℕ)) → All PlacedUniform (blocks_of texts)
-blocks-uniform texts = groups-uniform true 0 (longest_runs one_stanza (lines_from texts 0))
+blocks-uniform texts = blocks-each IsUniform each-uniform texts

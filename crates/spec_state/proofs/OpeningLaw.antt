@@ -135,6 +135,7 @@ pub record RoundStays (paper : Paper) (lines : List LineState) (rows : List Show
   pub sheets : sheets_in (rows_on paper) lines rows breaks (Some (next_records paper lines rows breaks records)) ≡ sheets_in (rows_on paper) lines rows breaks (Some records)
   pub single : All (IsSingle (pages_in (rows_on paper) lines rows breaks (Some (next_records paper lines rows breaks records))))
       (segments (length rows) (next_records paper lines rows breaks records) (record_starts lines (map key_of rows) (next_records paper lines rows breaks records)))
+  pub pages : pages_in (rows_on paper) lines rows breaks (Some (next_records paper lines rows breaks records)) ≡ pages_in (rows_on paper) lines rows breaks (Some records)
 
 pub round-rows : (paper : Paper) (lines : List LineState) (rows : List Shown) (breaks : List ℕ) (records : List PageRecordOf) → AreKeys lines (map key_of rows) → AreLocked records
     → RoundStays paper lines rows breaks records
@@ -152,6 +153,8 @@ round-rows paper lines rows breaks (it ∷ records) are locked =
           ∙ sheets-count limit lines rows breaks (Some news) ∙ stay.sheets ∙ sym (sheets-count limit lines rows breaks (Some (it ∷ records)));
       single = subst (λ (rs : List PageRecordOf). All (IsSingle (pages_in limit lines rows breaks (Some rs))) (segments (length rows) rs (record_starts lines keys rs))) (sym made)
           (subst (λ (ps : List ℕ). All (IsSingle ps) (segments (length rows) news (record_starts lines keys news))) (sym (pages-count limit lines rows breaks (Some news))) stay.single);
+      pages = ap (λ (rs : List PageRecordOf). pages_in limit lines rows breaks (Some rs)) made
+          ∙ pages-count limit lines rows breaks (Some news) ∙ stay.pages ∙ sym (pages-count limit lines rows breaks (Some (it ∷ records)));
     }
 
 -- ---- the lock of pages
@@ -163,6 +166,7 @@ pub record LockedStay (paper : Paper) (lines : List LineState) (rows : List Show
   pub sheets : sheets_in (rows_on paper) lines rows breaks (Some (first_records paper lines rows breaks)) ≡ sheets_in (rows_on paper) lines rows breaks None
   pub single : All (IsSingle (pages_in (rows_on paper) lines rows breaks (Some (first_records paper lines rows breaks))))
       (segments (length rows) (first_records paper lines rows breaks) (record_starts lines (map key_of rows) (first_records paper lines rows breaks)))
+  pub pages : pages_in (rows_on paper) lines rows breaks (Some (first_records paper lines rows breaks)) ≡ pages_in (rows_on paper) lines rows breaks None
 
 pub lock-rows : (paper : Paper) (lines : List LineState) (rows : List Shown) (breaks : List ℕ) → AreKeys lines (map key_of rows) → 0 < length rows → LockedStay paper lines rows breaks
 lock-rows paper lines rows breaks are some =
@@ -197,6 +201,8 @@ lock-rows paper lines rows breaks are some =
               ∙ sheets-count limit lines rows breaks (Some news) ∙ stay.same ∙ sym (sheets-count limit lines rows breaks None);
           single = subst (λ (rs : List PageRecordOf). All (IsSingle (pages_in limit lines rows breaks (Some rs))) (segments (length rows) rs (record_starts lines keys rs))) (sym made)
               (subst (λ (ps : List ℕ). All (IsSingle ps) (segments (length rows) news (record_starts lines keys news))) (sym (pages-count limit lines rows breaks (Some news))) stay.single);
+          pages = ap (λ (rs : List PageRecordOf). pages_in limit lines rows breaks (Some rs)) made
+              ∙ pages-count limit lines rows breaks (Some news) ∙ stay.pages ∙ sym (pages-count limit lines rows breaks None);
         }
 
 -- ---- states

@@ -1,5 +1,5 @@
 use Rattle.std.proofs.Common.{rules}
 use Rattle.sp_layout.proofs.layout.is_dual.Goals as goal
 
-pub returns-then-is_speech-2 : goal.returns-then-is_speech-2
-returns-then-is_speech-2 c = search rules
+pub returns-then-is_speech_kind-2 : goal.returns-then-is_speech_kind-2
+returns-then-is_speech_kind-2 c = search rules

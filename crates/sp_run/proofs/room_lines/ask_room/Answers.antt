@@ -18,5 +18,5 @@ returns-clause-reads g c = search rules
 pub returns-clause-fills : goal.returns-clause-fills
 returns-clause-fills g c = search rules
 
-pub returns-clause-undone : goal.returns-clause-undone
-returns-clause-undone g c = answer-undone c.args.room.now _ c.apply-answer.new.self c.apply-answer.result c.apply-answer.ensures.step c.apply-answer.ensures.looks
+pub returns-clause-unchanged : goal.returns-clause-unchanged
+returns-clause-unchanged g c = answer-undone c.args.room.now _ c.apply-answer.new.self c.apply-answer.result c.apply-answer.ensures.step c.apply-answer.ensures.looks

@@ -78,15 +78,15 @@ pub returns-in_default : goal.returns-in_default
 returns-in_default g c =
     let it = line_of c.args.seat.now c.args.seen (command_of c.args.command) in
     let holds : Holds c.args.self.now = subst Holds c.self.view_is c.self.invariant.holds in
-    let step : IsRoomAnswer c.args.self.now it c.look.new.self c.look.result =
-    (c.look.ensures.step c.args.seat.now c.args.seen) in
+    let step : IsRoomAnswer c.args.self.now it c.ask_other.new.self c.ask_other.result =
+    (c.ask_other.ensures.step c.args.seat.now c.args.seen) in
     record {
       step = step;
-      unrefused = c.look.ensures.unrefused;
-      same = same-room c.args.self.now c.look.new.self it c.look.result step;
-      looks = looks-same c.args.self.now c.look.new.self it c.look.result holds step c.look.ensures.unrefused;
-      seen = seen-kept c.args.self.now c.look.new.self it c.look.result holds step c.look.ensures.unrefused;
-      stands = stands-kept c.args.self.now c.look.new.self it c.look.result holds step c.look.ensures.unrefused;
-      reads = c.look.ensures.reads c.args.seat.now c.args.seen;
-      fills = c.look.ensures.fills c.args.seat.now c.args.seen;
+      unrefused = c.ask_other.ensures.unrefused;
+      same = same-room c.args.self.now c.ask_other.new.self it c.ask_other.result step;
+      looks = looks-same c.args.self.now c.ask_other.new.self it c.ask_other.result holds step c.ask_other.ensures.unrefused;
+      seen = seen-kept c.args.self.now c.ask_other.new.self it c.ask_other.result holds step c.ask_other.ensures.unrefused;
+      stands = stands-kept c.args.self.now c.ask_other.new.self it c.ask_other.result holds step c.ask_other.ensures.unrefused;
+      reads = c.ask_other.ensures.reads c.args.seat.now c.args.seen;
+      fills = c.ask_other.ensures.fills c.args.seat.now c.args.seen;
     }

@@ -9,7 +9,7 @@ use Rattle.sp_run.proofs.Replies.{err-with, none-stops, on-err, replied-plain, u
 use Rattle.sp_run.proofs.desk_lines.DeskLinesResponder.answer.Goals as goal
 
 pub write_reply-requires : goal.write_reply-requires
-write_reply-requires g c = record { room = c.in_ok-room.ensures; plain = replied-plain _ _ _ _ c.in_ok-reply.ensures.reply }
+write_reply-requires g c = record { buffer = c.in_ok-buffer.ensures; plain = replied-plain _ _ _ _ c.in_ok-reply.ensures.reply }
 
 pub returns-in_err-room-clause-no_memory : goal.returns-in_err-room-clause-no_memory
 returns-in_err-room-clause-no_memory g c =
@@ -21,7 +21,7 @@ returns-in_err-room-clause-no_memory g c =
 pub returns-clause-no_memory : goal.returns-clause-no_memory
 returns-clause-no_memory g c =
     rw (← c.self.view_is)
-    (err-with c.write_reply.result c.write_reply.ensures.undone
+    (err-with c.write_reply.result c.write_reply.ensures.unchanged
     (λ undone. record { stops = undone-stops _ _ _ _ undone c.in_ok-reply.ensures.reply; counts = line-at-most _ _ _ _ c.in_ok-reply.ensures.counts }))
 
 pub returns-clause-reply : goal.returns-clause-reply

@@ -11,8 +11,8 @@ use Rattle.sp_room.specs.Answers.{line_of}
 use Rattle.sp_room.specs.Counts.{RoomReads, RoomFills}
 use Rattle.sp_room.proofs.Answering.{no-change, no-change-looks, forgets_answered, looks_answered}
 use Rattle.sp_room.proofs.Counting.{is-err, of-looks}
-use Rattle.sp_room.proofs.room.Room.look.Goals as goal
-use Rattle.sp_room.proofs.room.Room.look.Goals.{then-forgets, else-forgets}
+use Rattle.sp_room.proofs.room.Room.ask_other.Goals as goal
+use Rattle.sp_room.proofs.room.Room.ask_other.Goals.{then-forgets, else-forgets}
 
 pub invariant_of-self-then-forgets : goal.invariant_of-self-then-forgets
 invariant_of-self-then-forgets g c =
