@@ -1,7 +1,8 @@
 -- A walk over a line, from one end of a boneyard to the next.
-use Rattle.std.specs.Prelude.{◌≡◌, ℕ, Bool, true, false, not, ◌||◌, List, [], ◌∷◌, ◌++◌, length, drop, ◌<◌, ◌≤◌, ◌+◌}
-use Rattle.std.proofs.Common.{cond, refl, sym, ap, ◌∙◌, append_assoc, arith}
-use Rattle.std.proofs.lemmas.Bool.{le-ltb, or_left, or_right, false≢true}
+use Rattle.std.specs.Prelude.{◌≡◌, ℕ, Bool, true, false, not, ◌||◌, ◌==◌, List, [], ◌∷◌, ◌++◌, length, drop, replicate, ◌<◌, ◌≤◌, ◌+◌}
+use Rattle.std.specs.List.{list_any}
+use Rattle.std.proofs.Common.{cond, zero, suc, refl, sym, ap, ◌∙◌, append_assoc, add-zero, zero-add, arith}
+use Rattle.std.proofs.lemmas.Bool.{and_left, le-ltb, or_left, or_parts, or_right, false≢true}
 use Rattle.spec_text.specs.Parts.{SpanOf}
 use Rattle.spec_script.specs.Marked.{covered, inside_after, turns_at}
 use Rattle.spec_script.specs.Boneyards.{yard_turns}
@@ -78,3 +79,39 @@ walked-on text began inside touched from at made w h t i =
       opened = w.opened;
       any = ap (λ l. touched || is_touched l) (sym kept) ∙ w.any;
     }
+
+-- A text without `/` that begins outside boneyards has none.
+abbrev pub NoSlash : List ℕ → Type 0
+NoSlash text = list_any (λ b. b == 47) text ≡ false
+
+no_turn : (a b : ℕ) (rest : List ℕ) → NoSlash (a ∷ b ∷ rest) → yard_turns false a b ≡ false
+no_turn a b rest none = and_left (a == 47) (b == 42) (or_parts _ _ none).0
+
+pub no_covered : (text : List ℕ) → NoSlash text → covered yard_turns false text ≡ replicate (length text) false
+no_covered [] none = refl
+no_covered (a ∷ []) none = refl
+no_covered (a ∷ b ∷ rest) none =
+    ap (λ t. cond t (true ∷ true ∷ covered yard_turns true rest) (false ∷ covered yard_turns false (b ∷ rest))) (no_turn a b rest none)
+    ∙ ap (λ (l : List Bool). false ∷ l) (no_covered (b ∷ rest) (or_parts _ _ none).1)
+
+pub no_inside : (text : List ℕ) → NoSlash text → false ≡ inside_after yard_turns false text
+no_inside [] none = refl
+no_inside (a ∷ []) none = refl
+no_inside (a ∷ b ∷ rest) none =
+    no_inside (b ∷ rest) (or_parts _ _ none).1
+    ∙ sym (ap (λ t. cond t (inside_after yard_turns true rest) (inside_after yard_turns false (b ∷ rest))) (no_turn a b rest none))
+
+untouched : (n : ℕ) → is_touched (replicate n false) ≡ false
+untouched zero = refl
+untouched (suc n) = untouched n
+
+pub no_touch : (text : List ℕ) → NoSlash text → false ≡ is_touched (covered yard_turns false text)
+no_touch text none = sym (ap is_touched (no_covered text none) ∙ untouched (length text))
+
+runs_left-all : (from at n : ℕ) → runs_left from at (replicate n false) ≡ part from (at + n)
+runs_left-all from at zero = ap (part from) (sym (add-zero at))
+runs_left-all from at (suc n) = let next : at + 1 + n ≡ at + suc n = omega arith in runs_left-all from (at + 1) n ∙ ap (part from) next
+
+-- Such a text is one part.
+pub no_cut : (text : List ℕ) → NoSlash text → part 0 (length text) ≡ runs_left 0 0 (covered yard_turns false text)
+no_cut text none = sym (ap (runs_left 0 0) (no_covered text none) ∙ runs_left-all 0 0 (length text) ∙ ap (part 0) (zero-add (length text)))

@@ -66,6 +66,14 @@ fn outside_yards(alloc: Global, bytes: &[u8], inside: bool) -> Result<Outside, A
     ensures touched { IfOk result (λ p. p.touched ≡ (inside || is_touched (covered yard_turns inside bytes.now))) }
 {
     let mut kept = Vec::new(alloc);
+    if !inside && !bytes.contains(&b'/') {
+        push_part(&mut kept, 0, bytes.len())?;
+        return Ok(Outside {
+            kept,
+            inside: false,
+            touched: false,
+        });
+    }
     let mut inside = inside;
     let mut touched = inside;
     let mut from = 0;

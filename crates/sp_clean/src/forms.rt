@@ -1,8 +1,10 @@
 //! The forms of a line that stand by themselves (docs/RULES.md, "Letter tests").
-ghost use Rattle.std.specs.Prelude.{◌≡◌, ◌==◌, ◌≤◌, ◌||◌, length, slice_index_or};
+ghost use Rattle.std.specs.Prelude.{◌≡◌, ◌==◌, ◌≤◌, ◌&&◌, ◌||◌, not, codes, length, slice_index_or};
+ghost use Rattle.std.specs.List.{ends_with};
 ghost use Rattle.spec_text.specs.Parts.{Parts};
 ghost use Rattle.spec_script.specs.Trim.{trim};
 ghost use Rattle.spec_script.specs.Spans.{text_in};
+ghost use Rattle.spec_script.specs.Letters.{begins_with_one, is_uppercase};
 ghost use Rattle.spec_script.specs.Forms.{opens_with, is_natural_heading, is_forced_heading, is_natural_transition, is_natural_cue, without_caret, cue_name};
 
 use crate::letters::{begins_alphanumeric, begins_with_one, begins_with_word, ends, is_uppercase};
@@ -93,23 +95,33 @@ pub fn is_forced_heading(text: &str) -> bool
     }
 }
 
+/// Whether the trimmed text is uppercase, and the text ends in `TO:`, which is told sooner.
+fn is_uppercase_to(text: &str, trimmed: &str) -> bool
+    ensures { result ≡ (is_uppercase trimmed.now && ends_with (λ a b. a == b) text.now (codes "TO:")) }
+{
+    text.as_bytes().ends_with(b"TO:") && is_uppercase(trimmed)
+}
+
 fn is_natural_transition(text: &str) -> bool
     ensures { result ≡ is_natural_transition text.now }
 {
     let trimmed = trim(text);
-    is_uppercase(trimmed)
-        && text.as_bytes().ends_with(b"TO:")
+    is_uppercase_to(text, trimmed)
         && !begins_with_one(trimmed, b"!>~")
         && !is_forced_heading(trimmed)
+}
+
+/// Whether a text has an uppercase name, and begins with no mark of another form, which is told sooner.
+fn has_uppercase_name(text: &str) -> bool
+    ensures { result ≡ (is_uppercase (cue_name (without_caret text.now)) && not (begins_with_one (codes "!@>~#=") text.now)) }
+{
+    !begins_with_one(text, b"!@>~#=") && is_uppercase(cue_name(without_caret(text)))
 }
 
 fn is_natural_cue(text: &str) -> bool
     ensures { result ≡ is_natural_cue text.now }
 {
-    is_uppercase(cue_name(without_caret(text)))
-        && !begins_with_one(text, b"!@>~#=")
-        && !is_natural_heading(text)
-        && !is_forced_heading(text)
+    has_uppercase_name(text) && !is_natural_heading(text) && !is_forced_heading(text)
 }
 
 /// A text without one `^` at its end, trimmed.

@@ -88,7 +88,7 @@ fn line_row(
 {
     let place = context.shift + line.offset;
     let kind = row_kind(context.kind, line.part);
-    let sentence_end = is_dialogue(kind) && ends_sentence(context.text, &row.runs);
+    let sentence_end = is_dialogue(kind) && ends_sentence(context.text, row.runs.as_slice());
     let mut cells = Vec::with_capacity(alloc, 1)?;
     let column = column_of(context.side, context.kind, line.part, row.width);
     cells.push(Cell::new(alloc, column, place, row.runs)?)?;

@@ -1,8 +1,10 @@
 //! Rows, their cells, and elements.
-ghost use Rattle.std.specs.Prelude.{◌≡◌, ◌∷◌, [], false, IfOk, IfSome};
+ghost use Rattle.std.specs.Prelude.{◌≡◌, [], false, IfOk};
 ghost use Rattle.spec_pages.specs.Pages.{begins_heading};
+ghost use Rattle.sp_measure.specs.RowRuns.{row_runs};
 ghost use Rattle.sp_columns.specs.Contents.{is_fixed, is_number, runs_in};
 
+use sp_measure::RowRuns;
 use spec_pages::{RowKind, Shape};
 use spec_script::Run;
 use std::alloc::{AllocError, Global};
@@ -19,29 +21,17 @@ enum Content {
     Continued,
 }
 
-/// The one run, where it is alone.
-fn lone_run(runs: &[Run]) -> Option<Run>
-    ensures { IfSome result (λ run. runs.now ≡ run ∷ []) }
-{
-    match runs {
-        [run] => Some(*run),
-        _ => None,
-    }
-}
-
 /// The content of a cell that shows these parts of its line.
-fn content_of(alloc: Global, runs: Vec<Run>) -> Result<Content, AllocError>
-    ensures runs { IfOk result (λ content. runs_in content ≡ runs.items) }
+fn content_of(alloc: Global, runs: RowRuns) -> Result<Content, AllocError>
+    ensures runs { IfOk result (λ content. runs_in content ≡ row_runs runs) }
     ensures fixed { IfOk result (λ content. is_fixed content ≡ false) }
     ensures number { IfOk result (λ content. is_number content ≡ false) }
 {
-    if let Some(run) = lone_run(&runs) {
-        return Ok(Content::Part(run));
-    }
-    if runs.is_empty() {
-        return Ok(Content::Nothing);
-    }
-    Ok(Content::Parts(Box::new(alloc, runs)?))
+    Ok(match runs {
+        RowRuns::Nothing => Content::Nothing,
+        RowRuns::One(run) => Content::Part(run),
+        RowRuns::Many(runs) => Content::Parts(Box::new(alloc, runs)?),
+    })
 }
 
 /// A cell (docs/RULES.md, "Elements"): the column that it begins at, its line, counted from the element's first, and what it
@@ -67,8 +57,8 @@ impl Cell {
 
     /// A cell that begins at the column and shows these parts of its line, by places of bytes. The line is counted from the
     /// element's first. The error is want of memory alone.
-    pub fn new(alloc: Global, column: u32, line: u32, runs: Vec<Run>) -> Result<Cell, AllocError>
-        ensures { IfOk result (λ cell. cell ≡ record { column = column; line = line; runs = runs.items; fixed = false; number = false }) }
+    pub fn new(alloc: Global, column: u32, line: u32, runs: RowRuns) -> Result<Cell, AllocError>
+        ensures { IfOk result (λ cell. cell ≡ record { column = column; line = line; runs = row_runs runs; fixed = false; number = false }) }
     {
         Ok(Cell {
             column,

@@ -1,11 +1,12 @@
 -- What is seen of a line, layer by layer, is what is seen of it.
-use Rattle.std.proofs.Common.{◌≡◌, ℕ, ◌<◌, Bool, true, false, ◌||◌, cond, List, length, map, get_or, Option, Some, None, option_map, refl, ap, ◌∙◌, arith}
-use Rattle.std.specs.Prelude.{bit_or}
-use Rattle.std.specs.List.{range_with_len}
+use Rattle.std.proofs.Common.{◌≡◌, ℕ, zero, suc, ◌+◌, ◌<◌, ◌==◌, Bool, true, false, ◌&&◌, ◌||◌, cond, List, [], ◌∷◌, length, map, get_or, Option, Some, None, option_map, refl, sym, ap, ap₂, ◌∙◌, arith}
+use Rattle.std.specs.Prelude.{bit_or, replicate}
+use Rattle.std.specs.List.{list_any, range_with_len}
+use Rattle.std.proofs.lemmas.Bool.{and_left, or_parts}
 use Rattle.std.proofs.lemmas.List.FromFn.{fill_by_all, length-map-range_with_len, get_or-map-range_with_len}
 use Rattle.spec_script.specs.declared.Layer.{Layer}
 use Rattle.spec_script.specs.declared.Layer.TheVariants.{Italic, Bold, BoldItalic, Underline}
-use Rattle.spec_script.specs.Emphasis.{style_of, is_inside, is_spent, is_escape, is_removed, with_layer, style_at, pairs_of, looks_of}
+use Rattle.spec_script.specs.Emphasis.{byte_at, style_of, is_inside, is_spent, is_escape, is_removed, with_layer, style_at, pairs_of, looks_of}
 use Rattle.sp_emph.specs.Layering.{Changes, plain_look, add_layer, add_layers}
 
 -- A look that is gone stays gone, and any other is gone on a used marker and has the layer's style inside a pair.
@@ -44,3 +45,17 @@ module _ (line : List ℕ) where
       ∙ ap (add_layers line place)
       (ap (λ l. get_or l place None) e ∙ get_or-map-range_with_len (plain_look line) 0 (length line) place place None low (omega arith))
       ∙ all_layers place)
+
+-- Without a `\` each byte is plain.
+other_byte : (line : List ℕ) (place : ℕ) → list_any (λ b. b == 92) line ≡ false → (byte_at line place == 92) ≡ false
+other_byte [] place none = refl
+other_byte (b ∷ line) zero none = (or_parts _ _ none).0
+other_byte (b ∷ line) (suc place) none = other_byte line place (or_parts _ _ none).1
+
+plain_byte : (line : List ℕ) (place : ℕ) → list_any (λ b. b == 92) line ≡ false → Some 0 ≡ plain_look line place
+plain_byte line place none =
+    sym (ap (λ (gone : Bool). cond gone None (Some 0)) (and_left (byte_at line place == 92) ((byte_at line (place + 1) == 42) || (byte_at line (place + 1) == 95)) (other_byte line place none)))
+
+pub plain_bytes : (line : List ℕ) (from count : ℕ) → list_any (λ b. b == 92) line ≡ false → replicate count (Some 0) ≡ map (plain_look line) (range_with_len from count)
+plain_bytes line from zero none = refl
+plain_bytes line from (suc count) none = ap₂ (λ (look : Option ℕ) looks. look ∷ looks) (plain_byte line from none) (plain_bytes line (from + 1) count none)

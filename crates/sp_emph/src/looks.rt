@@ -115,6 +115,11 @@ fn plain_looks(alloc: Global, line: &[u8]) -> Result<Vec<Option<u8>>, AllocError
     requires { length line.now ≤ 4096 }
     ensures { IfOk result (λ v. v.items ≡ map (plain_look line.now) (range_with_len 0 (length line.now))) }
 {
+    if !line.contains(&b'\\') {
+        let mut looks = Vec::new(alloc);
+        looks.resize(line.len(), Some(0))?;
+        return Ok(looks);
+    }
     (0..line.len())
         .map(|place| plain_look(line, place))
         .collect(alloc)

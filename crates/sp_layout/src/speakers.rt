@@ -162,7 +162,7 @@ fn last_row_continued(alloc: Global, text: &str, rows: &[WrapRow]) -> Result<boo
     ensures { IfOk result (λ ends. ends ≡ last_row_continued text.now rows.now) }
 {
     match rows.last() {
-        Some(row) => ends_continued(alloc, text, &row.runs),
+        Some(row) => ends_continued(alloc, text, row.runs.as_slice()),
         None => Ok(false),
     }
 }

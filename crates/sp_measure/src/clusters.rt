@@ -1,5 +1,5 @@
 //! Clusters of a line: where they stand, and how wide they are.
-ghost use Rattle.std.specs.Prelude.{◌≡◌, ◌+◌, ◌*◌, ◌^◌, ◌<◌, ◌≤◌, ◌++◌, true, length, IfOk, OnOk};
+ghost use Rattle.std.specs.Prelude.{◌≡◌, ◌≢◌, ◌+◌, ◌*◌, ◌^◌, ◌<◌, ◌≤◌, [], ◌∷◌, ◌++◌, true, length, IfOk, MatchOption, OnOk};
 ghost use Rattle.std.specs.List.{list_all};
 ghost use Rattle.unicode_segmentation.specs.Grapheme.{graphemes};
 ghost use Rattle.spec_script.specs.Runs.{RunParts};
@@ -12,11 +12,31 @@ use std::alloc::{AllocError, Global};
 use unicode_segmentation::UnicodeSegmentation;
 use unicode_width::UnicodeWidthStr;
 
+/// The byte that a text has alone.
+fn lone_byte(piece: &str) -> Option<u8>
+    ensures { MatchOption result (length piece.now ≢ 1) (λ byte. piece.now ≡ byte ∷ []) }
+{
+    match piece.as_bytes() {
+        [byte] => Some(*byte),
+        _ => None,
+    }
+}
+
 /// Whether a cluster is one space or one tab alone.
 fn is_space(piece: &str) -> bool
     ensures { result ≡ is_space piece.now }
 {
-    piece == " " || piece == "\t"
+    match lone_byte(piece) {
+        Some(byte) => byte == b' ' || byte == b'\t',
+        None => false,
+    }
+}
+
+/// Whether a byte is printable ASCII.
+fn is_printable_byte(byte: u8) -> bool
+    ensures { result ≡ is_printable byte }
+{
+    (0x20..=0x7E).contains(&byte)
 }
 
 /// The columns of a cluster.
@@ -25,10 +45,10 @@ fn width_of(piece: &str) -> u16
     ensures value { result ≡ width_of piece.now }
     ensures bound { result ≤ 4 * length piece.now }
 {
-    if piece == "\t" {
-        4
-    } else {
-        piece.width() as u16
+    match lone_byte(piece) {
+        Some(b'\t') => 4,
+        Some(byte) if is_printable_byte(byte) => 1,
+        _ => piece.width() as u16,
     }
 }
 
@@ -38,7 +58,7 @@ pub fn is_printable(text: &str) -> bool
 {
     let mut printable = true;
     for byte in text.as_bytes() {
-        printable &= (0x20..=0x7E).contains(byte);
+        printable &= is_printable_byte(*byte);
     }
     printable
 }

@@ -4,8 +4,10 @@
 mod clusters;
 mod cuts;
 mod list;
+mod row_runs;
 mod rows;
 
 pub use clusters::columns;
+pub use row_runs::RowRuns;
 pub use rows::{WrapRow, wrap};
 pub use spec_script::Run;

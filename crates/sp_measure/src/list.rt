@@ -1,8 +1,10 @@
 //! Clusters one after another, and those of printable bytes, which need not be made.
 ghost use Rattle.std.specs.Prelude.{◌≡◌, ◌+◌, ◌^◌, ◌<◌, ◌≤◌, List, length, take, slice_range, IfOk};
 ghost use Rattle.spec_pages.specs.declared.Cluster.{Cluster};
+ghost use Rattle.sp_measure.specs.RowRuns.{row_runs};
 ghost use Rattle.spec_pages.specs.Wrapping.{goes_on, is_space_at, row_of, run_of, runs_of, total_width};
 
+use crate::row_runs::RowRuns;
 use crate::rows::WrapRow;
 use spec_pages::Cluster;
 use spec_script::Run;
@@ -58,13 +60,13 @@ fn goes_on(run: &Run, cluster: &Cluster) -> bool
 }
 
 /// The runs of a row of clusters.
-fn row_runs(alloc: Global, clusters: &[Cluster]) -> Result<Vec<Run>, AllocError>
-    ensures { IfOk result (λ v. v.items ≡ runs_of clusters.now) }
+fn row_runs(alloc: Global, clusters: &[Cluster]) -> Result<RowRuns, AllocError>
+    ensures { IfOk result (λ v. row_runs v ≡ runs_of clusters.now) }
 {
     let [first, rest @ ..] = clusters else {
-        return Ok(Vec::new(alloc));
+        return Ok(RowRuns::Nothing);
     };
-    let mut runs = Vec::with_capacity(alloc, 1)?;
+    let mut runs = Vec::new(alloc);
     let mut run = run_of(first);
     for cluster in rest {
         if goes_on(&run, cluster) {
@@ -74,8 +76,11 @@ fn row_runs(alloc: Global, clusters: &[Cluster]) -> Result<Vec<Run>, AllocError>
             run = run_of(cluster);
         }
     }
+    if runs.is_empty() {
+        return Ok(RowRuns::One(run));
+    }
     runs.push(run)?;
-    Ok(runs)
+    Ok(RowRuns::Many(runs))
 }
 
 fn total_width(clusters: &[Cluster]) -> u32
@@ -166,22 +171,21 @@ impl<'a> ClusterList for Printable<'a> {
         self.bytes.len().min(width as usize)
     }
 
-    fn row(&self, alloc: Global) -> Result<WrapRow, AllocError> {
+    fn row(&self, _alloc: Global) -> Result<WrapRow, AllocError> {
         let count = self.bytes.len();
         if count == 0 {
             return Ok(WrapRow {
-                runs: Vec::new(alloc),
+                runs: RowRuns::Nothing,
                 width: 0,
             });
         }
-        let mut runs = Vec::with_capacity(alloc, 1)?;
-        runs.push(Run {
+        let run = Run {
             from: self.from,
             to: self.from + count as u32,
             style: self.style,
-        })?;
+        };
         Ok(WrapRow {
-            runs,
+            runs: RowRuns::One(run),
             width: count as u32,
         })
     }

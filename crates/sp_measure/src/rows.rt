@@ -2,11 +2,12 @@
 ghost use Rattle.std.specs.Prelude.{◌≡◌, ◌^◌, ◌<◌, ◌≤◌, length, map, max, All, IfOk, IfSome};
 ghost use Rattle.spec_script.specs.Runs.{RunParts};
 ghost use Rattle.spec_pages.specs.Clusters.{clusters_of};
-ghost use Rattle.spec_pages.specs.Wrapping.{WrappedRow, wrapped, total_width, row_of, rows_of};
+ghost use Rattle.spec_pages.specs.Wrapping.{wrapped, total_width, row_of, rows_of};
 
 use crate::clusters::{clusters_of, is_printable};
 use crate::cuts::{first_cut, rest_after, row_before};
 use crate::list::{ClusterList, Printable};
+use crate::row_runs::RowRuns;
 use spec_script::Run;
 use std::alloc::{AllocError, Global};
 use std::marker::Model;
@@ -14,14 +15,17 @@ use std::marker::Model;
 /// A row of a line (docs/RULES.md, "Wrapping"): its runs, by places of bytes in the line, and its width in columns.
 #[derive(Drop)]
 pub struct WrapRow {
-    pub runs: Vec<Run>,
+    pub runs: RowRuns,
     pub width: u32,
 }
 
 impl Model for WrapRow {
+    ghost use Rattle.spec_pages.specs.Wrapping.{WrappedRow};
+    ghost use Rattle.sp_measure.specs.RowRuns.{row_runs};
+
     ghost Value = { WrappedRow };
 
-    ghost view = { λ r. record { runs = r.runs.items; width = r.width } };
+    ghost view = { λ r. record { runs = row_runs r.runs; width = r.width } };
 }
 
 /// The clusters of a line that shows one run of printable text; of another they have to be made.

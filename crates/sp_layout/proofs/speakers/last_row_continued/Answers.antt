@@ -10,6 +10,6 @@ use Rattle.sp_layout.proofs.speakers.last_row_continued.Goals as goal
 
 pub returns-in-Some : goal.returns-in-Some
 returns-in-Some c =
-    let runs = c.deref.ensures.value ∙ ap (λ (row : WrappedRow). row.runs) c.row.view_is in
+    let runs = c.as_slice.ensures ∙ ap (λ (row : WrappedRow). row.runs) c.row.view_is in
     let shown = ap (λ (those : List Run). ends_with nat_eq (shown_text c.args.text.now those) continued) runs in
     subst (λ (ends : Bool). IfOk c.ends_continued.result (λ it. it ≡ ends)) (shown ∙ last_row-get c.args.text.now c.args.rows.now c.in-Some.row.now c.in-Some.ensures.value) c.ends_continued.ensures

@@ -10,7 +10,6 @@ returns c =
     let p = c.self.inside in
     let some : 0 < length p.bytes.now = omega (arith, c.if-count-eq0.false) in
     let run : Run = record { from = p.from; to = p.from + length p.bytes.now; style = p.style } in
-    let put = c.in_ok-push.ensures.items ∙ ap (λ (runs : List Run). runs ++ run ∷ []) c.in_ok-runs.ensures.items in
     ap₂ (λ (runs : List Run) (width : ℕ). let row : WrappedRow = record { runs = runs; width = width } in row)
-    (put ∙ sym (runs_of-bytes p.style p.from p.bytes.now some)) (sym (total_width-bytes p.style p.from p.bytes.now))
+    (sym (runs_of-bytes p.style p.from p.bytes.now some)) (sym (total_width-bytes p.style p.from p.bytes.now))
     ∙ ap row_of c.self.view_is
