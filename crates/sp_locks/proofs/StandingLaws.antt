@@ -1,16 +1,20 @@
--- Records that stand in order do so when they were carried.
-use Rattle.std.proofs.Common.{◌≡◌, ℕ, true, false, List, [], ◌∷◌, length, get_or, inl, inr, refl, sym, ap, subst, ◌∙◌, arith}
-use Rattle.std.specs.Prelude.{All, AllPairs, Result, Ok, Err, OnOk, drop}
-use Rattle.std.proofs.lemmas.List.Elements.{All-map, All-drop}
+-- Records that stand in order do so when they were carried, and those that are extended stand at lines of the text.
+use Rattle.std.proofs.Common.{◌≡◌, ℕ, ◌<◌, Bool, true, false, not, List, [], ◌∷◌, ◌++◌, length, get_or, inl, inr, refl, sym, ap, subst, ◌∙◌, arith}
+use Rattle.std.specs.Prelude.{All, AllPairs, Result, Ok, Err, OnOk, drop, filter}
+use Rattle.std.proofs.lemmas.Bool.{and_parts}
+use Rattle.std.proofs.lemmas.List.Elements.{All-map, All-drop, All-append, All-filter, filter_passes}
+use Rattle.std.proofs.lemmas.List.Sorted.{All-permutation}
 use Rattle.spec_text.specs.Lines.{LineState}
 use Rattle.spec_text.specs.EditedLines.{HasIds}
 use Rattle.spec_text.proofs.ListLaws.{pairs-map, pairs-unmap}
-use Rattle.spec_labels.specs.PageRecords.{PageRecordOf, InOrder, line_at, carried, carried_records}
+use Rattle.spec_labels.specs.declared.RowKey.{RowKey}
+use Rattle.spec_labels.specs.PageRecords.{PageRecordOf, SheetOf, InOrder, end_line, line_at, carried, carried_records, is_recorded, is_new, record_of_sheet, new_page_records, extended_page_records}
 use Rattle.spec_labels.specs.Spots.{AtMost}
-use Rattle.spec_labels.specs.Anchors.{IsAnchored, NotBehind, spot_of, end_spot, Anchored}
+use Rattle.spec_labels.specs.Anchors.{IsAnchored, NotBehind, ArePresent, spot_of, end_spot, Anchored}
 use Rattle.spec_labels.proofs.SpotLaws.{Lower, ahead-not, ahead-from}
 use Rattle.spec_labels.proofs.CarryLaws.{Edited, end-nowhere}
 use Rattle.spec_labels.proofs.AnchorLaws.{anchored-after, carried-anchored}
+use Rattle.spec_labels.proofs.PageRecordLaws.{extended_page_records-permutation}
 use Rattle.sp_locks.specs.Standing.{StayInOrder}
 
 module _ (next : ℕ) (lines : List LineState) (ids : HasIds next lines) where
@@ -83,3 +87,25 @@ pub kept-in-order : {T E : Type 0} (lines : List LineState) (place : ℕ) (old n
     → OnOk result (StayInOrder lines place old new)
 kept-in-order lines place old new (Ok it) ok = subst (StayInOrder lines place old) (sym ok) (carried-in-order lines place old)
 kept-in-order lines place old new (Err e) ok = tt
+
+-- ---- records that are extended
+
+new-shown : (records : List PageRecordOf) (sheet : SheetOf) → is_new records sheet ≡ true → sheet.omitted ≡ false
+new-shown records sheet new = shown sheet.omitted (and_parts (not sheet.omitted) (not (is_recorded records sheet.first)) new).0
+  where
+    shown : (omitted : Bool) → not omitted ≡ true → omitted ≡ false
+    shown true is = sym is
+    shown false is = refl
+
+-- A sheet with rows is anchored at the line of its first row.
+pub extended-anchored : (lines : List LineState) (records : List PageRecordOf) (sheets : List SheetOf) (keys : List RowKey) → All (IsAnchored lines) records → ArePresent lines keys
+    → All (λ (sheet : SheetOf). sheet.omitted ≡ false → sheet.start < length keys) sheets → All (IsAnchored lines) (extended_page_records records sheets keys)
+extended-anchored lines records sheets keys anchored present starts =
+    let P = IsAnchored lines in
+    let news = new_page_records records sheets keys in
+    let some = filter (is_new records) sheets in
+    let inside = All-filter (is_new records) (λ (sheet : SheetOf). sheet.omitted ≡ false → sheet.start < length keys) sheets starts in
+    All-permutation P (records ++ news) (extended_page_records records sheets keys) (extended_page_records-permutation records sheets keys)
+    (All-append P records news anchored
+    (All-map P (record_of_sheet keys) some
+    (λ k d h. inr (present.all (get_or some k d).start (record { line = end_line; row = 0 }) (inside k d h (new-shown records (get_or some k d) (filter_passes (is_new records) sheets k d h)))))))
