@@ -9,7 +9,7 @@ use Rattle.std.proofs.lemmas.Grind.{flat_map-append}
 use Rattle.std.proofs.lemmas.Bool.{cases_lt}
 use Rattle.std.proofs.lemmas.List.Elements.{All-nil, All-push}
 use Rattle.sp_kit.specs.Outside.{SourceState}
-use Rattle.spec_session.specs.CommandLines.{command_limit, command_count_limit, HasNoFeed, whole_lines, open_line, last_line, command_lines, ended, ended_lines, IsShort, KeepsLimits, all_but_last, KeepsBudget}
+use Rattle.spec_session.specs.CommandLines.{command_limit, command_count_limit, piece_limit, HasNoFeed, whole_lines, open_line, last_line, command_lines, ended, ended_lines, IsShort, KeepsLimits, all_but_last, KeepsBudget}
 use Rattle.spec_session.specs.Sessions.{AreFirst}
 use Rattle.spec_session.proofs.CutLaws.{split-lines, whole_lines-behind, command_lines-behind, command_lines-plain}
 use Rattle.spec_session.proofs.LimitLaws.{lines-bounded, lines-limits, budget-behind}
@@ -22,6 +22,7 @@ pub record Handed (old new : SourceState) (lines : List (List ℕ)) (state : Cut
   pub gave : Consumes old.unread new.unread read
   pub kept : new.faults ≡ old.faults
   pub split : read ≡ ended_lines lines ++ state.pending
+  pub few : length state.pending < piece_limit
   pub plain : All HasNoFeed lines
   pub short : All IsShort lines
   pub count : state.count ≡ length lines
@@ -33,6 +34,7 @@ none-handed source state none zero = record {
   gave = Consumes-nil source.unread;
   kept = refl;
   split = sym none;
+  few = let a = ap length none in omega (arith, a);
   plain = All-nil HasNoFeed;
   short = All-nil IsShort;
   count = zero;
@@ -69,6 +71,7 @@ handed-more old mid new lines before after bytes it gave kept whole budget = rec
   kept = kept ∙ it.kept;
   split = ap (λ l. l ++ bytes) it.split ∙ append_assoc (ended_lines lines) before.pending bytes ∙ ap (λ l. ended_lines lines ++ l) (whole.split ∙ sym (append_assoc after.line (10 ∷ []) after.pending))
       ∙ sym (append_assoc (ended_lines lines) (ended after.line) after.pending) ∙ ap (λ l. l ++ after.pending) (sym (lines-push lines after.line));
+  few = whole.few it.few;
   plain = All-push HasNoFeed lines after.line it.plain whole.line.plain;
   short = All-push IsShort lines after.line it.short whole.line.short;
   count = whole.line.count ∙ ap (λ n. n + 1) it.count ∙ sym (length_push lines after.line);

@@ -10,7 +10,7 @@ use Rattle.spec_session.specs.declared.SessionEnd.{SessionEnd}
 use Rattle.spec_session.specs.declared.SessionEnd.TheVariants as endings
 use Rattle.spec_session.specs.CommandLines.{command_count_limit, command_lines, ended_lines, IsShort, KeepsBudget}
 use Rattle.spec_session.specs.Runs.{Answered, Runs, output_of, left_by}
-use Rattle.spec_session.specs.Sessions.{Streams, streams, Replied, AreFirst, SessionEnds}
+use Rattle.spec_session.specs.Sessions.{Streams, streams, Replied, AreFirst, ReadsNoFurther, SessionEnds}
 use Rattle.spec_session.proofs.CutLaws.{split-lines, command_lines-behind}
 use Rattle.spec_session.proofs.LimitLaws.{limits-budget, budget-behind}
 use Rattle.spec_session.proofs.RunLaws.{runs-push, left_by-push, output_of-push}
@@ -71,6 +71,7 @@ pub record LineComes (old new : SourceState) (lines : List (List ℕ)) (line : L
   pub gave : Consumes old.unread new.unread read
   pub kept : new.faults ≡ old.faults
   pub first : AreFirst (lines ++ line ∷ []) read new.unread
+  pub no_further : ReadsNoFurther (lines ++ line ∷ []) read new.unread
   pub budget : KeepsBudget read
 
 pub whole-comes : (old new : SourceState) (lines : List (List ℕ)) (line : List ℕ) (state : CutState) → Handed old new (lines ++ line ∷ []) state → LineComes old new lines line
@@ -79,12 +80,20 @@ whole-comes old new lines line state it = record {
   gave = it.gave;
   kept = it.kept;
   first = handed-first old new (lines ++ line ∷ []) state it;
+  no_further = inl (state.pending, it.split, it.few);
   budget = handed-budget old new (lines ++ line ∷ []) state it;
 }
 
 pub last-comes : (old new : SourceState) (lines : List (List ℕ)) (line : List ℕ) → ReadAll old new (lines ++ line ∷ []) → LineComes old new lines line
 last-comes old new lines line it =
-    record { read = it.read; gave = it.gave; kept = it.kept; first = inr (it.lines_are, it.at_end); budget = limits-budget it.read it.limits }
+    record {
+      read = it.read;
+      gave = it.gave;
+      kept = it.kept;
+      first = inr (it.lines_are, it.at_end);
+      no_further = inr (it.lines_are, it.at_end);
+      budget = limits-budget it.read it.limits;
+    }
 
 -- ---- ends
 
@@ -119,6 +128,7 @@ ends-line answers halts old new begun mid after_sink before between after lines 
       went = record { gave = comes.gave; budget = comes.budget; runs = more.runs };
       ends = record {
         first = comes.first;
+        no_further = comes.no_further;
         done = it.steps;
         last = record { after = after; reply = reply };
         split = refl;

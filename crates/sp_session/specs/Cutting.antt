@@ -4,7 +4,7 @@ use Rattle.std.specs.declared.result.Result.{Result}
 use Rattle.std.specs.Io.KnownBytes.{Consumes, IsAtEnd}
 use Rattle.sp_kit.specs.Causes.{Rose}
 use Rattle.sp_kit.specs.Outside.{SourceState}
-use Rattle.spec_session.specs.CommandLines.{command_limit, command_count_limit, HasNoFeed, IsShort}
+use Rattle.spec_session.specs.CommandLines.{command_limit, command_count_limit, piece_limit, HasNoFeed, IsShort}
 use Rattle.sp_session.specs.declared.lines.NextLine.{NextLine}
 use Rattle.sp_session.specs.declared.lines.NextLine.TheVariants as nexts
 use Rattle.sp_session.specs.declared.lines.LineStop.{LineStop}
@@ -18,10 +18,11 @@ pub record IsLine (before after : CutState) : Type 0 where
   pub count : after.count ≡ before.count + 1
   pub within : after.count ≤ command_count_limit
 
--- A line with its line feed, and what follows it.
+-- A line with its line feed, and what follows it: less than one call may give, where that was so before.
 pub record IsWhole (before after : CutState) (bytes : List ℕ) : Type 0 where
   pub line : IsLine before after
   pub split : before.pending ++ bytes ≡ after.line ++ 10 ∷ after.pending
+  pub few : length before.pending < piece_limit → length after.pending < piece_limit
 
 -- What followed the last line feed, at the end of the source.
 pub record IsLast (new : SourceState) (before after : CutState) (bytes : List ℕ) : Type 0 where

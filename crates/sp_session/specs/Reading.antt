@@ -4,6 +4,7 @@ use Rattle.std.specs.declared.result.Result.{Result}
 use Rattle.std.specs.Io.KnownBytes.{Consumes, Keeps, IsAtEnd}
 use Rattle.sp_kit.specs.Causes.{Rose}
 use Rattle.sp_kit.specs.Outside.{SourceState}
+use Rattle.spec_session.specs.CommandLines.{piece_limit}
 use Rattle.sp_session.specs.CutState.{CutState, Pends}
 
 -- These bytes came, none only at the end, and no fault was counted.
@@ -28,5 +29,5 @@ ReadsBehind old new most before after (Ok more) = (bytes : List ℕ) × Gave old
 ReadsBehind old new most before after (Err failed) = GaveNothing old new × (after ≡ before)
 
 abbrev pub ReadsOnce : {E : Type 0} → SourceState → SourceState → CutState → CutState → Result Bool E → Type 0
-ReadsOnce old new before after (Ok more) = (bytes : List ℕ) × Gave old new bytes more × Pends before after bytes
+ReadsOnce old new before after (Ok more) = (bytes : List ℕ) × Gave old new bytes more × Pends before after bytes × (length bytes ≤ piece_limit)
 ReadsOnce old new before after (Err failed) = GaveNothing old new × Pends before after []

@@ -44,6 +44,7 @@ ends_as-seen stops halts view halted old new before after course endings.ReadFau
     record { limits = it.limits; lines = it.lines; replied = replied-seen view old.sink new.sink before after course.steps it.replied; rose = it.rose }
 ends_as-seen stops halts view halted old new before after course endings.WriteFault it = record {
   first = it.first;
+  no_further = it.no_further;
   done = steps_seen view it.done;
   last = step_seen view it.last;
   split = ap (steps_seen view) it.split ∙ map-append (step_seen view) it.done (it.last ∷ []);

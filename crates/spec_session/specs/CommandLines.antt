@@ -10,6 +10,10 @@ command_limit = 1048576
 abbrev pub command_count_limit : ℕ
 command_count_limit = 1000000
 
+-- The most bytes that one call of a source is asked for.
+abbrev pub piece_limit : ℕ
+piece_limit = 65536
+
 abbrev pub is_feed : ℕ → Bool
 is_feed byte = byte == 10
 

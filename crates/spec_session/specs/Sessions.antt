@@ -6,7 +6,7 @@ use Rattle.sp_kit.specs.Causes.{Rose}
 use Rattle.sp_kit.specs.Outside.{SourceState, SinkState}
 use Rattle.spec_session.specs.declared.SessionEnd.{SessionEnd}
 use Rattle.spec_session.specs.declared.SessionEnd.TheVariants as endings
-use Rattle.spec_session.specs.CommandLines.{command_limit, command_count_limit, whole_lines, open_line, command_lines, ended_lines, KeepsLimits, KeepsBudget, IsFirstLong, IsFull}
+use Rattle.spec_session.specs.CommandLines.{command_limit, command_count_limit, piece_limit, whole_lines, open_line, command_lines, ended_lines, KeepsLimits, KeepsBudget, IsFirstLong, IsFull}
 use Rattle.spec_session.specs.Runs.{Answered, Runs, output_of, left_by}
 
 -- What a session reads from and writes to.
@@ -40,6 +40,11 @@ pub record Replied {R : Type 0} (old new : SinkState) (before after : R) (steps 
 abbrev pub AreFirst : List (List ℕ) → List ℕ → Option (List ℕ) → Type 0
 AreFirst lines read unread = (lines ≡ take (length lines) (whole_lines read)) ⊎ ((lines ≡ command_lines read) × IsAtEnd unread)
 
+-- What was read is these lines, and behind them fewer bytes than one call asks for; or the source ended with them.
+abbrev pub ReadsNoFurther : List (List ℕ) → List ℕ → Option (List ℕ) → Type 0
+ReadsNoFurther lines read unread =
+    ((behind : List ℕ) × (read ≡ ended_lines lines ++ behind) × (length behind < piece_limit)) ⊎ ((lines ≡ command_lines read) × IsAtEnd unread)
+
 -- The source was read to its end, all its lines keep the limits, and the replies to them were written.
 pub record ReadToEnd {R : Type 0} (old new : Streams) (before after : R) (course : Course R) : Type 0 where
   pub at_end : IsAtEnd new.source.unread
@@ -55,9 +60,11 @@ pub record ReadFailed {R : Type 0} (old new : Streams) (before after : R) (cours
   pub replied : Replied old.sink new.sink before after course.steps
   pub rose : Rose old.source.faults new.source.faults
 
--- The sink failed; it took the replies to all lines that were answered, of the last one a part, and not all of it.
+-- The sink failed; it took the replies to all lines that were answered, of the last one a part, and not all of it. Nothing more was
+-- read for that.
 pub record WriteFailed {R : Type 0} (old new : Streams) (after : R) (course : Course R) : Type 0 where
   pub first : AreFirst course.lines course.read new.source.unread
+  pub no_further : ReadsNoFurther course.lines course.read new.source.unread
   pub done : List (Answered R)
   pub last : Answered R
   pub split : course.steps ≡ done ++ last ∷ []
