@@ -6,12 +6,13 @@ use Rattle.spec_text.specs.Ranges.{RangeOf, range_of}
 use Rattle.spec_text.proofs.ExchangeLaws.{length-stretch}
 use Rattle.spec_text.proofs.TakenEdits.{taken-inside}
 use Rattle.spec_script.specs.BlockValues.{StanzaOf}
-use Rattle.spec_edit.specs.Windows.{CountsWindow, IsBefore, IsEdited, stanzas_between}
+use Rattle.spec_edit.specs.Windows.{CountsWindow, IsBefore, IsEdited, IsWindow, stanzas_between}
 use Rattle.spec_edit.proofs.DisplacedWindow.{displaces-window}
 use Rattle.spec_edit.proofs.Edits.{edited-back, edited-lines}
 use Rattle.spec_edit.proofs.Resync.{window-one}
+use Rattle.spec_edit.proofs.WindowExists.{window-exists}
 use Rattle.sp_reread.specs.Cache.{GivesBack, ReadsWithin, SwappedState, counted_on}
-use Rattle.sp_exchange.specs.Reads.{ReadsAtMost, ReadsWindow, WindowHas, WindowHasAtLeast}
+use Rattle.sp_exchange.specs.Reads.{ReadsAtMost, ReadsWindow}
 use Rattle.sp_exchange.specs.Restoring.{AreDisplaced, text_stanzas}
 
 -- The range of what was displaced.
@@ -32,35 +33,42 @@ is-before old new d place leads = record {
   all = refl;
 }
 
-counts-window : (old new : TextState) (d : Displacement) (at count : ℕ) → d.first + d.stands ≤ length new.lines → restored new d ≡ old
-    → CountsWindow (text_stanzas old) (line_texts new.lines) d.first (length d.lines) d.stands at count → WindowHas (line_texts old.lines) (line_texts new.lines) (range_by d) count
-counts-window old new d at count place leads c = record {
-  are = λ a b w.
-      let before = line_texts old.lines in
-      let after = line_texts new.lines in
-      let one = window-one before after d.first (length d.lines) d.stands c.a c.b a b (c.is before (is-before old new d place leads)) w in
-      c.counted ∙ ap₂ (λ (x y : ℕ). length (stanzas_between after x y)) one.0 one.1;
-}
-
 -- What was read is the window of the edit.
 pub reads-window : (old new : TextState) (edit : EditOf) (d : Displacement) (at count reads reads' : ℕ) → refusal_of old edit ≡ None → d ≡ displaced_by old (replacement_of old.lines edit)
     → d.first + d.stands ≤ length new.lines → restored new d ≡ old → CountsWindow (text_stanzas old) (line_texts new.lines) d.first (length d.lines) d.stands at count → reads' ≡ counted_on count reads
     → ReadsWindow (line_texts old.lines) (line_texts new.lines) (range_of (replacement_of old.lines edit)) reads reads'
-reads-window old new edit d at count reads reads' taken is place leads c counted = record {
-  count = count;
-  counted = counted;
-  are = subst (λ (range : RangeOf). WindowHas (line_texts old.lines) (line_texts new.lines) range count) (range-same old edit d taken is) (counts-window old new d at count place leads c);
-}
+reads-window old new edit d at count reads reads' taken is place leads c counted =
+    let before = line_texts old.lines in
+    let after = line_texts new.lines in
+    let own : ReadsWindow before after (range_by d) reads reads' = record {
+      a = c.a;
+      b = c.b;
+      window = c.is before (is-before old new d place leads);
+      counted = counted ∙ ap (λ (n : ℕ). counted_on n reads) c.counted;
+    } in
+    subst (λ (range : RangeOf). ReadsWindow before after range reads reads') (range-same old edit d taken is) own
+
+-- An edit has one window, so what is said of a window is said of each.
+pub reads-each : (before after : List (List ℕ)) (range : RangeOf) (reads reads' a b : ℕ) → ReadsWindow before after range reads reads' → IsWindow before after range.first range.old range.new a b
+    → reads' ≡ counted_on (length (stanzas_between after a b)) reads
+reads-each before after range reads reads' a b r window =
+    let one = window-one before after range.first range.old range.new r.a r.b a b r.window window in
+    r.counted ∙ ap₂ (λ (x y : ℕ). counted_on (length (stanzas_between after x y)) reads) one.0 one.1
 
 pub window-at-most : (before after : List (List ℕ)) (range : RangeOf) (reads reads' : ℕ) → ReadsWindow before after range reads reads' → ReadsAtMost before after range reads reads'
 window-at-most before after range reads reads' r = record {
-  count = r.count;
+  a = r.a;
+  b = r.b;
+  window = r.window;
+  count = length (stanzas_between after r.a r.b);
+  within = omega arith;
   counted = r.counted;
-  low = record { low = λ a b w. omega (arith, r.are.are a b w) };
 }
 
 pub none-read : (before after : List (List ℕ)) (range : RangeOf) (reads : ℕ) → ReadsAtMost before after range reads reads
-none-read before after range reads = record { count = 0; counted = refl; low = record { low = λ a b w. omega arith } }
+none-read before after range reads =
+    let window = window-exists before after range.first range.old range.new in
+    record { a = window.0; b = window.1; window = window.2; count = 0; within = omega arith; counted = refl }
 
 pub reads-within : (old new : TextState) (edit : EditOf) (d : Displacement) (stanzas : List StanzaOf) (reads reads' : ℕ) → refusal_of old edit ≡ None → d ≡ displaced_by old (replacement_of old.lines edit)
     → d.first + d.stands ≤ length new.lines → restored new d ≡ old → stanzas ≡ text_stanzas old → ReadsWithin (line_texts new.lines) d.first (length d.lines) d.stands stanzas reads reads'
@@ -69,12 +77,16 @@ reads-within old new edit d stanzas reads reads' taken is place leads were r =
     let before = line_texts old.lines in
     let after = line_texts new.lines in
     let was = subst (λ (xs : List StanzaOf). IsBefore xs before after d.first (length d.lines) d.stands) (sym were) (is-before old new d place leads) in
-    let low : WindowHasAtLeast before after (range_by d) r.rise = record { low = λ a b w. r.within.most before a b was w } in
-    record {
+    let window = window-exists before after d.first (length d.lines) d.stands in
+    let own : ReadsAtMost before after (range_by d) reads reads' = record {
+      a = window.0;
+      b = window.1;
+      window = window.2;
       count = r.rise;
+      within = r.within.most before window.0 window.1 was window.2;
       counted = r.counted;
-      low = subst (λ (range : RangeOf). WindowHasAtLeast before after range r.rise) (range-same old edit d taken is) low;
-    }
+    } in
+    subst (λ (range : RangeOf). ReadsAtMost before after range reads reads') (range-same old edit d taken is) own
 
 -- What was displaced is the old window of the edit.
 pub displaced-window : (old new : TextState) (edit : EditOf) (d : Displacement) (swapped : SwappedState) → refusal_of old edit ≡ None → d ≡ displaced_by old (replacement_of old.lines edit)

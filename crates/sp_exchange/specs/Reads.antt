@@ -11,25 +11,21 @@ use Rattle.sp_text.specs.Gap.{LinesState}
 use Rattle.sp_reread.specs.Cache.{ReadsWithin, counted_on, texts_in}
 use Rattle.sp_exchange.specs.Restoring.{range_in, text_edited}
 
--- So many stanzas stand in the window of an edit in the new text.
-pub record WindowHas (before after : List (List ℕ)) (range : RangeOf) (count : ℕ) : Type 0 where
-  pub are : (a b : ℕ) → IsWindow before after range.first range.old range.new a b → count ≡ length (stanzas_between after a b)
-
--- No more than that stand there.
-pub record WindowHasAtLeast (before after : List (List ℕ)) (range : RangeOf) (count : ℕ) : Type 0 where
-  pub low : (a b : ℕ) → IsWindow before after range.first range.old range.new a b → count ≤ length (stanzas_between after a b)
-
 -- Each stanza of the window was read once, and no other.
 pub record ReadsWindow (before after : List (List ℕ)) (range : RangeOf) (reads reads' : ℕ) : Type 0 where
-  pub count : ℕ
-  pub counted : reads' ≡ counted_on count reads
-  pub are : WindowHas before after range count
+  pub a : ℕ
+  pub b : ℕ
+  pub window : IsWindow before after range.first range.old range.new a b
+  pub counted : reads' ≡ counted_on (length (stanzas_between after a b)) reads
 
 -- No more were read than stand in the window.
 pub record ReadsAtMost (before after : List (List ℕ)) (range : RangeOf) (reads reads' : ℕ) : Type 0 where
+  pub a : ℕ
+  pub b : ℕ
+  pub window : IsWindow before after range.first range.old range.new a b
   pub count : ℕ
+  pub within : count ≤ length (stanzas_between after a b)
   pub counted : reads' ≡ counted_on count reads
-  pub low : WindowHasAtLeast before after range count
 
 -- The stanzas of the window of an edit that was made in a round, each once and no other; and no more than these.
 abbrev pub ChangeReads : LinesState → Edit → ℕ → ℕ → ℕ → Type 0

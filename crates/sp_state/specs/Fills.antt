@@ -20,11 +20,17 @@ use Rattle.sp_sheets.specs.Pages.{AreStopsOf}
 
 -- Each page of the page window was filled once, and no other.
 pub record FillsWindow (old new : State) (range : RangeOf) (fills fills' : ℕ) : Type 0 where
-  pub counted : (a b : ℕ) → IsWindowOf range old new a b → fills' ≡ many_more fills (length (filled_pages range old new a b))
+  pub a : ℕ
+  pub b : ℕ
+  pub window : IsWindowOf range old new a b
+  pub counted : fills' ≡ many_more fills (length (filled_pages range old new a b))
 
 -- No more were filled than are in the page window.
 pub record FillsAtMost (old new : State) (range : RangeOf) (fills fills' : ℕ) : Type 0 where
-  pub counted : (a b : ℕ) → IsWindowOf range old new a b → FilledAtMost fills fills' (length (filled_pages range old new a b))
+  pub a : ℕ
+  pub b : ℕ
+  pub window : IsWindowOf range old new a b
+  pub counted : FilledAtMost fills fills' (length (filled_pages range old new a b))
 
 -- Each page of its page window once, and no other.
 abbrev pub EditFills : State → Replacement → ℕ → ℕ → Type 0

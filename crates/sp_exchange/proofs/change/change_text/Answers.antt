@@ -10,7 +10,7 @@ use Rattle.sp_text.specs.Gap.{text_of}
 use Rattle.sp_reread.specs.Cache.{GivesBack}
 use Rattle.sp_exchange.specs.Reads.{ReadsAtMost, ReadsWindow}
 use Rattle.sp_exchange.specs.Restoring.{CanRestoreText, text_stanzas}
-use Rattle.sp_exchange.proofs.ReadLaws.{displaced-window, reads-window, reads-within, window-at-most}
+use Rattle.sp_exchange.proofs.ReadLaws.{displaced-window, none-read, reads-window, reads-within, window-at-most}
 use Rattle.sp_exchange.proofs.RestoreLaws.{lines-room, room-back, was-list}
 use Rattle.sp_exchange.proofs.change.change_text.Given.{Over}
 use Rattle.sp_exchange.proofs.change.change_text.Goals as goal
@@ -83,3 +83,6 @@ returns-in-Err-clause-at_most g c =
 
 pub returns-in-Ok-clause-text : goal.returns-in-Ok-clause-text
 returns-in-Ok-clause-text g c = search rules
+
+pub returns-in_err-displaced-clause-at_most : goal.returns-in_err-displaced-clause-at_most
+returns-in_err-displaced-clause-at_most g c = none-read _ _ _ _

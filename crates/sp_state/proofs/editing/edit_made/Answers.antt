@@ -27,6 +27,7 @@ use Rattle.std.proofs.lemmas.Result.{err_from_is_err_and}
 use Rattle.sp_text_entry.specs.Reads.{EditReads, EditReadsAtMost}
 use Rattle.sp_state.proofs.EntryLaws.{entry-leads}
 use Rattle.sp_exchange.specs.Reads.{IsRefused}
+use Rattle.sp_exchange.proofs.ReadLaws.{none-read}
 use Rattle.sp_state.proofs.editing.edit_made.Goals as goal
 
 -- Nothing is asked of what isn't known.
@@ -179,3 +180,9 @@ returns g c =
           (fills-within old new it edit c.args.pages.now.starts (g.S.Steps.fills c.edit_entry.new.steps) (g.S.Steps.fills c.refilled.new.steps) done.state c.requires.pages found c.refilled.ensures.at_most);
       unfilled = λ refused. absurd (subst IsRefused done.refuses refused);
     }
+
+pub returns-in_err-before-clause-at_most : goal.returns-in_err-before-clause-at_most
+returns-in_err-before-clause-at_most g c = none-read _ _ _ _
+
+pub returns-in_err-before-clause-fills_at_most : goal.returns-in_err-before-clause-fills_at_most
+returns-in_err-before-clause-fills_at_most g c = none-filled _ _ _ _

@@ -1,11 +1,14 @@
-use Rattle.std.proofs.Common.{◌≡◌, ◌∷◌, [], ◌++◌, ap, rules, subst, ◌∙◌}
+use Rattle.std.proofs.Common.{◌≡◌, ◌∷◌, [], ◌++◌, ap, refl, rules, subst, ◌∙◌}
 use Rattle.spec_text.specs.Edits.{refusal_of, replacement_of}
 use Rattle.spec_state.specs.State.{text_of}
 use Rattle.spec_wire.specs.Commands as commands
 use Rattle.spec_machine.specs.Machine.{Memory}
 use Rattle.spec_machine.specs.Answers.{step_of}
 use Rattle.sp_journal.specs.Entries.{Entries}
+use Rattle.sp_exchange.proofs.ReadLaws.{none-read}
 use Rattle.sp_exchange.specs.Reads.{IsRefused}
+use Rattle.sp_state.proofs.FillLaws.{none-filled}
+use Rattle.sp_text_entry.specs.Reads.{EditReads, EditReadsAtMost}
 use Rattle.sp_state.specs.Entries.{EntryState}
 use Rattle.sp_state.specs.Fills.{EditFills, EditFillsAtMost}
 use Rattle.sp_text.specs.Changing.{edit_of}
@@ -42,4 +45,24 @@ returns-clause-fills g c = record {
   exact = subst (λ (m : Memory). EditFills m.state (replacement_of m.state.lines (edit_of c.args.edit)) (g.S.Steps.fills c.args.steps.now) (g.S.Steps.fills c.edit.new.steps)) c.self.view_is c.in_ok-entry.ensures.fills;
   at_most = subst (λ (m : Memory). EditFillsAtMost m.state (replacement_of m.state.lines (edit_of c.args.edit)) (g.S.Steps.fills c.args.steps.now) (g.S.Steps.fills c.edit.new.steps)) c.self.view_is c.edit.ensures.fills_at_most;
   unfilled = subst (λ (m : Memory). IsRefused (refusal_of (text_of m.state) (edit_of c.args.edit)) → g.S.Steps.fills c.edit.new.steps ≡ g.S.Steps.fills c.args.steps.now) c.self.view_is c.edit.ensures.unfilled;
+}
+
+pub returns-in_err-reserve_one-clause-reads : goal.returns-in_err-reserve_one-clause-reads
+returns-in_err-reserve_one-clause-reads g c = record { exact = search rules; at_most = none-read _ _ _ _; unread = λ _. refl }
+
+pub returns-in_err-reserve_one-clause-fills : goal.returns-in_err-reserve_one-clause-fills
+returns-in_err-reserve_one-clause-fills g c = record { exact = search rules; at_most = none-filled _ _ _ _; unfilled = λ _. refl }
+
+pub returns-in_err-entry-clause-reads : goal.returns-in_err-entry-clause-reads
+returns-in_err-entry-clause-reads g c = record {
+  exact = search rules;
+  at_most = subst (λ (m : Memory). EditReadsAtMost m.state (replacement_of m.state.lines (edit_of c.args.edit)) (g.S.Steps.reads c.args.steps.now) (g.S.Steps.reads c.edit.new.steps)) c.self.view_is c.edit.ensures.at_most;
+  unread = subst (λ (m : Memory). IsRefused (refusal_of (text_of m.state) (edit_of c.args.edit)) → g.S.Steps.reads c.edit.new.steps ≡ g.S.Steps.reads c.args.steps.now) c.self.view_is c.edit.ensures.unread;
+}
+
+pub returns-clause-reads : goal.returns-clause-reads
+returns-clause-reads g c = record {
+  exact = subst (λ (m : Memory). EditReads m.state (replacement_of m.state.lines (edit_of c.args.edit)) (g.S.Steps.reads c.args.steps.now) (g.S.Steps.reads c.edit.new.steps)) c.self.view_is c.in_ok-entry.ensures.reads;
+  at_most = subst (λ (m : Memory). EditReadsAtMost m.state (replacement_of m.state.lines (edit_of c.args.edit)) (g.S.Steps.reads c.args.steps.now) (g.S.Steps.reads c.edit.new.steps)) c.self.view_is c.edit.ensures.at_most;
+  unread = subst (λ (m : Memory). IsRefused (refusal_of (text_of m.state) (edit_of c.args.edit)) → g.S.Steps.reads c.edit.new.steps ≡ g.S.Steps.reads c.args.steps.now) c.self.view_is c.edit.ensures.unread;
 }

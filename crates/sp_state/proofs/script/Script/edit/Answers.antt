@@ -1,4 +1,4 @@
-use Rattle.std.proofs.Common.{◌≡◌, None, Err, ap, ◌∙◌, subst}
+use Rattle.std.proofs.Common.{◌≡◌, None, Ok, Err, Result, OnErr, OnOk, ap, sym, ◌∙◌, subst}
 use Rattle.std.proofs.lemmas.Result.{err_from_is_err_and}
 use Rattle.spec_text.specs.Edits.{refusal_of, replacement_of}
 use Rattle.spec_text.specs.Ranges.{range_of}
@@ -13,6 +13,17 @@ use Rattle.sp_state.specs.Fills.{EditFills, EditFillsAtMost}
 use Rattle.sp_text_entry.specs.Reads.{EditReads, EditReadsAtMost}
 use Rattle.sp_state.proofs.EditedScripts.{before-is}
 use Rattle.sp_state.proofs.script.Script.edit.Goals as goal
+
+whole-by : {T E : Type 0} (result : Result T E) (old new : State) → IsWhole old → OnOk result (IsWhole new) → OnErr result (new ≡ old) → IsWhole new
+whole-by (Ok value) old new whole done same = done
+whole-by (Err error) old new whole done same = subst IsWhole (sym same) whole
+
+pub invariant_of-self : goal.invariant_of-self
+invariant_of-self g c =
+    let made = c.edit_made.ensures in
+    let before = before-is c.self-inside.view_is c.self.view_is in
+    let whole = subst IsWhole (sym before) (subst IsWhole c.self.view_is c.self.invariant.0) in
+    (whole-by c.edit_made.result _ _ whole made.whole made.same, record { layout = made.laid; numbered = made.numbered }, made.stanzas, made.pages, made.firsts)
 
 pub returns-in_err-entry : goal.returns-in_err-entry
 returns-in_err-entry g c =
