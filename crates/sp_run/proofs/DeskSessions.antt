@@ -51,7 +51,7 @@ saved-told memory (Ok command) reply is asks =
     other-line (reply_line reply) (ap (λ (r : ReplyOf). slice_index_or (reply_line r) 2 0) told ∙ done-letter (digest_of memory.state.lines))
 saved-told memory (Err fault) reply is asks = absurd (let bad : ⊥ = cc in bad)
 
-answer-touches : (before : AtShelf NamedDesk) (line : List ℕ) (after : AtShelf NamedDesk) (bytes : List ℕ) → AnswersLine before line after bytes → Touches (saves line) before after bytes
+pub answer-touches : (before : AtShelf NamedDesk) (line : List ℕ) (after : AtShelf NamedDesk) (bytes : List ℕ) → AnswersLine before line after bytes → Touches (saves line) before after bytes
 answer-touches before line after bytes it = by it.replies
   where
     by : RepliesTo before (command_of_line line) after it.reply → Touches (saves line) before after bytes
@@ -65,10 +65,10 @@ answer-touches before line after bytes it = by it.replies
     }
     by (inr failed) = record { named = ap (λ (d : NamedDesk). d.name) failed.same; stored = inr (record { saves = failed.asks; failed = failed.failed }); follows = it.follows }
 
-stop-halts : (before : AtShelf NamedDesk) (line : List ℕ) (after : AtShelf NamedDesk) → StopsAtLine before line after → Halts (saves line) before after
+pub stop-halts : (before : AtShelf NamedDesk) (line : List ℕ) (after : AtShelf NamedDesk) → StopsAtLine before line after → Halts (saves line) before after
 stop-halts before line after it = record { named = it.stops.name; memory = it.stops.memory; leaves = it.stops.leaves }
 
-abbrev by_desk : Way
+abbrev pub by_desk : Way
 by_desk = record { It = NamedDesk; desk = desk_itself; saves = saves; answers = AnswersLine; stops = StopsAtLine; touches = answer-touches; halts = stop-halts }
 
 -- ---- how a session ends

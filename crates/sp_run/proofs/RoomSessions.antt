@@ -57,7 +57,7 @@ saved-told room (Ok it) reply version is asks =
     other-line (room_reply_line reply version) (ap (λ (r : ReplyOf). slice_index_or (room_reply_line r version) 2 0) told ∙ done-letter (digest_of room.desk.state.lines) version)
 saved-told room (Err fault) reply version is asks = absurd (let bad : ⊥ = cc in bad)
 
-answer-touches : (before : AtShelf NamedRoom) (line : List ℕ) (after : AtShelf NamedRoom) (bytes : List ℕ) → AnswersRoomLine before line after bytes
+pub answer-touches : (before : AtShelf NamedRoom) (line : List ℕ) (after : AtShelf NamedRoom) (bytes : List ℕ) → AnswersRoomLine before line after bytes
     → Touches (seat_saves line) (desk_of_room before) (desk_of_room after) bytes
 answer-touches before line after bytes it = by it.replies
   where
@@ -73,10 +73,10 @@ answer-touches before line after bytes it = by it.replies
     }
     by (inr failed) = record { named = ap (λ (r : NamedRoom). r.name) failed.same; stored = inr (record { saves = failed.asks; failed = failed.failed }); follows = it.follows }
 
-stop-halts : (before : AtShelf NamedRoom) (line : List ℕ) (after : AtShelf NamedRoom) → StopsAtRoomLine before line after → Halts (seat_saves line) (desk_of_room before) (desk_of_room after)
+pub stop-halts : (before : AtShelf NamedRoom) (line : List ℕ) (after : AtShelf NamedRoom) → StopsAtRoomLine before line after → Halts (seat_saves line) (desk_of_room before) (desk_of_room after)
 stop-halts before line after it = record { named = it.stops.name; memory = ap (λ (r : RoomState). r.desk) it.stops.room; leaves = it.stops.leaves }
 
-abbrev by_room : Way
+abbrev pub by_room : Way
 by_room = record { It = NamedRoom; desk = desk_in; saves = seat_saves; answers = AnswersRoomLine; stops = StopsAtRoomLine; touches = answer-touches; halts = stop-halts }
 
 -- ---- what the seats saw

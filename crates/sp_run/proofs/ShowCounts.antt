@@ -6,6 +6,7 @@ use Rattle.std.specs.Io.KnownBytes.{Keeps}
 use Rattle.std.proofs.KnownBytes.{Keeps-refl}
 use Rattle.spec_session.specs.Runs.{Counts}
 use Rattle.spec_state.specs.State.{State}
+use Rattle.spec_state.specs.Keeping.{IsWhole}
 use Rattle.sp_kit.specs.Outside.{SinkState}
 use Rattle.sp_run.specs.declared.status.Status.{Status}
 use Rattle.sp_run.specs.declared.status.Status.TheVariants as statuses
@@ -23,9 +24,10 @@ use Rattle.sp_run.proofs.ShowEnds.{show-ends}
 
 -- ---- the ways of showing a state, by the script that was opened
 
-pub writes-view : (view : View) (state it : State) (old new : SinkState) (from to : Counts) (result : Result (Unit {0}) Status) → it ≡ state → HasView view it → IsWritten old new (view_bytes view it) result
+pub writes-view : (view : View) (state it : State) (old new : SinkState) (from to : Counts) (result : Result (Unit {0}) Status) → IsWhole state → it ≡ state → HasView view it → IsWritten old new (view_bytes view it) result
     → OpeningCounts state from to → ShowsState view state old new from to result
-writes-view view state it old new from to result is has wrote counts = inl (record {
+writes-view view state it old new from to result whole is has wrote counts = inl (record {
+  whole = whole;
   has = subst (HasView view) is has;
   wrote = subst (λ (s : State). IsWritten old new (view_bytes view s) result) is wrote;
   counts = counts;
@@ -55,7 +57,7 @@ lacks-shown view origin old new state had lacks same = record { state = state; h
 
 pub shown-ends : (view : View) (origin : OriginOf) (old new : Outside) (state : State) (from to : Counts) (result : Result (Unit {0}) Status) → HadState origin old.source new.source old.shelf new.shelf state
     → ShowsState view state old.sink new.sink from to result → EndsAs view origin old new result
-shown-ends view origin old new state from to result had (inl it) = show-ends view origin old new state result had it.has it.wrote
+shown-ends view origin old new state from to result had (inl it) = show-ends view origin old new state result had it.whole it.has it.wrote
 shown-ends view origin old new state from to result had (inr (inl it)) =
     err-as (EndsAs view origin old new) statuses.NotLocked result it.is (lacks-shown view origin old new state had it.lacks it.same, tt)
 shown-ends view origin old new state from to result had (inr (inr it)) =
@@ -66,27 +68,27 @@ shown-ends view origin old new state from to result had (inr (inr it)) =
 -- ---- what it counts
 
 writes-counts : (view : View) (origin : OriginOf) (old new : Outside) (state : State) (from to : Counts) (result : Result (Unit {0}) Status) → HadState origin old.source new.source old.shelf new.shelf state
-    → HasView view state → IsWritten old.sink new.sink (view_bytes view state) result → OpeningCounts state from to → ShowCountsAs view origin old new from to result
-writes-counts view origin old new state from to (Ok done) had has written counts =
-    let shown : Shown view origin old new = record { state = state; had = had; has = has; wrote = written.wrote; kept = written.kept } in
+    → IsWhole state → HasView view state → IsWritten old.sink new.sink (view_bytes view state) result → OpeningCounts state from to → ShowCountsAs view origin old new from to result
+writes-counts view origin old new state from to (Ok done) had whole has written counts =
+    let shown : Shown view origin old new = record { state = state; had = had; whole = whole; has = has; wrote = written.wrote; kept = written.kept } in
     record { shown = shown; counts = counts }
-writes-counts view origin old new state from to (Err statuses.WriteFault) had has written counts =
+writes-counts view origin old new state from to (Err statuses.WriteFault) had whole has written counts =
     let shown : PartShown view origin old new = record { state = state; had = had; has = has; wrote = written.wrote; rose = written.rose } in
     record { shown = shown; counts = counts }
-writes-counts view origin old new state from to (Err statuses.NoMemory) had has written counts =
+writes-counts view origin old new state from to (Err statuses.NoMemory) had whole has written counts =
     let part : PartWritten view origin old new = record { state = state; had = had; has = has; wrote = written.wrote } in
     inr (record { part = part; counts = counts })
-writes-counts view origin old new state from to (Err statuses.Done) had has written counts = absurd written
-writes-counts view origin old new state from to (Err statuses.Usage) had has written counts = absurd written
-writes-counts view origin old new state from to (Err (statuses.NoFile name)) had has written counts = absurd written
-writes-counts view origin old new state from to (Err (statuses.BadText fault)) had has written counts = absurd written
-writes-counts view origin old new state from to (Err statuses.ReadFault) had has written counts = absurd written
-writes-counts view origin old new state from to (Err statuses.ShelfFault) had has written counts = absurd written
-writes-counts view origin old new state from to (Err (statuses.BadRecords fault)) had has written counts = absurd written
-writes-counts view origin old new state from to (Err (statuses.CommandLong number)) had has written counts = absurd written
-writes-counts view origin old new state from to (Err statuses.InputFull) had has written counts = absurd written
-writes-counts view origin old new state from to (Err (statuses.BadSheets file sheet)) had has written counts = absurd written
-writes-counts view origin old new state from to (Err statuses.NotLocked) had has written counts = absurd written
+writes-counts view origin old new state from to (Err statuses.Done) had whole has written counts = absurd written
+writes-counts view origin old new state from to (Err statuses.Usage) had whole has written counts = absurd written
+writes-counts view origin old new state from to (Err (statuses.NoFile name)) had whole has written counts = absurd written
+writes-counts view origin old new state from to (Err (statuses.BadText fault)) had whole has written counts = absurd written
+writes-counts view origin old new state from to (Err statuses.ReadFault) had whole has written counts = absurd written
+writes-counts view origin old new state from to (Err statuses.ShelfFault) had whole has written counts = absurd written
+writes-counts view origin old new state from to (Err (statuses.BadRecords fault)) had whole has written counts = absurd written
+writes-counts view origin old new state from to (Err (statuses.CommandLong number)) had whole has written counts = absurd written
+writes-counts view origin old new state from to (Err statuses.InputFull) had whole has written counts = absurd written
+writes-counts view origin old new state from to (Err (statuses.BadSheets file sheet)) had whole has written counts = absurd written
+writes-counts view origin old new state from to (Err statuses.NotLocked) had whole has written counts = absurd written
 
 -- Nothing was written.
 unshown : (origin : OriginOf) (old new : Outside) (from to : Counts) → WroteNothing old new → UnopenedCounts origin old new from to statuses.NoMemory → UnshownCounts origin old new from to
@@ -94,7 +96,7 @@ unshown origin old new from to nothing counts = record { nothing = nothing; coun
 
 pub shown-counts : (view : View) (origin : OriginOf) (old new : Outside) (state : State) (from to : Counts) (result : Result (Unit {0}) Status) → HadState origin old.source new.source old.shelf new.shelf state
     → ShowsState view state old.sink new.sink from to result → ShowCountsAs view origin old new from to result
-shown-counts view origin old new state from to result had (inl it) = writes-counts view origin old new state from to result had it.has it.wrote it.counts
+shown-counts view origin old new state from to result had (inl it) = writes-counts view origin old new state from to result had it.whole it.has it.wrote it.counts
 shown-counts view origin old new state from to result had (inr (inl it)) =
     err-as (ShowCountsAs view origin old new from to) statuses.NotLocked result it.is (record { lacks = lacks-shown view origin old new state had it.lacks it.same; counts = it.counts })
 shown-counts view origin old new state from to result had (inr (inr it)) =

@@ -3,6 +3,7 @@ use Rattle.std.proofs.Common.{◌≡◌, inl, inr, sym, subst}
 use Rattle.std.specs.Prelude.{IsErrAnd, Ok, Err}
 use Rattle.std.specs.declared.result.Result.{Result}
 use Rattle.spec_state.specs.State.{State}
+use Rattle.spec_state.specs.Keeping.{IsWhole}
 use Rattle.sp_text.specs.declared.fault.TextFault.TheVariants as faults
 use Rattle.sp_run.specs.Unopened.{Outside, Unopened}
 use Rattle.sp_run.specs.Showing.{PartWritten, ShowEnds, NotDone, EndsAs}
@@ -39,22 +40,22 @@ pub err-ends : (view : View) (origin : OriginOf) (old new : Outside) (status : S
 err-ends view origin old new status (Ok done) is it = absurd is
 err-ends view origin old new status (Err other) is it = subst (λ (s : Status). ShowEnds view origin old new s × NotDone s) (sym is) (unopened-shows view origin old new status it)
 
-pub show-ends : (view : View) (origin : OriginOf) (old new : Outside) (state : State) (result : Result (Unit {0}) Status) → HadState origin old.source new.source old.shelf new.shelf state → HasView view state
+pub show-ends : (view : View) (origin : OriginOf) (old new : Outside) (state : State) (result : Result (Unit {0}) Status) → HadState origin old.source new.source old.shelf new.shelf state → IsWhole state → HasView view state
     → IsWritten old.sink new.sink (view_bytes view state) result → EndsAs view origin old new result
-show-ends view origin old new state (Ok done) had has written = record { state = state; had = had; has = has; wrote = written.wrote; kept = written.kept }
-show-ends view origin old new state (Err statuses.WriteFault) had has written =
+show-ends view origin old new state (Ok done) had whole has written = record { state = state; had = had; whole = whole; has = has; wrote = written.wrote; kept = written.kept }
+show-ends view origin old new state (Err statuses.WriteFault) had whole has written =
     (record { state = state; had = had; has = has; wrote = written.wrote; rose = written.rose }, tt)
-show-ends view origin old new state (Err statuses.NoMemory) had has written =
+show-ends view origin old new state (Err statuses.NoMemory) had whole has written =
     let part : PartWritten view origin old new = record { state = state; had = had; has = has; wrote = written.wrote } in
     (record { kept = had-whole origin old.source new.source old.shelf new.shelf had.script had.had; writes = written.kept; wrote = inr part }, tt)
-show-ends view origin old new state (Err statuses.Done) had has written = absurd written
-show-ends view origin old new state (Err statuses.Usage) had has written = absurd written
-show-ends view origin old new state (Err (statuses.NoFile name)) had has written = absurd written
-show-ends view origin old new state (Err (statuses.BadText fault)) had has written = absurd written
-show-ends view origin old new state (Err statuses.ReadFault) had has written = absurd written
-show-ends view origin old new state (Err statuses.ShelfFault) had has written = absurd written
-show-ends view origin old new state (Err (statuses.BadRecords fault)) had has written = absurd written
-show-ends view origin old new state (Err (statuses.CommandLong number)) had has written = absurd written
-show-ends view origin old new state (Err statuses.InputFull) had has written = absurd written
-show-ends view origin old new state (Err (statuses.BadSheets file sheet)) had has written = absurd written
-show-ends view origin old new state (Err statuses.NotLocked) had has written = absurd written
+show-ends view origin old new state (Err statuses.Done) had whole has written = absurd written
+show-ends view origin old new state (Err statuses.Usage) had whole has written = absurd written
+show-ends view origin old new state (Err (statuses.NoFile name)) had whole has written = absurd written
+show-ends view origin old new state (Err (statuses.BadText fault)) had whole has written = absurd written
+show-ends view origin old new state (Err statuses.ReadFault) had whole has written = absurd written
+show-ends view origin old new state (Err statuses.ShelfFault) had whole has written = absurd written
+show-ends view origin old new state (Err (statuses.BadRecords fault)) had whole has written = absurd written
+show-ends view origin old new state (Err (statuses.CommandLong number)) had whole has written = absurd written
+show-ends view origin old new state (Err statuses.InputFull) had whole has written = absurd written
+show-ends view origin old new state (Err (statuses.BadSheets file sheet)) had whole has written = absurd written
+show-ends view origin old new state (Err statuses.NotLocked) had whole has written = absurd written

@@ -3,6 +3,7 @@ use Rattle.std.specs.Prelude.{◌≡◌, ◌⊎◌, Ok, Err, IsErrAnd}
 use Rattle.std.specs.declared.result.Result.{Result}
 use Rattle.spec_session.specs.Runs.{Counts}
 use Rattle.spec_state.specs.State.{State}
+use Rattle.spec_state.specs.Keeping.{IsWhole}
 use Rattle.sp_kit.specs.Outside.{SinkState}
 use Rattle.sp_run.specs.declared.status.Status.{Status}
 use Rattle.sp_run.specs.declared.status.Status.TheVariants as statuses
@@ -52,8 +53,9 @@ ShowCountsAs view origin old new from to (Err status) = ShowCounts view origin o
 
 -- ---- a state that was had
 
--- It was opened and has the view, which was written as the answer says.
+-- It keeps the rules, was opened and has the view, which was written as the answer says.
 pub record WritesView (view : View) (state : State) (old new : SinkState) (from to : Counts) (result : Result (Unit {0}) Status) : Type 0 where
+  pub whole : IsWhole state
   pub has : HasView view state
   pub wrote : IsWritten old new (view_bytes view state) result
   pub counts : OpeningCounts state from to

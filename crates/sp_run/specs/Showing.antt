@@ -3,6 +3,7 @@ use Rattle.std.specs.Prelude.{◌≡◌, ℕ, ◌⊎◌, List, string_bytes, Opt
 use Rattle.std.specs.declared.result.Result.{Result}
 use Rattle.std.specs.Io.KnownBytes.{Appends, Keeps}
 use Rattle.spec_state.specs.State.{State}
+use Rattle.spec_state.specs.Keeping.{IsWhole}
 use Rattle.spec_state.specs.Printing.{Printing, no_utf8, long_line, printed, printing_of}
 use Rattle.sp_kit.specs.Causes.{Rose}
 use Rattle.sp_kit.specs.Outside.{AppendsPrefix, AppendsPart}
@@ -16,10 +17,12 @@ use Rattle.sp_run.specs.Opening.{HadState, FailedNothing}
 use Rattle.sp_run.specs.Records.{OpensAs, RefusesRecords}
 use Rattle.sp_run.specs.Unopened.{Outside, FetchFailed, FoundNone, ReadFailed, RecordsRefused, Refused, Refuses, SaysNoFile, TooLong, WroteNothing}
 
--- A script was had whole, with what stands beside it, and all of this view of the state that they open as was written.
+-- A script was had whole, with what stands beside it, and all of this view of the state that they open as was written. That state keeps
+-- the rules of one.
 pub record Shown (view : View) (origin : OriginOf) (old new : Outside) : Type 0 where
   pub state : State
   pub had : HadState origin old.source new.source old.shelf new.shelf state
+  pub whole : IsWhole state
   pub has : HasView view state
   pub wrote : Appends old.sink.taken new.sink.taken (view_bytes view state)
   pub kept : new.sink.faults ≡ old.sink.faults

@@ -16,4 +16,4 @@ returns-then-lacks_view g c =
 pub returns : goal.returns
 returns g c =
     writes-view c.args.view (state_of (text_of c.args.opened.lines) c.args.opened.records) c.in_ok-script.script (g.O.Sink.state c.args.output.now) (g.O.Sink.state c.write_view-shown.new.output) _ _ c.write_view-shown.result
-    c.in_ok-script.ensures.state (c.lacks_view.ensures.has c.if-lacks_view.false) c.write_view-shown.ensures (record { reads = c.in_ok-script.ensures.reads; fills = c.in_ok-script.ensures.fills })
+    c.requires c.in_ok-script.ensures.state (c.lacks_view.ensures.has c.if-lacks_view.false) c.write_view-shown.ensures (record { reads = c.in_ok-script.ensures.reads; fills = c.in_ok-script.ensures.fills })
