@@ -1,6 +1,6 @@
 -- What the calls of a script make of a desk are the steps of its machine.
 use Rattle.std.proofs.Common.{◌≡◌, ℕ, ◌<◌, ◌==◌, Bool, false, Option, Some, None, Result, Ok, Err, List, [], ◌∷◌, ◌++◌, length, get_or, refl, sym, ap, subst, ◌∙◌, arith}
-use Rattle.std.specs.Prelude.{All, option_map, nat_le, slice_get}
+use Rattle.std.specs.Prelude.{All, IsErrAnd, option_map, nat_le, slice_get}
 use Rattle.std.proofs.lemmas.List.{length-append}
 use Rattle.std.proofs.Math.Seq.{get_or-append_seam}
 use Rattle.std.proofs.lemmas.Bool.Decides.{nat_tests}
@@ -38,7 +38,10 @@ use Rattle.sp_desk.specs.Memories.{entries_by, CanTurnAll, memory_by, IsDesk}
 use Rattle.sp_records.specs.declared.opening_fault.OpeningFault.{OpeningFault}
 use Rattle.sp_records.specs.declared.opening_fault.OpeningFault.TheVariants as faults
 use Rattle.sp_sheets.specs.Openings.{IsReason}
-use Rattle.sp_desk.specs.Answers.{IsAnswer, opening_fault_of, step_to}
+use Rattle.sp_text.specs.declared.fault.EditFault.{EditFault}
+use Rattle.sp_text.specs.declared.fault.EditFault.TheVariants as edit_faults
+use Rattle.sp_text.specs.Changing.{Refuses}
+use Rattle.sp_desk.specs.Answers.{IsAnswer, fault_of, opening_fault_of, step_to}
 use Rattle.sp_state.proofs.EntryLaws.{turned-range}
 use Rattle.sp_desk.proofs.EntryLaws.{last-more, front-more, entries-more, can-more, can-last, can-front, entries-same, can-same}
 
@@ -300,6 +303,22 @@ refused-opening memory command faults.NoPages is = refused-step memory command r
 refused-opening memory command faults.RoundsFull is = refused-step memory command replies.rounds_full is
 refused-opening memory command faults.RecordsFull is = refused-step memory command replies.records_full is
 refused-opening memory command faults.NoMemory is = refl
+
+-- What refuses an edit is told.
+refused-edit : (memory : Memory) (it : EditOf) (fault : EditFault) → Refuses {T = Unit {0}} (refusal_of (text_of memory.state) it) (Err fault) → IsAnswer memory (edit it) memory (Err (fault_of fault))
+refused-edit memory it edit_faults.Range is = refused-step memory (edit it) replies.range (ap (option_map edit_refusal) is)
+refused-edit memory it edit_faults.Boundary is = refused-step memory (edit it) replies.boundary (ap (option_map edit_refusal) is)
+refused-edit memory it edit_faults.LineBreak is = refused-step memory (edit it) replies.line_break (ap (option_map edit_refusal) is)
+refused-edit memory it edit_faults.LineFull is = refused-step memory (edit it) replies.line_full (ap (option_map edit_refusal) is)
+refused-edit memory it edit_faults.TextFull is = refused-step memory (edit it) replies.text_full (ap (option_map edit_refusal) is)
+refused-edit memory it edit_faults.IdsSpent is = refused-step memory (edit it) replies.ids_spent (ap (option_map edit_refusal) is)
+refused-edit memory it edit_faults.NoMemory is = refl
+
+pub edit-told : (memory new : Memory) (it : EditOf) (fault : EditFault) (answer : Result Reply DeskFault) → Refuses {T = Unit {0}} (refusal_of (text_of memory.state) it) (Err fault) → new ≡ memory
+    → IsErrAnd answer (λ (told : DeskFault). told ≡ fault_of fault) → IsAnswer memory (edit it) new answer
+edit-told memory new it fault (Ok reply) is same tells = absurd tells
+edit-told memory new it fault (Err told) is same tells =
+    subst (λ (m : Memory). IsAnswer memory (edit it) m (Err told)) (sym same) (subst (λ (t : DeskFault). IsAnswer memory (edit it) memory (Err t)) (sym tells) (refused-edit memory it fault is))
 
 -- ---- sheets
 

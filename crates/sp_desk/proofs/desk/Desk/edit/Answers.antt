@@ -1,6 +1,6 @@
 use Rattle.std.proofs.Common.{◌≡◌, ◌∷◌, [], ◌++◌, ap, refl, rules, subst, ◌∙◌}
 use Rattle.spec_text.specs.Edits.{refusal_of, replacement_of}
-use Rattle.spec_state.specs.State.{text_of}
+use Rattle.spec_state.specs.State.{State, text_of}
 use Rattle.spec_wire.specs.Commands as commands
 use Rattle.spec_machine.specs.Machine.{Memory}
 use Rattle.spec_machine.specs.Answers.{step_of}
@@ -13,8 +13,8 @@ use Rattle.sp_state.specs.Entries.{EntryState}
 use Rattle.sp_state.specs.Fills.{EditFills, EditFillsAtMost}
 use Rattle.sp_text.specs.Changing.{edit_of}
 use Rattle.sp_desk.specs.Memories.{memory_by}
-use Rattle.sp_desk.specs.Answers.{step_to}
-use Rattle.sp_desk.proofs.DeskSteps.{IsStep, edited-step}
+use Rattle.sp_desk.specs.Answers.{IsAnswer, step_to}
+use Rattle.sp_desk.proofs.DeskSteps.{IsStep, edit-told, edited-step}
 use Rattle.sp_desk.proofs.desk.Desk.edit.Given.{Over}
 use Rattle.sp_desk.proofs.desk.Desk.edit.Goals as goal
 
@@ -66,3 +66,10 @@ returns-clause-reads g c = record {
   at_most = subst (λ (m : Memory). EditReadsAtMost m.state (replacement_of m.state.lines (edit_of c.args.edit)) (g.S.Steps.reads c.args.steps.now) (g.S.Steps.reads c.edit.new.steps)) c.self.view_is c.edit.ensures.at_most;
   unread = subst (λ (m : Memory). IsRefused (refusal_of (text_of m.state) (edit_of c.args.edit)) → g.S.Steps.reads c.edit.new.steps ≡ g.S.Steps.reads c.args.steps.now) c.self.view_is c.edit.ensures.unread;
 }
+
+pub returns-in_err-entry-clause-step : goal.returns-in_err-entry-clause-step
+returns-in_err-entry-clause-step g c =
+    let same = ap (λ (s : State). memory_by s c.reserve_one.new.self.done c.reserve_one.new.self.undone) c.in_err-entry.ensures.same
+    ∙ ap (λ (j : Entries EntryState). memory_by c.self.inside.script j.done j.undone) c.reserve_one.ensures.entries in
+    subst (λ (m : Memory). IsAnswer m (commands.edit (edit_of c.args.edit)) (memory_by c.edit.new.self c.reserve_one.new.self.done c.reserve_one.new.self.undone) c.from_residual-in_err-entry.result) c.self.view_is
+    (edit-told (memory_by c.self.inside.script c.self.inside.journal.done c.self.inside.journal.undone) _ (edit_of c.args.edit) c.in_err-entry.field-0.0 _ c.in_err-entry.ensures.refuses same c.from_residual-in_err-entry.ensures.1)
