@@ -8,7 +8,7 @@ use Rattle.std.proofs.lemmas.List.{length-map, map-append, drop-map}
 use Rattle.spec_text.specs.Edits.{EditOf}
 use Rattle.spec_text.specs.Ranges.{RangeOf}
 use Rattle.spec_wire.specs.Commands.{CommandOf, RoomLineOf, edit, undo, redo, lock_scenes, lock_pages, next_round, sheet, labels, blocks, outline, save, speakers, paper, packet}
-use Rattle.spec_wire.specs.Replies.{RefusalOf, ReplyOf, is_refused, not_yours}
+use Rattle.spec_wire.specs.Replies.{RefusalOf, ReplyOf, is_refused, not_yours, refused}
 use Rattle.spec_machine.specs.Machine.{Memory}
 use Rattle.spec_machine.specs.Answers.{Step, step_by, step_of}
 use Rattle.spec_machine.specs.Refusals.{refusal_to}
@@ -257,6 +257,28 @@ same-desk old command new (Ok reply) answer = tt
 same-desk old command new (Err (Refused reason)) answer =
     ap (λ (s : Step). s.after) answer ∙ machine.refused-same old command (refusal_of reason) (ap (λ (s : Step). s.reply) (sym answer))
 same-desk old command new (Err NoMemory) answer = answer
+
+-- So is the room, and it answers what its desk does.
+pub refused_answered : (old : RoomState) (it : RoomLineOf) (asked : Kind) (desk : Memory) (fault : DeskFault) → asked_of old it.seat it.seen (kind_of it.command) ≡ Ok asked
+    → IsAnswer old.desk (command_at it.command asked) desk (Err fault) → IsRoomAnswer old it (record old { desk = desk }) (Err fault)
+refused_answered old it asked desk (Refused reason) asks answer =
+    ap (λ (m : Memory). room_step_to (record old { desk = m }) (refused (refusal_of reason))) (same-desk old.desk (command_at it.command asked) desk (Err (Refused reason)) answer)
+    ∙ ap (asked_step old it.seat asked) answer ∙ sym (ap (room_step_by old it) asks)
+refused_answered old it asked desk NoMemory asks answer = ap (λ (m : Memory). record old { desk = m }) answer
+
+-- An edit that was refused at its present place, or for which there was no memory.
+pub edit_refused : (desk desk' : Memory) (version : ℕ) (changes changes' : List Change) (did undid did' : List OwnerOf) (seat : List ℕ) (seen : ℕ) (it moved : EditOf) (range : RangeOf) (place : ℕ) (fault : DeskFault)
+    → range ≡ edit_range it → asked_edit (ranges changes) version (length desk.state.lines) seen range ≡ Ok (edits (record range { first = place }))
+    → moved ≡ edit_moved it place → IsAnswer desk (edit moved) desk' (Err fault) → changes' ≡ changes → did' ≡ did
+    → IsRoomAnswer (room_of desk version changes did undid) (line_of seat seen (edit it)) (room_of desk' version changes' did' undid) (Err fault)
+edit_refused desk desk' version changes changes' did undid did' seat seen it moved range place fault range_is found moved_is answer same_changes same_did =
+    let old = room_of desk version changes did undid in
+    let line = line_of seat seen (edit it) in
+    let asked = edits (record range { first = place }) in
+    let asks : asked_of old seat seen (kind_of (edit it)) ≡ Ok asked = ap (asked_edit (ranges changes) version (length desk.state.lines) seen) (sym range_is) ∙ found in
+    let at : IsAnswer desk (command_at (edit it) asked) desk' (Err fault) = subst (λ (e : EditOf). IsAnswer desk (edit e) desk' (Err fault)) moved_is answer in
+    subst (λ (now : List Change). IsRoomAnswer old line (room_of desk' version now did' undid) (Err fault)) (sym same_changes)
+    (subst (λ (now : List OwnerOf). IsRoomAnswer old line (room_of desk' version changes now undid) (Err fault)) (sym same_did) (refused_answered old line asked desk' fault asks at))
 
 -- ---- what follows from the answer of a room
 

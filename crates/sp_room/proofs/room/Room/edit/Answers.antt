@@ -12,11 +12,11 @@ use Rattle.sp_desk.specs.Fills.{CommandFills}
 use Rattle.sp_desk.proofs.Counting.{no-reads, no-fills}
 use Rattle.sp_room.specs.Changes.{range_of, ranges}
 use Rattle.sp_room.specs.Owners.{OwnerOf}
-use Rattle.sp_room.specs.Answers.{line_of}
+use Rattle.sp_room.specs.Answers.{IsRoomAnswer, line_of}
 use Rattle.sp_room.specs.Counts.{RoomReads, RoomFills}
 use Rattle.sp_room.specs.Inside.{room_of}
 use Rattle.sp_room.specs.declared.change.Change.{Change}
-use Rattle.sp_room.proofs.Answering.{Answered, edit_answered}
+use Rattle.sp_room.proofs.Answering.{Answered, edit_answered, edit_refused}
 use Rattle.sp_room.proofs.Counting.{edit-asks, is-err, of-any, of-edit, of-refused}
 use Rattle.sp_room.proofs.room.Room.edit.Given.{Over}
 use Rattle.sp_room.proofs.room.Room.edit.Goals as goal
@@ -132,3 +132,15 @@ returns-clause-fills g c =
     of-edit (λ (command : CommandOf). CommandFills {T = Reply} {E = DeskFault} c.args.self.now.desk.state command (Ok c.in_ok-reply.reply) (g.S.Steps.fills c.args.steps.now) (g.S.Steps.fills c.ask.new.steps)) (g.S.Steps.fills c.ask.new.steps ≡ g.S.Steps.fills c.args.steps.now) (edit_of c.args.edit) (edit_of c.moved_to.result) (range_of change) _
     asks c.moved_to.ensures
     (subst (λ (room : RoomState). CommandFills {T = Reply} {E = DeskFault} room.desk.state (edit (edit_of c.moved_to.result)) (Ok c.in_ok-reply.reply) (g.S.Steps.fills c.args.steps.now) (g.S.Steps.fills c.ask.new.steps)) c.self.view_is c.in_ok-reply.ensures.fills)
+
+pub returns-in_err-reply-clause-step : goal.returns-in_err-reply-clause-step
+returns-in_err-reply-clause-step g c =
+    let it = c.self.inside in
+    let line = line_of c.args.seat.now c.args.seen (edit (edit_of c.args.edit)) in
+    let lines : c.args.lines ≡ length it.desk.state.lines = c.requires.lines ∙ ap (λ (r : RoomState). length r.desk.state.lines) (sym c.self.view_is) in
+    let found : asked_edit (ranges it.changes.items) it.version (length it.desk.state.lines) c.args.seen (range_of c.edit_change-range.result) ≡ Ok (edits (record (range_of c.edit_change-range.result) { first = c.in-Ok.place })) =
+    ap (λ (n : ℕ). asked_edit (ranges it.changes.items) it.version n c.args.seen (range_of c.edit_change-range.result)) (sym lines) ∙ c.in-Ok.ensures in
+    is-err (λ (r : Result Reply DeskFault). IsRoomAnswer c.args.self.now line (room_of c.ask.new.desk it.version c.make_room.new.changes.items c.make_room.new.owners.items it.undone.items) r) c.in_err-reply.field-0.0 c.from_residual-in_err-reply.result c.from_residual-in_err-reply.ensures.1
+    (subst (λ (r : RoomState). IsRoomAnswer r line (room_of c.ask.new.desk it.version c.make_room.new.changes.items c.make_room.new.owners.items it.undone.items) (Err c.in_err-reply.field-0.0)) c.self.view_is
+    (edit_refused it.desk c.ask.new.desk it.version it.changes.items c.make_room.new.changes.items it.done.items it.undone.items c.make_room.new.owners.items c.args.seat.now c.args.seen (edit_of c.args.edit) (edit_of c.moved_to.result)
+    (range_of c.edit_change-range.result) c.in-Ok.place c.in_err-reply.field-0.0 c.edit_change-range.ensures found c.moved_to.ensures c.in_err-reply.ensures.step c.in_ok-make_room.ensures.changes c.in_ok-make_room.ensures.owners))

@@ -8,8 +8,8 @@ use Rattle.sp_run.proofs.room_lines.RoomLinesResponder.answer.Goals as goal
 pub write_room_reply-requires : goal.write_room_reply-requires
 write_room_reply-requires g c = record { buffer = c.in_ok-buffer.ensures; plain = seat-plain _ _ _ _ c.in_ok-reply.ensures.reply }
 
-pub returns-in_err-room-clause-no_memory : goal.returns-in_err-room-clause-no_memory
-returns-in_err-room-clause-no_memory g c =
+pub returns-in_err-buffer-clause-no_memory : goal.returns-in_err-buffer-clause-no_memory
+returns-in_err-buffer-clause-no_memory g c =
     on-err c.from_residual.result (record {
       stops = seat-none-stops _ _;
       counts = seat-undone c.args.self.now.room (room_line_of_line c.args.line.now) (counts_of (g.S.Steps.reads c.args.steps.now) (g.S.Steps.fills c.args.steps.now));
