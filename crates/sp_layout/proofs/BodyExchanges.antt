@@ -12,6 +12,7 @@ use Rattle.sp_gap.specs.Runs.{exchanged}
 use Rattle.sp_gap.proofs.RunLaws.{in-three}
 use Rattle.sp_gap.specs.Moves.{shifted}
 use Rattle.sp_gap.specs.Gaps.{CanExchangePlaces}
+use Rattle.sp_layout.specs.RowFacts.{FactsOf, facts_between, with_facts}
 use Rattle.sp_layout.specs.Bodies.{BodyParts, IsBody, row_count, starts_by, rows_of, headings_of}
 use Rattle.sp_layout.specs.Exchanges.{moved_element}
 use Rattle.sp_layout.proofs.BodyLaws.{headings-few, placed_in-append, sum-rows, sum-headings, starts_by-get, length-starts_by}
@@ -234,17 +235,13 @@ starts-can size elements starts from to last base less more others_last order wi
 -- A body, and what becomes of it and of another one by an exchange.
 pub record IsExchanged (from to less more : ℕ) (old others new taken : BodyParts) : Type 0 where
   pub elements : new.elements ≡ take from old.elements ++ (others.elements ++ map (moved_element less more) (drop to old.elements))
-  pub shapes : new.shapes ≡ exchanged old.shapes (row_count (take from old.elements)) (row_count (take to old.elements)) others.shapes
-  pub marks : new.marks ≡ exchanged old.marks (row_count (take from old.elements)) (row_count (take to old.elements)) others.marks
-  pub keys : new.keys ≡ exchanged old.keys (row_count (take from old.elements)) (row_count (take to old.elements)) others.keys
+  pub facts : new.facts ≡ with_facts old.facts (row_count (take from old.elements)) (row_count (take to old.elements)) others.facts
   pub row_starts : new.row_starts ≡ take from old.row_starts ++ (map (shifted 0 (row_count (take from old.elements))) others.row_starts ++ map (shifted (row_count (take to old.elements)) (row_count (take from old.elements) + row_count others.elements)) (drop to old.row_starts))
   pub heading_starts : new.heading_starts ≡ take from old.heading_starts ++ (map (shifted 0 (heading_count (take from old.elements))) others.heading_starts ++ map (shifted (heading_count (take to old.elements)) (heading_count (take from old.elements) + heading_count others.elements)) (drop to old.heading_starts))
   pub rows : new.rows + row_count (take to old.elements) ≡ row_count (take from old.elements) + row_count others.elements + row_count old.elements
   pub headings : new.headings + heading_count (take to old.elements) ≡ heading_count (take from old.elements) + heading_count others.elements + heading_count old.elements
   pub taken_elements : taken.elements ≡ slice_range old.elements from to
-  pub taken_shapes : taken.shapes ≡ slice_range old.shapes (row_count (take from old.elements)) (row_count (take to old.elements))
-  pub taken_marks : taken.marks ≡ slice_range old.marks (row_count (take from old.elements)) (row_count (take to old.elements))
-  pub taken_keys : taken.keys ≡ slice_range old.keys (row_count (take from old.elements)) (row_count (take to old.elements))
+  pub taken_facts : taken.facts ≡ facts_between old.facts (row_count (take from old.elements)) (row_count (take to old.elements))
   pub taken_row_starts : taken.row_starts ≡ map (shifted (row_count (take from old.elements)) 0) (slice_range old.row_starts from to)
   pub taken_heading_starts : taken.heading_starts ≡ map (shifted (heading_count (take from old.elements)) 0) (slice_range old.heading_starts from to)
   pub taken_rows : taken.rows + row_count (take from old.elements) ≡ row_count (take to old.elements)
@@ -273,11 +270,11 @@ IsBody-exchanged from to less more old others new taken order within is them don
     headings-append (take from old.elements) (others.elements ++ map (moved_element less more) (drop to old.elements))
     ∙ ap (λ n. heading + n) (headings-append others.elements (map (moved_element less more) (drop to old.elements)) ∙ ap (λ n. heading_count others.elements + n) (headings-moved less more (drop to old.elements))) in
     record {
-      shapes = done.shapes ∙ ap₂ (λ (xs ys : List Shape). exchanged xs row end ys) is.shapes them.shapes
+      shapes = ap (λ (facts : FactsOf). facts.shapes) done.facts ∙ ap₂ (λ (xs ys : List Shape). exchanged xs row end ys) is.shapes them.shapes
           ∙ sym (rows-exchanged (λ (it : Row). it.shape) old.elements others.elements from to less more order within (λ n it. refl)) ∙ sym (ap (map (λ (it : Row). it.shape)) (ap placed_in done.elements));
-      marks = done.marks ∙ ap₂ (λ (xs ys : List ℕ). exchanged xs row end ys) is.marks them.marks
+      marks = ap (λ (facts : FactsOf). facts.marks) done.facts ∙ ap₂ (λ (xs ys : List ℕ). exchanged xs row end ys) is.marks them.marks
           ∙ sym (rows-exchanged (λ (it : Row). it.mark) old.elements others.elements from to less more order within (λ n it. refl)) ∙ sym (ap (map (λ (it : Row). it.mark)) (ap placed_in done.elements));
-      keys = ap length done.keys ∙ keys-count old.keys others.keys row end (row_count old.elements) is.keys (omega (arith, split, till))
+      keys = ap (λ (facts : FactsOf). length facts.keys) done.facts ∙ keys-count old.facts.keys others.facts.keys row end (row_count old.elements) is.keys (omega (arith, split, till))
           ∙ omega (arith, them.keys, split, rows_all) ∙ sym (ap row_count done.elements);
       row_starts = done.row_starts ∙ ap₂ (λ (xs ys : List ℕ). take from xs ++ (map (shifted 0 row) ys ++ map (shifted end (row + row_count others.elements)) (drop to xs))) is.row_starts them.row_starts
           ∙ starts-exchanged rows_of old.elements others.elements from to less more row end (row_count others.elements) order within stays-rows (sym (sum-rows (take from old.elements))) (sym (sum-rows (take to old.elements))) (sym (sum-rows others.elements))
@@ -302,10 +299,10 @@ IsBody-taken from to less more old others new taken order within is done =
     let till = ap row_count (till-is old.elements from to order within) ∙ count-append (take from old.elements) run in
     let heading_till = ap heading_count (till-is old.elements from to order within) ∙ headings-append (take from old.elements) run in
     record {
-      shapes = done.taken_shapes ∙ ap (λ (xs : List Shape). slice_range xs row end) is.shapes ∙ sym (rows-run (λ (it : Row). it.shape) old.elements from to order within) ∙ sym (ap (map (λ (it : Row). it.shape)) (ap placed_in done.taken_elements));
-      marks = done.taken_marks ∙ ap (λ (xs : List ℕ). slice_range xs row end) is.marks ∙ sym (rows-run (λ (it : Row). it.mark) old.elements from to order within) ∙ sym (ap (map (λ (it : Row). it.mark)) (ap placed_in done.taken_elements));
-      keys = ap length done.taken_keys
-          ∙ length-take-le (end - row) (drop row old.keys) (omega (arith, length-drop row old.keys, is.keys, split, till))
+      shapes = ap (λ (facts : FactsOf). facts.shapes) done.taken_facts ∙ ap (λ (xs : List Shape). slice_range xs row end) is.shapes ∙ sym (rows-run (λ (it : Row). it.shape) old.elements from to order within) ∙ sym (ap (map (λ (it : Row). it.shape)) (ap placed_in done.taken_elements));
+      marks = ap (λ (facts : FactsOf). facts.marks) done.taken_facts ∙ ap (λ (xs : List ℕ). slice_range xs row end) is.marks ∙ sym (rows-run (λ (it : Row). it.mark) old.elements from to order within) ∙ sym (ap (map (λ (it : Row). it.mark)) (ap placed_in done.taken_elements));
+      keys = ap (λ (facts : FactsOf). length facts.keys) done.taken_facts
+          ∙ length-take-le (end - row) (drop row old.facts.keys) (omega (arith, length-drop row old.facts.keys, is.keys, split, till))
           ∙ omega (arith, till) ∙ sym (ap row_count done.taken_elements);
       row_starts = done.taken_row_starts ∙ ap (λ (xs : List ℕ). map (shifted row 0) (slice_range xs from to)) is.row_starts
           ∙ starts-taken rows_of old.elements from to row order within (sym (sum-rows (take from old.elements))) ∙ sym (ap (starts_by rows_of 0) done.taken_elements);
@@ -324,10 +321,8 @@ pub record ExchangeFits (from to : ℕ) (old others : BodyParts) : Type 0 where
   pub headings_within : heading_count (take to old.elements) ≤ heading_count old.elements
   pub headings_few : heading_count old.elements ≤ length old.elements
   pub others_few : heading_count others.elements ≤ length others.elements
-  pub shapes_len : length old.shapes ≡ row_count old.elements
-  pub marks_len : length old.marks ≡ row_count old.elements
-  pub others_shapes : length others.shapes ≡ row_count others.elements
-  pub others_marks : length others.marks ≡ row_count others.elements
+  pub shapes_len : length old.facts.shapes ≡ row_count old.elements
+  pub others_shapes : length others.facts.shapes ≡ row_count others.elements
   pub starts_len : length old.row_starts ≡ length old.elements
   pub heading_starts_len : length old.heading_starts ≡ length old.elements
   pub others_starts : length others.row_starts ≡ length others.elements
@@ -361,9 +356,7 @@ exchange-fits from to old others is them order within small few =
       headings_few = all_few;
       others_few = others_few;
       shapes_len = ap length is.shapes ∙ rows-length (λ (it : Row). it.shape) old.elements;
-      marks_len = ap length is.marks ∙ rows-length (λ (it : Row). it.mark) old.elements;
       others_shapes = ap length them.shapes ∙ rows-length (λ (it : Row). it.shape) others.elements;
-      others_marks = ap length them.marks ∙ rows-length (λ (it : Row). it.mark) others.elements;
       starts_len = ap length is.row_starts ∙ length-starts_by rows_of 0 old.elements;
       heading_starts_len = ap length is.heading_starts ∙ length-starts_by headings_of 0 old.elements;
       others_starts = ap length them.row_starts ∙ length-starts_by rows_of 0 others.elements;

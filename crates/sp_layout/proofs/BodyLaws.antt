@@ -8,6 +8,7 @@ use Rattle.spec_pages.specs.declared.Shape.{Shape}
 use Rattle.spec_pages.specs.Rows.{Row, ElementOf, shifted_row, placed_rows}
 use Rattle.spec_sheets.specs.Layout.{placed_in}
 use Rattle.spec_sheets.specs.Shown.{row_key, is_heading_element, heading_count}
+use Rattle.sp_layout.specs.RowFacts.{FactsOf, both_facts, facts_of}
 use Rattle.sp_layout.specs.Bodies.{BodyParts, IsBody, row_count, starts_by, rows_of, headings_of}
 
 -- The rows of elements, and of one more.
@@ -91,9 +92,7 @@ headings-few (element ∷ elements) = by (is_heading_element element) (headings-
 -- One more element, and what is kept then.
 pub record IsPushed (lines : List LineState) (element : ElementOf) (old new : BodyParts) : Type 0 where
   pub elements : new.elements ≡ old.elements ++ element ∷ []
-  pub shapes : new.shapes ≡ old.shapes ++ map (λ (row : Row). row.shape) (placed_rows element)
-  pub marks : new.marks ≡ old.marks ++ map (λ (row : Row). row.mark) (placed_rows element)
-  pub keys : new.keys ≡ old.keys ++ map (row_key lines) (placed_rows element)
+  pub facts : new.facts ≡ both_facts old.facts (facts_of lines element)
   pub row_starts : new.row_starts ≡ old.row_starts ++ old.rows ∷ []
   pub heading_starts : new.heading_starts ≡ old.heading_starts ++ old.headings ∷ []
   pub rows : new.rows ≡ old.rows + length element.rows
@@ -107,8 +106,8 @@ IsBody-push lines element old new is pushed =
     let all = ap placed_in pushed.elements ∙ rows in
     let own = length-map (placed_rows element) (row_key lines) in
     let size = length-append (placed_in old.elements) (placed_rows element) in
-    let keys = ap length pushed.keys in
-    let both = length-append old.keys (map (row_key lines) (placed_rows element)) in
+    let keys = ap (λ (facts : FactsOf). length facts.keys) pushed.facts in
+    let both = length-append old.facts.keys (map (row_key lines) (placed_rows element)) in
     let count = ap length all in
     let sum = sum-rows old.elements in
     let head = sum-headings old.elements in
@@ -117,9 +116,9 @@ IsBody-push lines element old new is pushed =
     let heading : old.headings ≡ 0 + sum_by headings_of old.elements = omega (arith, is.headings, head) in
     let more = sum-headings (old.elements ++ element ∷ []) in
     record {
-      shapes = pushed.shapes ∙ ap (λ (those : List Shape). those ++ map shape (placed_rows element)) is.shapes
+      shapes = ap (λ (facts : FactsOf). facts.shapes) pushed.facts ∙ ap (λ (those : List Shape). those ++ map shape (placed_rows element)) is.shapes
           ∙ sym (map-append shape (placed_in old.elements) (placed_rows element)) ∙ sym (ap (map shape) all);
-      marks = pushed.marks ∙ ap (λ (those : List ℕ). those ++ map mark (placed_rows element)) is.marks
+      marks = ap (λ (facts : FactsOf). facts.marks) pushed.facts ∙ ap (λ (those : List ℕ). those ++ map mark (placed_rows element)) is.marks
           ∙ sym (map-append mark (placed_in old.elements) (placed_rows element)) ∙ sym (ap (map mark) all);
       keys = omega (arith, keys, both, is.keys, own, count, size);
       row_starts = pushed.row_starts ∙ ap₂ (λ (those : List ℕ) n. those ++ n ∷ []) is.row_starts start

@@ -6,6 +6,7 @@ use Rattle.spec_pages.specs.Rows.{Row, ElementOf, placed_rows}
 use Rattle.spec_labels.specs.declared.RowKey.{RowKey}
 use Rattle.spec_sheets.specs.Layout.{placed_in}
 use Rattle.spec_sheets.specs.Shown.{row_key, heading_count}
+use Rattle.sp_layout.specs.RowFacts.{FactsOf}
 
 -- Elements, and the keys of their rows.
 pub record KeyedElements : Type 0 where
@@ -58,9 +59,7 @@ headings_of element = heading_count (element ∷ [])
 -- What a body keeps.
 pub record BodyParts : Type 0 where
   pub elements : List ElementOf
-  pub shapes : List Shape
-  pub marks : List ℕ
-  pub keys : List RowKey
+  pub facts : FactsOf
   pub row_starts : List ℕ
   pub heading_starts : List ℕ
   pub rows : ℕ
@@ -68,9 +67,9 @@ pub record BodyParts : Type 0 where
 
 -- What it keeps is that of its elements.
 pub record IsBody (parts : BodyParts) : Type 0 where
-  pub shapes : parts.shapes ≡ shapes_in parts.elements
-  pub marks : parts.marks ≡ marks_in parts.elements
-  pub keys : length parts.keys ≡ row_count parts.elements
+  pub shapes : parts.facts.shapes ≡ shapes_in parts.elements
+  pub marks : parts.facts.marks ≡ marks_in parts.elements
+  pub keys : length parts.facts.keys ≡ row_count parts.elements
   pub row_starts : parts.row_starts ≡ starts_by rows_of 0 parts.elements
   pub heading_starts : parts.heading_starts ≡ starts_by headings_of 0 parts.elements
   pub rows : parts.rows ≡ row_count parts.elements

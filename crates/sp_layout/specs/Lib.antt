@@ -1,4 +1,5 @@
 pub mod Places
+pub mod RowFacts
 pub mod Bodies
 pub mod Exchanges
 pub mod Speaking

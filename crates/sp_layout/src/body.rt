@@ -1,16 +1,16 @@
 //! Elements one behind the other, and what is asked of their rows.
-ghost use Rattle.std.specs.Prelude.{◌≡◌, ◌+◌, ◌-◌, ◌<◌, ◌≤◌, ◌++◌, List, length, map, take, drop, slice_range, vec_len, vec_capacity, Option, All, IsOk, OnOk, OnErr};
+ghost use Rattle.std.specs.Prelude.{◌≡◌, ◌+◌, ◌-◌, ◌<◌, ◌≤◌, List, length, take, drop, slice_range, vec_len, vec_capacity, Option, All, IsOk, OnOk, OnErr};
 ghost use Rattle.spec_text.specs.Limits.{line_count_limit};
 ghost use Rattle.spec_text.specs.Lines.{LineState};
-ghost use Rattle.spec_pages.specs.Rows.{Row as RowValue, placed_rows, shifted_row};
 ghost use Rattle.spec_labels.specs.Labels.{LabelOf};
-ghost use Rattle.spec_sheets.specs.Shown.{heading_count, is_heading_element, labels_past, row_key, shown_rows};
+ghost use Rattle.spec_sheets.specs.Shown.{heading_count, is_heading_element, labels_past, shown_rows};
 ghost use Rattle.sp_layout.specs.Bodies.{IsPageOf, StandsIn, headings_of, keyed_elements, marks_in, no_elements, row_count, shapes_in, with_element};
+ghost use Rattle.sp_layout.specs.RowFacts.{StandsOn};
 ghost use Rattle.sp_layout.specs.Exchanges.{AreRowsAlike, CanMove, rows_at, run_of, with_rows, with_rows_at, with_run};
-ghost use Rattle.sp_gap.specs.Runs.{exchanged};
 
 use crate::moves::move_elements;
 use crate::page::Page;
+use crate::row_facts::RowFacts;
 use crate::search::{last_start, starts_below};
 use sp_columns::{Element, Row, begins_heading};
 use sp_gap::{GapList, GapPlaces, exchange, make_room, reserve_more};
@@ -44,9 +44,7 @@ fn headings_of(element: &Element) -> usize
 /// and headings stand before each element. All this but the elements stands round a gap.
 pub struct Body {
     elements: Vec<Element>,
-    shapes: GapList<Shape>,
-    marks: GapList<u8>,
-    keys: GapList<RowKey>,
+    facts: RowFacts,
     row_starts: GapPlaces,
     heading_starts: GapPlaces,
 }
@@ -56,9 +54,7 @@ impl Drop for Body {
     fn drop(self) {
         let Body {
             elements: _elements,
-            shapes: _shapes,
-            marks: _marks,
-            keys: _keys,
+            facts: _facts,
             row_starts: _row_starts,
             heading_starts: _heading_starts,
         } = self;
@@ -73,38 +69,19 @@ impl Model for Body {
 
     ghost view = { λ b. record {
       elements = b.elements.items;
-      keys = b.keys.items;
+      keys = b.facts.facts.keys;
       room = min (vec_capacity b.elements) (min b.row_starts.room b.heading_starts.room);
-      row_room = min b.shapes.room (min b.marks.room b.keys.room);
+      row_room = b.facts.room;
     } };
 
     ghost invariant = { λ b. IsBody (record {
       elements = b.elements.items;
-      shapes = b.shapes.items;
-      marks = b.marks.items;
-      keys = b.keys.items;
+      facts = b.facts.facts;
       row_starts = b.row_starts.items;
       heading_starts = b.heading_starts.items;
       rows = b.row_starts.end;
       headings = b.heading_starts.end;
     }) };
-}
-
-/// Makes room for so many rows.
-fn reserve_rows(
-    shapes: &mut GapList<Shape>,
-    marks: &mut GapList<u8>,
-    keys: &mut GapList<RowKey>,
-    count: usize,
-) -> Result<(), AllocError>
-    ensures shapes { shapes.new.items ≡ shapes.old.items }
-    ensures marks { marks.new.items ≡ marks.old.items }
-    ensures keys { keys.new.items ≡ keys.old.items }
-    ensures room { OnOk result ((length shapes.new.items + count ≤ shapes.new.room) × (length marks.new.items + count ≤ marks.new.room) × (length keys.new.items + count ≤ keys.new.room)) }
-{
-    shapes.reserve(count)?;
-    marks.reserve(count)?;
-    keys.reserve(count)
 }
 
 /// Makes room for one more element.
@@ -114,69 +91,17 @@ fn reserve_element(
     heading_starts: &mut GapPlaces,
 ) -> Result<(), AllocError>
     ensures elements { elements.new.items ≡ elements.old.items }
-    ensures row_starts { (row_starts.new.items ≡ row_starts.old.items) × (row_starts.new.end ≡ row_starts.old.end) }
-    ensures heading_starts { (heading_starts.new.items ≡ heading_starts.old.items) × (heading_starts.new.end ≡ heading_starts.old.end) }
-    ensures room { OnOk result ((vec_len elements.new < vec_capacity elements.new) × (length row_starts.new.items < row_starts.new.room) × (length heading_starts.new.items < heading_starts.new.room)) }
+    ensures row_starts { (row_starts.new.items ≡ row_starts.old.items)
+        × (row_starts.new.end ≡ row_starts.old.end) }
+    ensures heading_starts { (heading_starts.new.items ≡ heading_starts.old.items)
+        × (heading_starts.new.end ≡ heading_starts.old.end) }
+    ensures room { OnOk result ((vec_len elements.new < vec_capacity elements.new)
+        × (length row_starts.new.items < row_starts.new.room)
+        × (length heading_starts.new.items < heading_starts.new.room)) }
 {
     reserve_more(elements, 1)?;
     row_starts.reserve(1)?;
     heading_starts.reserve(1)
-}
-
-/// The key of a row of an element that begins at a line.
-fn row_key(lines: &Lines, first: u64, row: &Row) -> RowKey
-    requires low { length lines.now.lines ≤ line_count_limit }
-    requires inside { first + row.now.line < length lines.now.lines }
-    ensures { result ≡ row_key lines.now.lines (shifted_row first row.now) }
-{
-    let place = first + row.line as u64;
-    RowKey {
-        line: lines.line(place as usize).id,
-        row: row.row,
-    }
-}
-
-/// Adds what is asked of rows, where there is room.
-fn add_rows(
-    shapes: &mut GapList<Shape>,
-    marks: &mut GapList<u8>,
-    keys: &mut GapList<RowKey>,
-    lines: &Lines,
-    element: &Element,
-)
-    requires low { length lines.now.lines ≤ line_count_limit }
-    requires inside { All (λ (row : RowValue). element.now.first + row.line < length lines.now.lines) element.now.rows }
-    requires shapes { length shapes.old.items + length element.now.rows ≤ shapes.old.room }
-    requires marks { length marks.old.items + length element.now.rows ≤ marks.old.room }
-    requires keys { length keys.old.items + length element.now.rows ≤ keys.old.room }
-    ensures shapes { shapes.new.items ≡ shapes.old.items ++ map (λ (row : RowValue). row.shape) (placed_rows element.now) }
-    ensures marks { marks.new.items ≡ marks.old.items ++ map (λ (row : RowValue). row.mark) (placed_rows element.now) }
-    ensures keys { keys.new.items ≡ keys.old.items ++ map (row_key lines.now.lines) (placed_rows element.now) }
-{
-    for row in &element.rows {
-        shapes.push_reserved(row.shape);
-        marks.push_reserved(row.mark);
-        keys.push_reserved(row_key(lines, element.first, row));
-    }
-}
-
-/// Makes room for so many rows in all.
-fn make_row_room(
-    shapes: &mut GapList<Shape>,
-    marks: &mut GapList<u8>,
-    keys: &mut GapList<RowKey>,
-    total: usize,
-) -> Result<(), AllocError>
-    ensures shapes { shapes.new.items ≡ shapes.old.items }
-    ensures marks { marks.new.items ≡ marks.old.items }
-    ensures keys { keys.new.items ≡ keys.old.items }
-    ensures ok { OnOk result ((total ≤ shapes.new.room) × (total ≤ marks.new.room) × (total ≤ keys.new.room)) }
-    ensures room { (shapes.old.room ≤ shapes.new.room) × (marks.old.room ≤ marks.new.room) × (keys.old.room ≤ keys.new.room) }
-    ensures succeeds { total ≤ shapes.old.room → total ≤ marks.old.room → total ≤ keys.old.room → IsOk result }
-{
-    shapes.make_room(total)?;
-    marks.make_room(total)?;
-    keys.make_room(total)
 }
 
 /// Makes room for so many elements in all.
@@ -187,42 +112,20 @@ fn make_element_room(
     total: usize,
 ) -> Result<(), AllocError>
     ensures elements { elements.new.items ≡ elements.old.items }
-    ensures row_starts { (row_starts.new.items ≡ row_starts.old.items) × (row_starts.new.end ≡ row_starts.old.end) }
-    ensures heading_starts { (heading_starts.new.items ≡ heading_starts.old.items) × (heading_starts.new.end ≡ heading_starts.old.end) }
-    ensures ok { OnOk result ((total ≤ vec_capacity elements.new) × (total ≤ row_starts.new.room) × (total ≤ heading_starts.new.room)) }
-    ensures room { (vec_capacity elements.old ≤ vec_capacity elements.new) × (row_starts.old.room ≤ row_starts.new.room) × (heading_starts.old.room ≤ heading_starts.new.room) }
-    ensures succeeds { total ≤ vec_capacity elements.old → total ≤ row_starts.old.room → total ≤ heading_starts.old.room → IsOk result }
+    ensures row_starts { (row_starts.new.items ≡ row_starts.old.items)
+        × (row_starts.new.end ≡ row_starts.old.end) }
+    ensures heading_starts { (heading_starts.new.items ≡ heading_starts.old.items)
+        × (heading_starts.new.end ≡ heading_starts.old.end) }
+    ensures ok { OnOk result ((total ≤ vec_capacity elements.new) × (total ≤ row_starts.new.room)
+        × (total ≤ heading_starts.new.room)) }
+    ensures room { (vec_capacity elements.old ≤ vec_capacity elements.new)
+        × (row_starts.old.room ≤ row_starts.new.room) × (heading_starts.old.room ≤ heading_starts.new.room) }
+    ensures succeeds { total ≤ vec_capacity elements.old → total ≤ row_starts.old.room
+        → total ≤ heading_starts.old.room → IsOk result }
 {
     make_room(elements, total)?;
     row_starts.make_room(total)?;
     heading_starts.make_room(total)
-}
-
-/// Exchanges what is asked of rows from one to before another for that of others, where there is room.
-fn exchange_rows(
-    shapes: &mut GapList<Shape>,
-    marks: &mut GapList<u8>,
-    keys: &mut GapList<RowKey>,
-    from: usize,
-    to: usize,
-    other_shapes: &mut GapList<Shape>,
-    other_marks: &mut GapList<u8>,
-    other_keys: &mut GapList<RowKey>,
-)
-    requires order { from ≤ to }
-    requires within { (to ≤ length shapes.old.items) × (to ≤ length marks.old.items) × (to ≤ length keys.old.items) }
-    requires shapes { (length shapes.old.items + length other_shapes.old.items ≤ shapes.old.room) × (to - from ≤ other_shapes.old.room) }
-    requires marks { (length marks.old.items + length other_marks.old.items ≤ marks.old.room) × (to - from ≤ other_marks.old.room) }
-    requires keys { (length keys.old.items + length other_keys.old.items ≤ keys.old.room) × (to - from ≤ other_keys.old.room) }
-    ensures shapes { (shapes.new.items ≡ exchanged shapes.old.items from to other_shapes.old.items) × (other_shapes.new.items ≡ slice_range shapes.old.items from to) }
-    ensures marks { (marks.new.items ≡ exchanged marks.old.items from to other_marks.old.items) × (other_marks.new.items ≡ slice_range marks.old.items from to) }
-    ensures keys { (keys.new.items ≡ exchanged keys.old.items from to other_keys.old.items) × (other_keys.new.items ≡ slice_range keys.old.items from to) }
-    ensures room { (shapes.new.room ≡ shapes.old.room) × (marks.new.room ≡ marks.old.room) × (keys.new.room ≡ keys.old.room) }
-    ensures other_room { (other_shapes.new.room ≡ other_shapes.old.room) × (other_marks.new.room ≡ other_marks.old.room) × (other_keys.new.room ≡ other_keys.old.room) }
-{
-    shapes.exchange(from, to, other_shapes);
-    marks.exchange(from, to, other_marks);
-    keys.exchange(from, to, other_keys);
 }
 
 /// Exchanges the rows of an element for others.
@@ -251,9 +154,7 @@ impl Body {
     {
         Body {
             elements: Vec::new(alloc),
-            shapes: GapList::new(alloc),
-            marks: GapList::new(alloc),
-            keys: GapList::new(alloc),
+            facts: RowFacts::new(alloc),
             row_starts: GapPlaces::new(alloc),
             heading_starts: GapPlaces::new(alloc),
         }
@@ -262,17 +163,13 @@ impl Body {
     /// Adds an element, whose rows are of these lines. It may have no rows. Where there is no memory, nothing changes.
     pub fn push(&mut self, lines: &Lines, element: Element) -> Result<(), AllocError>
         requires low { length lines.now.lines ≤ line_count_limit }
-        requires inside { All (λ (row : RowValue). element.first + row.line < length lines.now.lines) element.rows }
-        ensures ok { OnOk result (keyed_elements self.new ≡ with_element lines.now.lines (keyed_elements self.old) element) }
+        requires inside { StandsOn lines.now.lines element }
+        ensures ok { OnOk result (keyed_elements self.new
+            ≡ with_element lines.now.lines (keyed_elements self.old) element) }
         ensures err { OnErr result (keyed_elements self.new ≡ keyed_elements self.old) }
     {
         let _room = self.len();
-        reserve_rows(
-            &mut self.shapes,
-            &mut self.marks,
-            &mut self.keys,
-            element.rows.len(),
-        )?;
+        self.facts.reserve(element.rows.len())?;
         reserve_element(
             &mut self.elements,
             &mut self.row_starts,
@@ -280,13 +177,7 @@ impl Body {
         )?;
         self.row_starts.push_reserved(element.rows.len());
         self.heading_starts.push_reserved(headings_of(&element));
-        add_rows(
-            &mut self.shapes,
-            &mut self.marks,
-            &mut self.keys,
-            lines,
-            &element,
-        );
+        self.facts.push_rows(lines, &element);
         self.elements.push_reserved(element);
         Ok(())
     }
@@ -300,9 +191,7 @@ impl Body {
         ensures small { self.now.room ≤ 9223372036854775807 }
         ensures row_small { self.now.row_room ≤ 9223372036854775807 }
     {
-        let _shapes = self.shapes.len();
-        let _marks = self.marks.len();
-        let _keys = self.keys.len();
+        let _rows = self.facts.len();
         let _row_starts = self.row_starts.len();
         let _heading_starts = self.heading_starts.len();
         self.elements.len()
@@ -312,7 +201,7 @@ impl Body {
     pub fn rows(&self) -> usize
         ensures { result ≡ row_count self.now.elements }
     {
-        self.shapes.len()
+        self.facts.len()
     }
 
     /// How many headings there are.
@@ -326,14 +215,14 @@ impl Body {
     pub fn shapes(&self) -> &GapList<Shape>
         ensures { result.now.items ≡ shapes_in self.now.elements }
     {
-        &self.shapes
+        self.facts.shapes()
     }
 
     /// The mark of each row.
     pub fn marks(&self) -> &GapList<u8>
         ensures { result.now.items ≡ marks_in self.now.elements }
     {
-        &self.marks
+        self.facts.marks()
     }
 
     /// The key of each row, by the id of its line.
@@ -341,7 +230,7 @@ impl Body {
         ensures keys { result.now.items ≡ self.now.keys }
         ensures len { length result.now.items ≡ row_count self.now.elements }
     {
-        &self.keys
+        self.facts.keys()
     }
 
     /// The elements, those without rows among them.
@@ -357,9 +246,7 @@ impl Body {
     {
         let Body {
             elements,
-            shapes: _shapes,
-            marks: _marks,
-            keys: _keys,
+            facts: _facts,
             row_starts: _row_starts,
             heading_starts: _heading_starts,
         } = self;
@@ -428,7 +315,7 @@ impl Body {
             &mut self.heading_starts,
             elements,
         )?;
-        make_row_room(&mut self.shapes, &mut self.marks, &mut self.keys, rows)
+        self.facts.make_room(rows)
     }
 
     /// Makes room behind the gaps in what is kept of the places of elements, where there is memory for it: without it an exchange
@@ -450,7 +337,8 @@ impl Body {
         requires row_room { row_count self.old.elements + row_count other.old.elements ≤ self.old.row_room }
         requires back_room { to - from ≤ other.old.room }
         requires back_row_room { row_count (slice_range self.old.elements from to) ≤ other.old.row_room }
-        ensures elements { keyed_elements self.new ≡ with_run (keyed_elements self.old) from to (keyed_elements other.old) less more }
+        ensures elements { keyed_elements self.new
+            ≡ with_run (keyed_elements self.old) from to (keyed_elements other.old) less more }
         ensures taken { keyed_elements other.new ≡ run_of (keyed_elements self.old) from to }
         ensures room { (self.new.room ≡ self.old.room) × (self.new.row_room ≡ self.old.row_room) }
         ensures back_room { (other.new.room ≡ other.old.room) × (other.new.row_room ≡ other.old.row_room) }
@@ -461,18 +349,9 @@ impl Body {
         let heading = self.headings_before(from);
         let heading_end = self.headings_before(to);
         let count = other.elements.len();
-        let rows = other.shapes.len();
+        let rows = other.facts.len();
         let headings = other.heading_starts.end();
-        exchange_rows(
-            &mut self.shapes,
-            &mut self.marks,
-            &mut self.keys,
-            row,
-            row_end,
-            &mut other.shapes,
-            &mut other.marks,
-            &mut other.keys,
-        );
+        self.facts.exchange(row, row_end, &mut other.facts);
         self.row_starts
             .exchange(from, to, &mut other.row_starts, row, row_end, row + rows);
         self.heading_starts.exchange(
@@ -522,7 +401,8 @@ impl Body {
         requires order { from < to }
         requires within { to ≤ row_count self.now.elements }
         ensures part { IsPageOf self.now.elements from to result }
-        ensures shows { (lines : List LineState) (labels : Option (List LabelOf)) → slice_range (shown_rows lines labels self.now.elements) from to
+        ensures shows { (lines : List LineState) (labels : Option (List LabelOf))
+            → slice_range (shown_rows lines labels self.now.elements) from to
             ≡ slice_range (shown_rows lines (labels_past result.headings labels) result.elements) result.from result.to }
     {
         self.page_part(from, to)

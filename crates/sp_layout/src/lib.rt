@@ -10,6 +10,7 @@ mod layout;
 mod moves;
 mod page;
 mod relaying;
+mod row_facts;
 mod runs;
 mod search;
 mod speakers;

@@ -1,4 +1,4 @@
-use Rattle.std.proofs.Common.{List, ℕ, length, sym, ap, ◌∙◌, arith}
+use Rattle.std.proofs.Common.{List, length, sym, ap, ◌∙◌, arith}
 use Rattle.std.proofs.lemmas.List.{length-map}
 use Rattle.spec_pages.specs.declared.Shape.{Shape}
 use Rattle.spec_pages.specs.Rows.{Row}
@@ -30,15 +30,10 @@ pub returns-clause-row_enough : goal.returns-clause-row_enough
 returns-clause-row_enough c =
     let elements = c.self.inside.elements.items in
     let shapes = ap (λ (those : List Shape). length those) c.self.invariant.shapes ∙ length-map (placed_in elements) (λ (row : Row). row.shape) in
-    let marks = ap (λ (those : List ℕ). length those) c.self.invariant.marks ∙ length-map (placed_in elements) (λ (row : Row). row.mark) in
     omega (
       arith,
       shapes,
-      marks,
-      c.self.invariant.keys,
-      c.len-shapes.ensures.enough,
-      c.len-marks.ensures.enough,
-      c.len-keys.ensures.enough,
+      c.len-rows.ensures.enough,
       ap (λ (b : BodyOf). row_count b.elements) c.self.view_is,
       ap (λ (b : BodyOf). b.row_room) c.self.view_is,
     )
@@ -50,4 +45,4 @@ pub returns-clause-small : goal.returns-clause-small
 returns-clause-small c = omega (arith, c.self.inside.elements.small, ap (λ (b : BodyOf). b.room) c.self.view_is)
 
 pub returns-clause-row_small : goal.returns-clause-row_small
-returns-clause-row_small c = omega (arith, c.len-shapes.ensures.small, ap (λ (b : BodyOf). b.row_room) c.self.view_is)
+returns-clause-row_small c = omega (arith, c.len-rows.ensures.small, ap (λ (b : BodyOf). b.row_room) c.self.view_is)

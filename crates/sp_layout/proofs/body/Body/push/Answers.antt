@@ -1,9 +1,7 @@
-use Rattle.std.proofs.Common.{ℕ, List, ◌∷◌, [], ◌++◌, length, map, ◌∙◌, ap, ap₂, arith}
+use Rattle.std.proofs.Common.{ℕ, List, ◌∷◌, [], ◌++◌, length, ◌∙◌, ap, ap₂, arith}
 use Rattle.std.proofs.lemmas.Grind.{common_steps}
-use Rattle.spec_pages.specs.declared.Shape.{Shape}
-use Rattle.spec_pages.specs.Rows.{Row, ElementOf, placed_rows}
-use Rattle.spec_labels.specs.declared.RowKey.{RowKey}
-use Rattle.spec_sheets.specs.Shown.{row_key}
+use Rattle.spec_pages.specs.Rows.{ElementOf, placed_rows}
+use Rattle.sp_layout.specs.RowFacts.{FactsOf, both_facts, facts_of}
 use Rattle.sp_layout.specs.Bodies.{BodyOf, BodyParts, row_count}
 use Rattle.sp_layout.proofs.BodyLaws.{headings-few, IsBody-push}
 use Rattle.sp_layout.proofs.body.Body.push.Goals as goal
@@ -31,9 +29,7 @@ pub invariant_of-self-2 : goal.invariant_of-self-2
 invariant_of-self-2 c =
     let old : BodyParts = record {
       elements = c.self.inside.elements.items;
-      shapes = c.self.inside.shapes.items;
-      marks = c.self.inside.marks.items;
-      keys = c.self.inside.keys.items;
+      facts = c.self.inside.facts.facts;
       row_starts = c.self.inside.row_starts.items;
       heading_starts = c.self.inside.heading_starts.items;
       rows = c.self.inside.row_starts.end;
@@ -41,27 +37,19 @@ invariant_of-self-2 c =
     } in
     let element = c.args.element in
     let rows = placed_rows element in
-    let room = c.in_ok-reserve_rows.ensures in
+    let room = c.in_ok-reserve.ensures in
     let next = c.in_ok-reserve_element.ensures in
     IsBody-push c.args.lines.now.lines element old _ c.self.invariant (record {
       elements = c.push_reserved-3.ensures.items ∙ ap (λ (those : List ElementOf). those ++ element ∷ []) next.elements;
-      shapes = c.add_rows.ensures.shapes ∙ ap (λ (those : List Shape). those ++ map (λ (row : Row). row.shape) rows) room.shapes;
-      marks = c.add_rows.ensures.marks ∙ ap (λ (those : List ℕ). those ++ map (λ (row : Row). row.mark) rows) room.marks;
-      keys = c.add_rows.ensures.keys ∙ ap (λ (those : List RowKey). those ++ map (row_key c.args.lines.now.lines) rows) room.keys;
+      facts = c.push_rows.ensures.facts ∙ ap (λ (those : FactsOf). both_facts those (facts_of c.args.lines.now.lines element)) room.facts;
       row_starts = c.push_reserved.ensures.items ∙ ap₂ (λ (those : List ℕ) n. those ++ n ∷ []) next.row_starts.0 next.row_starts.1;
       heading_starts = c.push_reserved-2.ensures.items ∙ ap₂ (λ (those : List ℕ) n. those ++ n ∷ []) next.heading_starts.0 next.heading_starts.1;
       rows = omega (arith, c.push_reserved.ensures.end, next.row_starts.1, c.len-2.ensures, c.element.inside.rows.ok.0, ap (λ (e : ElementOf). length e.rows) c.element.view_is);
       headings = omega (arith, c.push_reserved-2.ensures.end, next.heading_starts.1, c.headings_of.ensures.value);
     })
 
-pub add_rows-requires-clause-keys : goal.add_rows-requires-clause-keys
-add_rows-requires-clause-keys c = grind (arith, common_steps)
-
-pub add_rows-requires-clause-marks : goal.add_rows-requires-clause-marks
-add_rows-requires-clause-marks c = grind (arith, common_steps)
-
-pub add_rows-requires-clause-shapes : goal.add_rows-requires-clause-shapes
-add_rows-requires-clause-shapes c = grind (arith, common_steps)
+pub push_rows-requires-clause-room : goal.push_rows-requires-clause-room
+push_rows-requires-clause-room c = grind (arith, common_steps)
 
 pub returns-clause-err : goal.returns-clause-err
 returns-clause-err c = grind (arith, common_steps)

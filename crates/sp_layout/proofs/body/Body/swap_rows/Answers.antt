@@ -8,9 +8,7 @@ pub invariant_of-self : goal.invariant_of-self
 invariant_of-self c =
     let old : BodyParts = record {
       elements = c.self.inside.elements.items;
-      shapes = c.self.inside.shapes.items;
-      marks = c.self.inside.marks.items;
-      keys = c.self.inside.keys.items;
+      facts = c.self.inside.facts.facts;
       row_starts = c.self.inside.row_starts.items;
       heading_starts = c.self.inside.heading_starts.items;
       rows = c.self.inside.row_starts.end;

@@ -1,7 +1,7 @@
 use Rattle.std.proofs.Common.{◌≡◌, ◌+◌, ◌-◌, ◌≤◌, ◌++◌, length, map, take}
 use Rattle.spec_pages.specs.Rows.{Row, shifted_row}
 use Rattle.spec_sheets.specs.Shown.{row_key}
-use Rattle.sp_layout.proofs.body.add_rows.Given as goal
+use Rattle.sp_layout.proofs.row_facts.add_rows.Given as goal
 
 -- What is asked of the rows so far, and room for the others.
 abbrev pub invariant-loop-row : goal.invariant-loop-row
