@@ -1,7 +1,7 @@
 //! Where the part of a layout that an edit changes begins and ends.
-ghost use Rattle.std.specs.Prelude.{◌≡◌, ◌<◌, ◌≤◌, ◌+◌, length, take};
+ghost use Rattle.std.specs.Prelude.{◌≡◌, ◌≤◌, ◌+◌, length, take};
 ghost use Rattle.spec_edit.specs.Windows.{stanza_lines_in};
-ghost use Rattle.spec_edit.specs.RelaidStanzas.{OpensApart, first_apart, last_apart};
+ghost use Rattle.spec_edit.specs.RelaidStanzas.{first_apart, last_apart};
 ghost use Rattle.sp_layout.specs.Edges.{CanBegin, CanBeginWindow, CanEnd, CanPart, IsEdge, IsNearestBegin, IsNearestEnd, IsNearestStart, IsPartBegin, IsPartEnd, IsPartStart, opens_first, windows_open};
 ghost use Rattle.sp_layout.specs.Kept.{laid_of};
 

@@ -1,5 +1,5 @@
 -- Which page records can be carried over a change of lines (docs/RULES.md, "Page records").
-use Rattle.std.specs.Prelude.{ℕ, IsTrue, ◌==◌, ◌||◌, List}
+use Rattle.std.specs.Prelude.{IsTrue, ◌==◌, ◌||◌, List}
 use Rattle.std.specs.List.{list_any}
 use Rattle.spec_text.specs.Lines.{LineState}
 use Rattle.spec_labels.specs.PageRecords.{PageRecordOf, end_line, is_present}

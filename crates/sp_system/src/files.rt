@@ -4,7 +4,7 @@ ghost use Rattle.std.specs.Prelude.{◌≡◌, ◌≤◌, Some, Ok, IfSome, IfOk
 ghost use Rattle.std.specs.Io.KnownBytes.{Appends};
 ghost use Rattle.std.specs.BTreeMap.{get_by_text};
 ghost use Rattle.sp_kit.specs.Causes.{Rose};
-ghost use Rattle.sp_kit.specs.Files.{FetchesAtMost, FetchGives, StoreLeaves, HasShelfCause};
+ghost use Rattle.sp_kit.specs.Files.{FetchesAtMost, FetchGives, HasShelfCause};
 ghost use Rattle.sp_system.specs.Known.{IsAsKnown, KnowsBytes, KnowsFetched};
 
 use crate::known::{Content, Known, Names, know, know_fetched, make_room};

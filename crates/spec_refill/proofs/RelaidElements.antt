@@ -1,5 +1,5 @@
 -- The elements whose rows an edit exchanges are those with a relaid block.
-use Rattle.std.proofs.Common.{◌≡◌, ℕ, List, sym, ap, ◌∙◌}
+use Rattle.std.proofs.Common.{◌≡◌, ℕ, sym, ap, ◌∙◌}
 use Rattle.std.specs.List.{filter}
 use Rattle.spec_text.specs.Lines.{line_texts}
 use Rattle.spec_text.specs.Edits.{Replacement}
