@@ -36,3 +36,4 @@ pub mod RunSteps
 pub mod EachBlock
 pub mod SpeechParts
 mod ValueLaws
+pub mod TextBlocks

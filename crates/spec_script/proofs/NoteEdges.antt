@@ -29,7 +29,7 @@ noted-edges inside (a ∷ b ∷ rest) =
       | inr t ↦ subst P (sym (ap made t)) (edges_byte a b rest inside (noted inside (b ∷ rest)) (noted-head inside b rest) (noted-edges inside (b ∷ rest)))
     ]
 
-length-noted : (inside : Bool) (text : List ℕ) → length (noted inside text) ≡ length text
+pub length-noted : (inside : Bool) (text : List ℕ) → length (noted inside text) ≡ length text
 length-noted inside [] = refl
 length-noted inside (a ∷ []) = refl
 length-noted inside (a ∷ b ∷ rest) =

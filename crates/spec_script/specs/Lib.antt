@@ -21,3 +21,4 @@ pub mod Blocks
 pub mod Stanzas
 pub mod BlockParts
 pub mod Elements
+pub mod TextBlocks

@@ -16,3 +16,4 @@ pub mod PageHeights
 pub mod PageParts
 pub mod PrintRows
 pub mod RoundBytes
+pub mod RowColumns

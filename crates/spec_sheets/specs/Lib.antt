@@ -7,3 +7,4 @@ pub mod PageRows
 pub mod PageTexts
 pub mod Rounds
 pub mod Sheets
+pub mod RowColumns

@@ -23,3 +23,5 @@ pub mod SinglePages
 pub mod RoundLaw
 pub mod OpeningLaw
 pub mod SheetsLow
+pub mod RelatedSheets
+pub mod SheetColumns

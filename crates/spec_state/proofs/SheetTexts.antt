@@ -108,11 +108,16 @@ round_name-utf8 round =
 -- ---- cells and rows
 
 -- What the parts of a cell show is text, and so is that of the cells of a row.
-record CellText (cell : ShownCell) : Type 0 where
-  parts : All (λ (part : ShownPart). IsUtf8 (part_text part)) cell.parts
+pub record CellText (cell : ShownCell) : Type 0 where
+  pub parts : All (λ (part : ShownPart). IsUtf8 (part_text part)) cell.parts
 
-record RowText (row : ShownRow) : Type 0 where
-  cells : All CellText row.cells
+pub record RowText (row : ShownRow) : Type 0 where
+  pub cells : All CellText row.cells
+
+-- So is that of the rows of a sheet, and of its header.
+pub record SheetText (sheet : Sheet) : Type 0 where
+  pub header : RowText (header_row sheet)
+  pub rows : All RowText sheet.rows
 
 fixed-text : (column : ℕ) (text : List ℕ) → IsUtf8 text → CellText (fixed_cell column text)
 fixed-text column text u =
@@ -161,13 +166,18 @@ round-text round = by (nat_lt 0 round)
     by true = All-cons CellText _ [] (fixed-text 15 (round_name round) (round_name-utf8 round)) (All-nil CellText)
     by false = All-nil CellText
 
-sheet-utf8 : (sheet : Sheet) → All RowText sheet.rows → IsUtf8 (sheet_bytes sheet)
-sheet-utf8 sheet all =
-    let header : RowText (header_row sheet) = record { cells = All-append CellText (round_cells sheet.round) (label_cells sheet.label) (round-text sheet.round) (label-text sheet.label) } in
+sheet-text : (sheet : Sheet) → All RowText sheet.rows → SheetText sheet
+sheet-text sheet all = record {
+  header = record { cells = All-append CellText (round_cells sheet.round) (label_cells sheet.label) (round-text sheet.round) (label-text sheet.label) };
+  rows = all;
+}
+
+sheet-utf8 : (sheet : Sheet) → SheetText sheet → IsUtf8 (sheet_bytes sheet)
+sheet-utf8 sheet text =
     let rows = flat_map row_line sheet.rows in
-    IsUtf8-append (row_line (header_row sheet)) (10 ∷ (rows ++ 12 ∷ [])) (utf8-row (header_row sheet) header)
+    IsUtf8-append (row_line (header_row sheet)) (10 ∷ (rows ++ 12 ∷ [])) (utf8-row (header_row sheet) text.header)
     (IsUtf8-append (10 ∷ []) (rows ++ 12 ∷ []) (IsUtf8-are_ascii (10 ∷ []) refl)
-    (IsUtf8-append rows (12 ∷ []) (utf8-flat row_line sheet.rows (All-weaker RowText (λ (row : ShownRow). IsUtf8 (row_line row)) utf8-row sheet.rows all))
+    (IsUtf8-append rows (12 ∷ []) (utf8-flat row_line sheet.rows (All-weaker RowText (λ (row : ShownRow). IsUtf8 (row_line row)) utf8-row sheet.rows text.rows))
     (IsUtf8-are_ascii (12 ∷ []) refl)))
 
 -- ---- rows whose parts are parts of lines, fixed texts or labels
@@ -193,22 +203,19 @@ module _ (texts : List (List ℕ)) (labels : List LabelOf) (all : All IsUtf8 tex
 
 -- ---- the sheets of a state
 
-abbrev HasText : Sheet → Type 0
-HasText sheet = IsUtf8 (sheet_bytes sheet)
-
 body-rows : (lines : List LineState) (labels : Option (List LabelOf)) (elements : List ElementOf) (round from to : ℕ) → All IsUtf8 (line_texts lines)
     → All (RowShows (line_texts lines)) (placed_in elements) → All RowText (page_body round (slice_range (shown_rows lines labels elements) from to))
 body-rows lines labels elements round from to all show =
     given-rows (line_texts lines) (unwrap_or labels []) all (page_body round (slice_range (shown_rows lines labels elements) from to)) (page_body-given lines labels elements round from to show)
 
-titles-utf8 : (lines : List LineState) (elements : List ElementOf) → All IsUtf8 (line_texts lines) → All (RowShows (line_texts lines)) (placed_in elements)
-    → (starts : List ℕ) → All HasText (title_sheets (shown_rows lines None elements) starts)
-titles-utf8 lines elements all show [] = All-nil HasText
-titles-utf8 lines elements all show (page ∷ later) =
+titles-text : (lines : List LineState) (elements : List ElementOf) → All IsUtf8 (line_texts lines) → All (RowShows (line_texts lines)) (placed_in elements)
+    → (starts : List ℕ) → All SheetText (title_sheets (shown_rows lines None elements) starts)
+titles-text lines elements all show [] = All-nil SheetText
+titles-text lines elements all show (page ∷ later) =
     let titles = shown_rows lines None elements in
     let end = slice_index_or later 0 (length titles) in
     let own = title_sheet (slice_range titles page end) in
-    All-cons HasText own (title_sheets titles later) (sheet-utf8 own (body-rows lines None elements own.round page end all show)) (titles-utf8 lines elements all show later)
+    All-cons SheetText own (title_sheets titles later) (sheet-text own (body-rows lines None elements own.round page end all show)) (titles-text lines elements all show later)
 
 sheet-rows : (lines : List LineState) (labels : Option (List LabelOf)) (elements : List ElementOf) → All IsUtf8 (line_texts lines) → All (RowShows (line_texts lines)) (placed_in elements)
     → (sheet : SheetOf) → All RowText (sheet_rows (shown_rows lines labels elements) sheet)
@@ -218,22 +225,26 @@ sheet-rows lines labels elements all show sheet = by sheet.omitted
     by true = given-rows (line_texts lines) [] all omitted_rows (omitted-given (line_texts lines) [])
     by false = body-rows lines labels elements sheet.round sheet.start sheet.end all show
 
--- The bytes of each sheet of a whole state are UTF-8.
-pub sheets-utf8 : (state : State) → IsWhole state → All (λ (sheet : Sheet). IsUtf8 (sheet_bytes sheet)) (sheets_of_state state)
-sheets-utf8 state whole =
+-- What each sheet of a whole state shows is text.
+pub sheets-text : (state : State) → IsWhole state → All SheetText (sheets_of_state state)
+sheets-text state whole =
     let are = IsText-texts (text_of state) whole.text in
     let show = layout_of-show state.speakers (text_of state) whole.text in
     let layout = layout_of state.speakers state.lines in
     let labels = heading_labels state.lines state.scenes in
     let rows = rows_in state in
-    All-append HasText (title_sheets (titles_in state) (title_starts state)) (map (shown_sheet rows) (body_sheets state))
-    (titles-utf8 state.lines layout.titles are.utf8 show.0 (title_starts state))
-    (All-map HasText (shown_sheet rows) (body_sheets state) (λ k d inside. (
+    All-append SheetText (title_sheets (titles_in state) (title_starts state)) (map (shown_sheet rows) (body_sheets state))
+    (titles-text state.lines layout.titles are.utf8 show.0 (title_starts state))
+    (All-map SheetText (shown_sheet rows) (body_sheets state) (λ k d inside. (
     let sheet = get_or (body_sheets state) k d in
-    sheet-utf8 (shown_sheet rows sheet) (sheet-rows state.lines labels layout.body are.utf8 show.1 sheet))))
+    sheet-text (shown_sheet rows sheet) (sheet-rows state.lines labels layout.body are.utf8 show.1 sheet))))
+
+-- So its bytes are UTF-8.
+pub sheets-utf8 : (state : State) → IsWhole state → All (λ (sheet : Sheet). IsUtf8 (sheet_bytes sheet)) (sheets_of_state state)
+sheets-utf8 state whole = All-weaker SheetText (λ (sheet : Sheet). IsUtf8 (sheet_bytes sheet)) sheet-utf8 (sheets_of_state state) (sheets-text state whole)
 
 -- So are those of the sheet at a place.
 pub sheet-at-utf8 : (state : State) (place : ℕ) (sheet : Sheet) → IsWhole state → slice_get (sheets_of_state state) place ≡ Some sheet → IsUtf8 (sheet_bytes sheet)
 sheet-at-utf8 state place sheet whole at =
     let sheets = sheets_of_state state in
-    subst HasText (get_or_from_slice_get sheets place sheet sheet at) (sheets-utf8 state whole place sheet (slice_get_within sheets place sheet at))
+    subst (λ (it : Sheet). IsUtf8 (sheet_bytes it)) (get_or_from_slice_get sheets place sheet sheet at) (sheets-utf8 state whole place sheet (slice_get_within sheets place sheet at))

@@ -10,3 +10,4 @@ pub mod KeptStates
 pub mod SavedStates
 pub mod SoundStates
 pub mod StateLabels
+pub mod RelatedSheets
