@@ -12,10 +12,10 @@ pub struct Said {
 }
 
 impl Model for Said {
-    ghost use Rattle.std.specs.Prelude.{string_bytes};
+    ghost use Rattle.std.specs.Prelude.{Some, string_bytes};
     ghost use Rattle.spec_cast.specs.Sides.{SaidOf};
 
     ghost Value = { SaidOf };
 
-    ghost view = { λ s. record { name = string_bytes s.name; scene = s.scene; sheet = s.sheet } };
+    ghost view = { λ s. record { name = string_bytes s.name; scene = s.scene; sheet = Some s.sheet } };
 }

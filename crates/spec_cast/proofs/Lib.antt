@@ -2,4 +2,8 @@ pub mod Rows
 pub mod Counts
 pub mod Inserting
 pub mod Groups
+pub mod FirstRows
+pub mod RowPlaces
+pub mod OneSheet
+pub mod SheetLaws
 pub mod Names

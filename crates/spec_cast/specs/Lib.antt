@@ -1,3 +1,4 @@
 pub mod Sides
 pub mod Groups
+pub mod Places
 pub mod Said

@@ -1,88 +1,36 @@
 -- The speeches of a state as cast sides tell them (docs/RULES.md, "Cast sides").
-use Rattle.std.specs.Prelude.{ℕ, ◌+◌, ◌-◌, ◌==◌, ◌&&◌, not, Bool, true, false, if◌then◌else◌, List, [], ◌∷◌, ◌++◌, map, find, slice_get, unwrap_or, Option, None}
-use Rattle.std.specs.Option.{option_map_or}
+use Rattle.std.specs.Prelude.{ℕ, ◌-◌, ◌==◌, if◌then◌else◌, List, [], length, map, filter, slice_get, Option, None, option_map}
 use Rattle.spec_text.specs.Lines.{line_texts}
-use Rattle.spec_script.specs.Stanzas.{PlacedBlock, blocks_of}
-use Rattle.spec_script.specs.Elements.{is_speech_block}
-use Rattle.spec_pages.specs.declared.RowKind.{RowKind}
-use Rattle.spec_pages.specs.declared.RowKind.TheVariants as rows
-use Rattle.spec_pages.specs.declared.Shape.{Shape}
-use Rattle.spec_labels.specs.Labels.{LabelOf, plain_label}
+use Rattle.spec_script.specs.LongestRuns.{Group, members}
+use Rattle.spec_labels.specs.Labels.{LabelOf}
 use Rattle.spec_labels.specs.Scenes.{scene_labels}
 use Rattle.spec_labels.specs.PageRecords.{SheetOf}
-use Rattle.spec_sheets.specs.Shown.{shape_of}
-use Rattle.spec_sheets.specs.Speakers.{cue_text, name_in}
+use Rattle.spec_sheets.specs.Speakers.{Spoken, cue_text, name_in}
 use Rattle.spec_state.specs.State.{State}
 use Rattle.spec_state.specs.Headings.{headings_of}
-use Rattle.spec_state.specs.StateSheets.{rows_in, body_sheets}
-use Rattle.spec_machine.specs.Outlines.{has_row, headings_behind}
 use Rattle.spec_cast.specs.Sides.{SaidOf}
+use Rattle.spec_cast.specs.Places.{state_elements, has_heading, has_speech, sheet_behind, each_behind}
 
--- ---- the sheets of speeches
-
--- A speech begins with its cue, and a pair of speeches with the first row of both.
-abbrev pub opens_speech : RowKind → Bool
-opens_speech rows.Cue = true
-opens_speech rows.Dual = true
-opens_speech _ = false
-
-abbrev pub begins_speech : Shape → Bool
-begins_speech shape = opens_speech shape.kind && (shape.index == 0)
-
--- The first label of the sheet with a row.
-abbrev pub first_label : List SheetOf → ℕ → LabelOf
-first_label sheets row = option_map_or (λ (sheet : SheetOf). sheet.first) (find (has_row row) sheets) (plain_label 0)
-
--- Those of the sheets on which speeches and pairs begin, where so many rows stand before these.
-abbrev pub speech_sheets : List SheetOf → ℕ → List Shape → List LabelOf
-speech_sheets sheets row [] = []
-speech_sheets sheets row (shape ∷ shapes) =
-    if begins_speech shape then first_label sheets row ∷ speech_sheets sheets (row + 1) shapes else speech_sheets sheets (row + 1) shapes
-
--- ---- the speeches of a text
-
--- So many headings, and so many speeches and pairs, stand before; and the last block may be the first speech of a pair.
-pub record Walk : Type 0 where
-  pub headings : ℕ
-  pub speeches : ℕ
-  pub opened : Bool
-
-abbrev pub walk_start : Walk
-walk_start = record { headings = 0; speeches = 0; opened = false }
-
--- The block is a speech that is not the second of a pair.
-abbrev pub is_first : Walk → PlacedBlock → Bool
-is_first walk placed = is_speech_block placed && not (walk.opened && placed.block.caret)
-
-abbrev pub walked : Walk → PlacedBlock → Walk
-walked walk placed = record {
-  headings = headings_behind walk.headings placed;
-  speeches = if is_first walk placed then walk.speeches + 1 else walk.speeches;
-  opened = is_speech_block placed && not placed.block.caret;
-}
-
--- The last of so many labels.
+-- The last of so many labels; none of none.
 abbrev pub last_label : List LabelOf → ℕ → Option LabelOf
 last_label labels count = if count == 0 then None else slice_get labels (count - 1)
 
--- A speech behind so many headings and sheets, its own among them, where these are the labels of all.
-abbrev pub said_by : List LabelOf → List LabelOf → List (List ℕ) → Walk → PlacedBlock → SaidOf
-said_by scenes sheets texts walk placed = record {
-  name = name_in (cue_text texts placed);
-  scene = last_label scenes walk.headings;
-  sheet = unwrap_or (last_label sheets walk.speeches) (plain_label 0);
+abbrev pub first_of : SheetOf → LabelOf
+first_of sheet = sheet.first
+
+-- A speech of an element behind these: the name in its cue, the label of the last heading before it, and the first label of the
+-- sheet with the first row of its element.
+abbrev pub speech_said : State → List (Group Spoken) → Spoken → SaidOf
+speech_said state before it = record {
+  name = name_in (cue_text (line_texts state.lines) it.placed);
+  scene = last_label (scene_labels (headings_of state.lines) state.scenes) (length (filter has_heading before));
+  sheet = option_map first_of (sheet_behind state before);
 }
 
-abbrev pub block_said : List LabelOf → List LabelOf → List (List ℕ) → Walk → PlacedBlock → List SaidOf
-block_said scenes sheets texts walk placed = if is_speech_block placed then said_by scenes sheets texts walk placed ∷ [] else []
+-- The speeches of an element behind these: its own one, or both of a pair.
+abbrev pub element_said : State → List (Group Spoken) → Group Spoken → List SaidOf
+element_said state before element = if has_speech element then map (speech_said state before) (members element) else []
 
-abbrev pub said_from : List LabelOf → List LabelOf → List (List ℕ) → Walk → List PlacedBlock → List SaidOf
-said_from scenes sheets texts walk [] = []
-said_from scenes sheets texts walk (placed ∷ blocks) = block_said scenes sheets texts (walked walk placed) placed ++ said_from scenes sheets texts (walked walk placed) blocks
-
--- The speeches of a state, in order: each with the label of the last heading before it and the first label of the sheet with the
--- first row of its element.
+-- The speeches of a state, in order.
 abbrev pub said_of : State → List SaidOf
-said_of state =
-    said_from (scene_labels (headings_of state.lines) state.scenes) (speech_sheets (body_sheets state) 0 (map shape_of (rows_in state))) (line_texts state.lines) walk_start
-    (blocks_of (line_texts state.lines))
+said_of state = each_behind (element_said state) [] (state_elements state)

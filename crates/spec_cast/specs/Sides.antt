@@ -4,11 +4,12 @@ use Rattle.std.specs.List.{flat_map, join_by}
 use Rattle.std.specs.Cmp.Lexicographic.{pointwise}
 use Rattle.spec_labels.specs.Labels.{LabelOf, label_text}
 
--- A speech: the name of its speaker, its scene where it has one, and the first label of the sheet that it begins on.
+-- A speech: the name of its speaker, its scene where it has one, and the first label of the sheet that it begins on, where it
+-- begins on one.
 pub record SaidOf : Type 0 where
   pub name : List ℕ
   pub scene : Option LabelOf
-  pub sheet : LabelOf
+  pub sheet : Option LabelOf
 
 abbrev pub name_of : SaidOf → List ℕ
 name_of said = said.name
@@ -16,8 +17,13 @@ name_of said = said.name
 abbrev pub scene_of : SaidOf → Option LabelOf
 scene_of said = said.scene
 
-abbrev pub sheet_of : SaidOf → LabelOf
+abbrev pub sheet_of : SaidOf → Option LabelOf
 sheet_of said = said.sheet
+
+-- A label, where there is one.
+abbrev pub if_label : Option LabelOf → List LabelOf
+if_label None = []
+if_label (Some it) = it ∷ []
 
 abbrev pub label_eq : LabelOf → LabelOf → Bool
 label_eq one other = (one.number == other.number) && pointwise nat_eq one.path other.path
@@ -45,7 +51,7 @@ abbrev pub scenes_in : List SaidOf → List (Option LabelOf)
 scenes_in all = each_once scene_eq (map scene_of all)
 
 abbrev pub sheets_in : List SaidOf → List LabelOf
-sheets_in all = each_once label_eq (map sheet_of all)
+sheets_in all = each_once label_eq (flat_map if_label (map sheet_of all))
 
 abbrev pub spoken_by : List SaidOf → List ℕ → List SaidOf
 spoken_by all name = with_value bytes_eq name_of all name

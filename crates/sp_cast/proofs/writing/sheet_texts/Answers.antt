@@ -1,4 +1,4 @@
-use Rattle.std.proofs.Common.{rules, ◌≡◌, ◌<◌, ◌≤◌, ◌∷◌, ◌++◌, [], true, false, length, map, get_or, append-nil, ap, sym, ◌∙◌, arith}
+use Rattle.std.proofs.Common.{rules, ◌≡◌, ◌<◌, ◌≤◌, Some, ◌∷◌, ◌++◌, [], true, false, length, map, get_or, append-nil, ap, sym, ◌∙◌, arith}
 use Rattle.std.specs.Prelude.{string_bytes}
 use Rattle.std.proofs.lemmas.List.{map-append, take_all}
 use Rattle.spec_labels.specs.Labels.{label_text}
@@ -14,23 +14,24 @@ loop-spoken-preserved c =
     let i = c.loop-spoken.spoken-index in
     let item = c.spoken-item.result in
     let same : c.deref-spoken-items.result.now ≡ all = search rules in
-    let sheet : label_of c.label_key.result ≡ item.sheet = search rules in
-    let shown : c.said.inside.sheet ≡ item.sheet = search rules in
+    let label = c.said.inside.sheet in
+    let sheet : label_of c.label_key.result ≡ label = search rules in
+    let shown : item.sheet ≡ Some label = search rules in
     let size = ap length same in
     let inside : i < length all = let low = c.loop-spoken-test.true in omega (arith, low, size) in
     let here = c.spoken-item.is ∙ ap (λ those. get_or those i item) same in
     let old = map string_bytes c.loop-spoken.texts.items in
     let so_far = c.loop-spoken.invariant in
     record {
-      labels = labels-step all i item c.loop-spoken.sheets.keys _ c.label_key.result inside here sheet c.in_ok-insert.ensures.keys so_far.labels;
+      labels = labels-step all i item label c.loop-spoken.sheets.keys _ c.label_key.result inside here shown sheet c.in_ok-insert.ensures.keys so_far.labels;
       texts = elim c.if-branch.branch [
         | then-branch+in_ok-label_text+in_ok-push w ↦
-            texts-step all i item c.loop-spoken.sheets.keys c.label_key.result old (map string_bytes c.if-branch.texts.items) true inside here sheet
+            texts-step all i item label c.loop-spoken.sheets.keys c.label_key.result old (map string_bytes c.if-branch.texts.items) true inside here shown sheet
             (sym w.if-branch.true ∙ c.in_ok-insert.ensures.added) so_far.labels so_far.texts
             (ap (λ v. map string_bytes v.items) w.texts-is ∙ ap (map string_bytes) w.in_ok-push.ensures.items ∙ map-append string_bytes c.loop-spoken.texts.items (w.in_ok-label_text.field-0 ∷ [])
-            ∙ ap (λ text. old ++ text ∷ []) (w.in_ok-label_text.ensures ∙ ap label_text shown))
+            ∙ ap (λ text. old ++ text ∷ []) w.in_ok-label_text.ensures)
         | else-branch w ↦
-            texts-step all i item c.loop-spoken.sheets.keys c.label_key.result old (map string_bytes c.if-branch.texts.items) false inside here sheet
+            texts-step all i item label c.loop-spoken.sheets.keys c.label_key.result old (map string_bytes c.if-branch.texts.items) false inside here shown sheet
             (sym w.if-branch.false ∙ c.in_ok-insert.ensures.added) so_far.labels so_far.texts
             (ap (λ v. map string_bytes v.items) w.texts-is ∙ sym (append-nil old))
       ];
