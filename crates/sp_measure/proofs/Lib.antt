@@ -1,3 +1,6 @@
+pub mod Alone
 pub mod Bytes
+pub mod Plain
+pub mod PlainClusters
 pub mod Reading
 pub mod Spaces

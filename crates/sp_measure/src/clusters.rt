@@ -1,11 +1,13 @@
 //! Clusters of a line: where they stand, and how wide they are.
-ghost use Rattle.std.specs.Prelude.{◌≡◌, ◌≢◌, ◌+◌, ◌*◌, ◌^◌, ◌<◌, ◌≤◌, [], ◌∷◌, ◌++◌, true, length, IfOk, MatchOption, OnOk};
+ghost use Rattle.std.specs.Prelude.{◌≡◌, ◌≢◌, ◌+◌, ◌*◌, ◌^◌, ◌<◌, ◌≤◌, [], ◌∷◌, ◌++◌, true, length, slice_index, IfOk, MatchOption, OnOk};
 ghost use Rattle.std.specs.List.{list_all};
 ghost use Rattle.unicode_segmentation.specs.Grapheme.{graphemes};
 ghost use Rattle.spec_script.specs.Runs.{RunParts};
 ghost use Rattle.spec_pages.specs.Clusters.{is_printable, is_space, width_of, columns_of, clusters_at, byte_clusters, clusters_of};
 ghost use Rattle.spec_pages.specs.Wrapping.{total_width};
+ghost use Rattle.sp_measure.specs.Plain.{plain_length};
 
+use crate::parts::{part_end, plain_length};
 use spec_pages::Cluster;
 use spec_script::Run;
 use std::alloc::{AllocError, Global};
@@ -100,17 +102,32 @@ fn add_bytes(out: &mut Vec<Cluster>, bytes: &[u8], style: u8, from: u16) -> Resu
     Ok(())
 }
 
-/// Adds the clusters of a run's text, which begins at the place `from` of its line.
-fn add_clusters(out: &mut Vec<Cluster>, text: &str, style: u8, from: u16) -> Result<(), AllocError>
-    requires { from + length text.now ≤ 4096 }
-    ensures items { OnOk result (out.new.items ≡ out.old.items ++ clusters_at style from (graphemes true text.now)) }
-    ensures wide { OnOk result (total_width out.new.items ≤ total_width out.old.items + 4 * length text.now) }
+/// The cluster of a character that begins at the place `from` of its line, and that is printable ASCII or a letter from U+00C0 to
+/// U+02FF.
+fn plain_cluster(part: &str, style: u8, from: u16) -> Cluster
+    requires small { from + length part.now ≤ 4096 }
+    requires some { 0 < length part.now }
+    requires plain { length part.now ≡ plain_length (slice_index part.now 0) }
+    ensures value { result ∷ [] ≡ clusters_at style from (graphemes true part.now) }
+    ensures wide { result.width ≤ 1 }
 {
-    if is_printable(text) {
-        return add_bytes(out, text.as_bytes(), style, from);
+    Cluster {
+        from,
+        to: from + part.len() as u16,
+        width: 1,
+        style,
+        space: part.as_bytes()[0] == b' ',
     }
+}
+
+/// Adds the clusters of a part of a text, which begins at the place `from` of its line.
+fn add_pieces(out: &mut Vec<Cluster>, part: &str, style: u8, from: u16) -> Result<(), AllocError>
+    requires { from + length part.now ≤ 4096 }
+    ensures items { OnOk result (out.new.items ≡ out.old.items ++ clusters_at style from (graphemes true part.now)) }
+    ensures wide { OnOk result (total_width out.new.items ≤ total_width out.old.items + 4 * length part.now) }
+{
     let mut at = from;
-    for piece in text.graphemes(true) {
+    for piece in part.graphemes(true) {
         let to = at + piece.len() as u16;
         out.push(Cluster {
             from: at,
@@ -120,6 +137,38 @@ fn add_clusters(out: &mut Vec<Cluster>, text: &str, style: u8, from: u16) -> Res
             space: is_space(piece),
         })?;
         at = to;
+    }
+    Ok(())
+}
+
+/// The same of a part that is one such character, or of any other.
+fn add_part(out: &mut Vec<Cluster>, part: &str, style: u8, from: u16) -> Result<(), AllocError>
+    requires small { from + length part.now ≤ 4096 }
+    requires some { 0 < length part.now }
+    ensures items { OnOk result (out.new.items ≡ out.old.items ++ clusters_at style from (graphemes true part.now)) }
+    ensures wide { OnOk result (total_width out.new.items ≤ total_width out.old.items + 4 * length part.now) }
+{
+    if part.len() != plain_length(part.as_bytes()[0]) {
+        return add_pieces(out, part, style, from);
+    }
+    out.push(plain_cluster(part, style, from))?;
+    Ok(())
+}
+
+/// Adds the clusters of a run's text, which begins at the place `from` of its line.
+fn add_clusters(out: &mut Vec<Cluster>, text: &str, style: u8, from: u16) -> Result<(), AllocError>
+    requires { from + length text.now ≤ 4096 }
+    ensures items { OnOk result (out.new.items ≡ out.old.items ++ clusters_at style from (graphemes true text.now)) }
+    ensures wide { OnOk result (total_width out.new.items ≤ total_width out.old.items + 4 * length text.now) }
+{
+    if is_printable(text) {
+        return add_bytes(out, text.as_bytes(), style, from);
+    }
+    let mut at = 0;
+    while at < text.len() {
+        let end = part_end(text, at);
+        add_part(out, &text[at..end], style, from + at as u16)?;
+        at = end;
     }
     Ok(())
 }

@@ -4,6 +4,7 @@
 mod clusters;
 mod cuts;
 mod list;
+mod parts;
 mod row_runs;
 mod rows;
 

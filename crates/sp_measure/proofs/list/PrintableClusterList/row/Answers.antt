@@ -1,5 +1,5 @@
 -- Printable bytes are one run, a column each.
-use Rattle.std.proofs.Common.{◌<◌, ◌+◌, List, [], ◌∷◌, ◌++◌, length, ap, ap₂, sym, ◌∙◌, ℕ, arith}
+use Rattle.std.proofs.Common.{◌<◌, ◌+◌, List, length, ap, ap₂, sym, ◌∙◌, ℕ, arith}
 use Rattle.spec_script.specs.declared.Run.{Run}
 use Rattle.spec_pages.specs.Wrapping.{WrappedRow, row_of}
 use Rattle.sp_measure.proofs.Bytes.{runs_of-bytes, total_width-bytes}
