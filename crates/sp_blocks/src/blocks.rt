@@ -24,7 +24,7 @@ pub fn left_blocks(
         return Ok(Vec::new(alloc));
     }
     let opening = &lines[0];
-    if is_title_page(first, opening.line, &opening.spans) {
+    if is_title_page(first, opening.line, opening.spans.as_slice()) {
         return one_block(alloc, title_page(alloc, lines)?);
     }
     if is_speech(lines) {

@@ -8,7 +8,7 @@ use Rattle.sp_blocks.proofs.speeches.is_speech.Goals as goal
 pub opens_speech-requires-clause-trimmed : goal.opens_speech-requires-clause-trimmed
 opens_speech-requires-clause-trimmed c =
     let line = c.first.inside in
-    let text = ap (text_in line.line.now) c.deref.ensures.value ∙ sym c.first.invariant.2 ∙ ap (λ (l : Left). l.text) c.first.view_is in
+    let text = ap (text_in line.line.now) c.as_slice.ensures ∙ sym c.first.invariant.2 ∙ ap (λ (l : Left). l.text) c.first.view_is in
     c.trimmed.ensures.value ∙ sym (ap trim text)
 
 pub returns : goal.returns

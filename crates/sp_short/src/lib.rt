@@ -1,0 +1,6 @@
+//! Lists that mostly have one item.
+#![tactic(auto)]
+
+mod short_list;
+
+pub use short_list::ShortList;
