@@ -1,13 +1,14 @@
 //! A list round a gap.
-ghost use Rattle.std.specs.Prelude.{◌≡◌, ◌+◌, ◌-◌, ◌<◌, ◌≤◌, ◌++◌, ◌∷◌, [], Some, length, take, drop, slice_get, slice_index_or, slice_range, slice_set, IsOk, OnOk};
+ghost use Rattle.std.specs.Prelude.{◌≡◌, ◌+◌, ◌-◌, ◌<◌, ◌≤◌, ◌++◌, ◌∷◌, [], Some, length, take, drop, slice_get, slice_index_or, slice_range, slice_set, vec_len, vec_capacity, IsOk, OnOk};
 ghost use Rattle.std.specs.VecDeque.{deque_len, deque_capacity};
 ghost use Rattle.sp_gap.specs.Runs.{exchanged};
 ghost use Rattle.sp_gap.specs.Gaps.{IsSlot, turned};
 
-use crate::runs::roomy;
+use crate::runs::{reverse_from, roomy};
 use std::alloc::{AllocError, Global};
 use std::collections::VecDeque;
 use std::marker::Model;
+use std::mem;
 
 /// A list whose items are exchanged mostly near one another. It stands in a ring, from the gap round to the gap: so many items
 /// behind the gap first, and then those before it. So an exchange at the gap moves no other item, and the gap moves at once.
@@ -124,8 +125,10 @@ fn trade<T: Copy>(
     requires behind { behind ≤ deque_len ring.old }
     requires within { from + count ≤ deque_len ring.old }
     requires many { count ≤ deque_len items.old }
-    ensures list { turned behind ring.new.items ≡ exchanged (turned behind ring.old.items) from (from + count) (take count items.old.items) }
-    ensures items { items.new.items ≡ slice_range (turned behind ring.old.items) from (from + count) ++ drop count items.old.items }
+    ensures list { turned behind ring.new.items
+        ≡ exchanged (turned behind ring.old.items) from (from + count) (take count items.old.items) }
+    ensures items { items.new.items
+        ≡ slice_range (turned behind ring.old.items) from (from + count) ++ drop count items.old.items }
     ensures len { deque_len ring.new ≡ deque_len ring.old }
     ensures items_len { deque_len items.new ≡ deque_len items.old }
     ensures room { deque_capacity ring.new ≡ deque_capacity ring.old }
@@ -150,7 +153,8 @@ fn exchange_round<T: Copy>(
     requires within { to ≤ deque_len ring.old }
     requires room { deque_len ring.old + deque_len items.old ≤ deque_capacity ring.old }
     requires items_room { to - from ≤ deque_capacity items.old }
-    ensures list { turned behind.new ring.new.items ≡ exchanged (turned behind.old ring.old.items) from to items.old.items }
+    ensures list { turned behind.new ring.new.items
+        ≡ exchanged (turned behind.old ring.old.items) from to items.old.items }
     ensures items { items.new.items ≡ slice_range (turned behind.old ring.old.items) from to }
     ensures behind { behind.new ≤ deque_len ring.new }
     ensures room { deque_capacity ring.new ≡ deque_capacity ring.old }
@@ -171,6 +175,111 @@ fn exchange_round<T: Copy>(
     hand_over(ring, items, run - count);
 }
 
+/// Exchanges an item for that at a place of the list.
+fn swap_at<T>(ring: &mut VecDeque<T>, behind: usize, place: usize, item: &mut T)
+    requires behind { behind ≤ deque_len ring.old }
+    requires place { place < deque_len ring.old }
+    ensures items { turned behind ring.new.items ≡ slice_set (turned behind ring.old.items) place item.old }
+    ensures was { item.new ≡ slice_index_or (turned behind ring.old.items) place item.new }
+    ensures len { deque_len ring.new ≡ deque_len ring.old }
+    ensures room { deque_capacity ring.new ≡ deque_capacity ring.old }
+{
+    let slot = slot(ring.len(), behind, place);
+    mem::swap(&mut ring[slot], item);
+}
+
+/// Exchanges so many items of the list from a place on for the first of others in a vector. No other is moved.
+fn swap_run<T>(ring: &mut VecDeque<T>, behind: usize, from: usize, count: usize, items: &mut Vec<T>)
+    requires behind { behind ≤ deque_len ring.old }
+    requires within { from + count ≤ deque_len ring.old }
+    requires many { count ≤ vec_len items.old }
+    ensures list { turned behind ring.new.items
+        ≡ exchanged (turned behind ring.old.items) from (from + count) (take count items.old.items) }
+    ensures items { items.new.items
+        ≡ slice_range (turned behind ring.old.items) from (from + count) ++ drop count items.old.items }
+    ensures len { deque_len ring.new ≡ deque_len ring.old }
+    ensures items_len { vec_len items.new ≡ vec_len items.old }
+    ensures room { deque_capacity ring.new ≡ deque_capacity ring.old }
+    ensures items_room { vec_capacity items.new ≡ vec_capacity items.old }
+{
+    for k in 0..count {
+        swap_at(ring, behind, from + k, &mut items[k]);
+    }
+}
+
+/// Takes so many items off the end of a vector and puts them behind those of a ring, in their order.
+fn hand_in<T>(items: &mut Vec<T>, ring: &mut VecDeque<T>, count: usize)
+    requires there { count ≤ vec_len items.old }
+    requires room { deque_len ring.old + count ≤ deque_capacity ring.old }
+    ensures items { items.new.items ≡ take (vec_len items.old - count) items.old.items }
+    ensures ring { ring.new.items ≡ ring.old.items ++ drop (vec_len items.old - count) items.old.items }
+    ensures items_len { vec_len items.new + count ≡ vec_len items.old }
+    ensures ring_len { deque_len ring.new ≡ deque_len ring.old + count }
+    ensures items_room { vec_capacity items.new ≡ vec_capacity items.old }
+    ensures ring_room { deque_capacity ring.new ≡ deque_capacity ring.old }
+{
+    for _ in 0..count {
+        ring.push_front_reserved(items.take_last());
+    }
+    ring.rotate_left(count);
+}
+
+/// Takes so many items off the end of a ring and puts them behind those of a vector, in their order.
+fn hand_out<T>(ring: &mut VecDeque<T>, items: &mut Vec<T>, count: usize)
+    requires there { count ≤ deque_len ring.old }
+    requires room { vec_len items.old + count ≤ vec_capacity items.old }
+    ensures ring { ring.new.items ≡ take (deque_len ring.old - count) ring.old.items }
+    ensures items { items.new.items ≡ items.old.items ++ drop (deque_len ring.old - count) ring.old.items }
+    ensures ring_len { deque_len ring.new + count ≡ deque_len ring.old }
+    ensures items_len { vec_len items.new ≡ vec_len items.old + count }
+    ensures ring_room { deque_capacity ring.new ≡ deque_capacity ring.old }
+    ensures items_room { vec_capacity items.new ≡ vec_capacity items.old }
+{
+    let place = items.len();
+    for _ in 0..count {
+        if let Some(item) = ring.pop_back() {
+            items.push_reserved(item);
+        }
+    }
+    reverse_from(items, place);
+}
+
+/// Exchanges items of a list round a gap for those of a vector. Where as many come as go, no other is moved; else the gap comes behind
+/// them.
+fn exchange_items<T>(
+    ring: &mut VecDeque<T>,
+    behind: &mut usize,
+    from: usize,
+    to: usize,
+    items: &mut Vec<T>,
+)
+    requires behind { behind.old ≤ deque_len ring.old }
+    requires order { from ≤ to }
+    requires within { to ≤ deque_len ring.old }
+    requires room { deque_len ring.old - (to - from) + vec_len items.old ≤ deque_capacity ring.old }
+    requires items_room { to - from ≤ vec_capacity items.old }
+    ensures list { turned behind.new ring.new.items
+        ≡ exchanged (turned behind.old ring.old.items) from to items.old.items }
+    ensures items { items.new.items ≡ slice_range (turned behind.old ring.old.items) from to }
+    ensures behind { behind.new ≤ deque_len ring.new }
+    ensures room { deque_capacity ring.new ≡ deque_capacity ring.old }
+    ensures items_room { vec_capacity items.new ≡ vec_capacity items.old }
+{
+    let run = to - from;
+    let count = items.len();
+    let both = count.min(run);
+    swap_run(ring, *behind, from, both, items);
+    if count == run {
+        return;
+    }
+    seek(ring, behind, to);
+    if run < count {
+        hand_in(items, ring, count - run);
+        return;
+    }
+    hand_out(ring, items, run - count);
+}
+
 impl<T> GapList<T> {
     /// A list without items and without room. It takes no memory.
     pub fn new(alloc: Global) -> GapList<T>
@@ -180,6 +289,18 @@ impl<T> GapList<T> {
             ring: VecDeque::new(alloc),
             behind: 0,
         }
+    }
+
+    /// Where its memory comes from.
+    pub fn allocator(&self) -> Global {
+        *self.ring.allocator()
+    }
+
+    /// For how many items there is room.
+    pub fn room(&self) -> usize
+        ensures { result ≡ self.now.room }
+    {
+        self.ring.capacity()
     }
 
     /// How many items there are.
@@ -235,6 +356,31 @@ impl<T> GapList<T> {
     {
         close(&mut self.ring, &mut self.behind);
         self.ring.push_back_reserved(item);
+    }
+
+    /// Exchanges an item for that at a place.
+    pub fn swap(&mut self, place: usize, item: &mut T)
+        requires { place < length self.old.items }
+        ensures items { self.new.items ≡ slice_set self.old.items place item.old }
+        ensures was { slice_get self.old.items place ≡ Some item.new }
+        ensures room { self.new.room ≡ self.old.room }
+    {
+        swap_at(&mut self.ring, self.behind, place, item);
+    }
+
+    /// Exchanges the items from one place to before another for those of a vector. Where as many come as go, no other is moved; else
+    /// the gap comes behind them, and the items between are moved. It takes no memory.
+    pub fn exchange_items(&mut self, from: usize, to: usize, items: &mut Vec<T>)
+        requires order { from ≤ to }
+        requires within { to ≤ length self.old.items }
+        requires room { length self.old.items - (to - from) + length items.old.items ≤ self.old.room }
+        requires items_room { to - from ≤ vec_capacity items.old }
+        ensures list { self.new.items ≡ exchanged self.old.items from to items.old.items }
+        ensures items { items.new.items ≡ slice_range self.old.items from to }
+        ensures room { self.new.room ≡ self.old.room }
+        ensures items_room { vec_capacity items.new ≡ vec_capacity items.old }
+    {
+        exchange_items(&mut self.ring, &mut self.behind, from, to, items);
     }
 }
 

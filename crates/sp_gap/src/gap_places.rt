@@ -125,8 +125,10 @@ fn trade_turned<T>(list: &mut Vec<T>, from: usize, to: usize, items: &mut Vec<T>
     requires order { from ≤ to }
     requires within { to ≤ vec_len list.old }
     requires many { vec_len items.old ≡ to - from }
-    ensures list { reverse list.new.items ≡ exchanged (reverse list.old.items) (vec_len list.old - to) (vec_len list.old - from) items.old.items }
-    ensures items { items.new.items ≡ slice_range (reverse list.old.items) (vec_len list.old - to) (vec_len list.old - from) }
+    ensures list { reverse list.new.items
+        ≡ exchanged (reverse list.old.items) (vec_len list.old - to) (vec_len list.old - from) items.old.items }
+    ensures items { items.new.items
+        ≡ slice_range (reverse list.old.items) (vec_len list.old - to) (vec_len list.old - from) }
     ensures len { vec_len list.new ≡ vec_len list.old }
     ensures list_room { vec_capacity list.new ≡ vec_capacity list.old }
     ensures items_room { vec_capacity items.new ≡ vec_capacity items.old }
@@ -155,9 +157,14 @@ fn trade_behind(
     requires base { base ≤ end }
     requires low { All (λ place. place ≤ end - base) items.old.items }
     requires back_low { All (λ place. place ≤ end) back.old.items }
-    requires run { All (λ place. base ≤ place) (slice_range (map (mirrored end) (reverse back.old.items)) (from - ahead) (to - ahead)) }
-    ensures back { map (mirrored end) (reverse back.new.items) ≡ exchanged (map (mirrored end) (reverse back.old.items)) (from - ahead) (to - ahead) (map (shifted 0 base) items.old.items) }
-    ensures items { items.new.items ≡ map (shifted base 0) (slice_range (map (mirrored end) (reverse back.old.items)) (from - ahead) (to - ahead)) }
+    requires run { All (λ place. base ≤ place)
+        (slice_range (map (mirrored end) (reverse back.old.items)) (from - ahead) (to - ahead)) }
+    ensures back { map (mirrored end) (reverse back.new.items)
+        ≡ exchanged (map (mirrored end) (reverse back.old.items)) (from - ahead) (to - ahead)
+        (map (shifted 0 base) items.old.items) }
+    ensures items { items.new.items
+        ≡ map (shifted base 0)
+        (slice_range (map (mirrored end) (reverse back.old.items)) (from - ahead) (to - ahead)) }
     ensures back_low { All (λ place. place ≤ end) back.new.items }
     ensures len { vec_len back.new ≡ vec_len back.old }
     ensures items_room { vec_capacity items.new ≡ vec_capacity items.old }
@@ -197,9 +204,12 @@ fn exchange_round(
     requires front_low { All (λ place. place ≤ end) front.old.items }
     requires back_low { All (λ place. place ≤ end) back.old.items }
     requires items_low { All (λ place. place ≤ others_end) items.old.items }
-    requires can { CanExchangePlaces (round_gap front.old.items back.old.items end) end from to base less more others_end }
-    ensures list { round_gap front.new.items back.new.items (end - less + more) ≡ with_places (round_gap front.old.items back.old.items end) from to items.old.items base less more }
-    ensures items { items.new.items ≡ map (shifted base 0) (slice_range (round_gap front.old.items back.old.items end) from to) }
+    requires can { CanExchangePlaces (round_gap front.old.items back.old.items end) end from to base less more
+        others_end }
+    ensures list { round_gap front.new.items back.new.items (end - less + more)
+        ≡ with_places (round_gap front.old.items back.old.items end) from to items.old.items base less more }
+    ensures items { items.new.items
+        ≡ map (shifted base 0) (slice_range (round_gap front.old.items back.old.items end) from to) }
     ensures fits { vec_len front.new + vec_len back.new ≤ vec_capacity front.new }
     ensures front_low { All (λ place. place ≤ end - less + more) front.new.items }
     ensures back_low { All (λ place. place ≤ end - less + more) back.new.items }

@@ -68,7 +68,7 @@ pub fn pour<T>(from: &mut Vec<T>, to: &mut Vec<T>, count: usize)
 }
 
 /// Turns the items of a list from a place on.
-fn reverse_from<T>(list: &mut Vec<T>, place: usize)
+pub fn reverse_from<T>(list: &mut Vec<T>, place: usize)
     requires { place ≤ vec_len list.old }
     ensures items { list.new.items ≡ take place list.old.items ++ reverse (drop place list.old.items) }
     ensures len { vec_len list.new ≡ vec_len list.old }
@@ -94,7 +94,9 @@ fn hand_over<T>(from: &mut Vec<T>, to: &mut Vec<T>, count: usize)
 /// Moves the last items of a list to a place of it.
 fn bring_back<T>(list: &mut Vec<T>, place: usize, count: usize)
     requires { place + count ≤ vec_len list.old }
-    ensures items { list.new.items ≡ take place list.old.items ++ (drop (length list.old.items - count) list.old.items ++ slice_range list.old.items place (length list.old.items - count)) }
+    ensures items { list.new.items ≡ take place list.old.items
+        ++ (drop (length list.old.items - count) list.old.items
+        ++ slice_range list.old.items place (length list.old.items - count)) }
     ensures len { vec_len list.new ≡ vec_len list.old }
     ensures room { vec_capacity list.new ≡ vec_capacity list.old }
 {
@@ -104,7 +106,8 @@ fn bring_back<T>(list: &mut Vec<T>, place: usize, count: usize)
 /// Moves items at a place of a list to its end.
 fn send_off<T>(list: &mut Vec<T>, place: usize, count: usize)
     requires { place + count ≤ vec_len list.old }
-    ensures items { list.new.items ≡ take place list.old.items ++ (drop (place + count) list.old.items ++ slice_range list.old.items place (place + count)) }
+    ensures items { list.new.items ≡ take place list.old.items
+        ++ (drop (place + count) list.old.items ++ slice_range list.old.items place (place + count)) }
     ensures len { vec_len list.new ≡ vec_len list.old }
     ensures room { vec_capacity list.new ≡ vec_capacity list.old }
 {
