@@ -1,11 +1,11 @@
 //! Files as a shelf. It tells no content, and counts a fault at each error of a store, and at each of a fetch but those of a missing
 //! file and of want of memory. A store takes the place of no file that another program wrote.
-ghost use Rattle.std.specs.Prelude.{◌≡◌, ◌≤◌, Some, Ok, IfSome, IfOk, IsTrue, OnOk};
+ghost use Rattle.std.specs.Prelude.{◌≡◌, ◌≤◌, ℕ, List, None, Some, Ok, IfSome, IfOk, IsTrue, OnErr, OnOk};
 ghost use Rattle.std.specs.Io.KnownBytes.{Appends};
 ghost use Rattle.std.specs.BTreeMap.{get_by_text};
 ghost use Rattle.sp_kit.specs.Causes.{Rose};
 ghost use Rattle.sp_kit.specs.Files.{FetchesAtMost, FetchGives, HasShelfCause};
-ghost use Rattle.sp_system.specs.Known.{IsAsKnown, KnowsBytes, KnowsFetched};
+ghost use Rattle.sp_system.specs.Known.{IsAsKnown, KeepsKnown, KnowsBytes, KnowsFetched, KnowsOthers};
 
 use crate::known::{Content, Known, Names, know, know_fetched, make_room};
 use sp_kit::{Fetched, Shelf, ShelfFault};
@@ -35,7 +35,11 @@ pub struct FileShelf<'a, R: Files> {
 impl<'a, R: Files> FileShelf<'a, R> {
     /// The files of this system; none is known, and no fault is counted yet. Where it `guards` them, what is fetched is known from
     /// then on, for a digest of its bytes; what only fetches needs no guard. Takes no memory.
-    pub fn new(alloc: Global, system: &'a R, guards: bool) -> Self {
+    pub fn new(alloc: Global, system: &'a R, guards: bool) -> Self
+        ensures guards { result.guards ≡ guards }
+        ensures names { (name : List ℕ) → get_by_text result.names name ≡ None }
+        ensures faults { result.faults ≡ 0 }
+    {
         FileShelf {
             system,
             alloc,
@@ -218,7 +222,9 @@ fn store_file<R: Files>(
     name: &str,
     bytes: &[u8],
 ) -> io::Result<()>
-    ensures { OnOk result (KnowsBytes (get_by_text names.new name.now) bytes.now) }
+    ensures known { OnOk result (KnowsBytes (get_by_text names.new name.now) bytes.now) }
+    ensures others { KnowsOthers names.old names.new name.now }
+    ensures kept { OnErr result (KeepsKnown names.old names.new) }
 {
     make_room(alloc, names, name)?;
     let path = follow_links(system, alloc, name)?;
@@ -232,11 +238,15 @@ impl<'a, R: Files> Shelf for FileShelf<'a, R> {
 
     ghost state = { λ s. record { files = None; faults = s.faults } };
 
-    /// Reads at most one byte more than `most`, and knows what it gives from here on, where it guards files.
+    /// Reads at most one byte more than `most`, and knows what it gives from here on, where it guards files. What is known of other
+    /// files stays.
     fn fetch(&mut self, name: &str, most: usize) -> Result<Fetched, ShelfFault>
         ensures bound { FetchesAtMost most result }
         ensures cause { HasShelfCause self.old.faults self.new.faults result }
         ensures known { IsTrue self.old.guards → IfOk result (KnowsFetched (get_by_text self.new.names name.now)) }
+        ensures others { KnowsOthers self.old.names self.new.names name.now }
+        ensures kept { OnErr result (KeepsKnown self.old.names self.new.names) }
+        ensures guards { self.new.guards ≡ self.old.guards }
     {
         let fetched = match fs::open(self.system, name) {
             Ok(file) => read_file(file, self.alloc, most),
@@ -256,10 +266,14 @@ impl<'a, R: Files> Shelf for FileShelf<'a, R> {
     }
 
     /// Writes the bytes beside the file first, and then puts them in its place. Where it fails the file is as it was, or
-    /// has the bytes. It fails where a file that was fetched or stored isn't as it is known any more, and is still there.
+    /// has the bytes. It fails where a file that was fetched or stored isn't as it is known any more, and is still there. What is known
+    /// of other files stays, and where it fails all that is known.
     fn store(&mut self, name: &str, bytes: &[u8]) -> Result<(), ShelfFault>
         ensures cause { HasShelfCause self.old.faults self.new.faults result }
         ensures known { OnOk result (KnowsBytes (get_by_text self.new.names name.now) bytes.now) }
+        ensures others { KnowsOthers self.old.names self.new.names name.now }
+        ensures kept { OnErr result (KeepsKnown self.old.names self.new.names) }
+        ensures guards { self.new.guards ≡ self.old.guards }
     {
         match store_file(self.system, self.alloc, &mut self.names, name, bytes) {
             Ok(()) => Ok(()),

@@ -1,8 +1,8 @@
 //! What a shelf knows of the files that it fetched and stored.
-ghost use Rattle.std.specs.Prelude.{◌≡◌, ◌↔◌, IfOk, IfSome, OnOk, IsSome, IsTrue, Some};
+ghost use Rattle.std.specs.Prelude.{◌≡◌, ◌↔◌, IfOk, IfSome, OnErr, OnOk, IsSome, IsTrue, Some};
 ghost use Rattle.std.specs.BTreeMap.{get_by_text};
 ghost use Rattle.sha2.specs.Sha256.{sha256};
-ghost use Rattle.sp_system.specs.Known.{IsContent, IsAsKnown, KnowsFetched};
+ghost use Rattle.sp_system.specs.Known.{IsContent, IsAsKnown, KeepsKnown, KnowsFetched, KnowsOthers};
 
 use sha2::{Digest, Sha256};
 use sp_kit::Fetched;
@@ -79,7 +79,9 @@ impl Known {
 
 /// Makes room to know the file under this name, and leaves what is known.
 pub fn make_room(alloc: Global, names: &mut Names, name: &str) -> Result<(), AllocError>
-    ensures { OnOk result (IsSome (get_by_text names.new name.now)) }
+    ensures there { OnOk result (IsSome (get_by_text names.new name.now)) }
+    ensures others { KnowsOthers names.old names.new name.now }
+    ensures kept { KeepsKnown names.old names.new }
 {
     let name = String::from_str(alloc, name)?;
     names.entry(name)?.or_insert(None);
@@ -88,7 +90,8 @@ pub fn make_room(alloc: Global, names: &mut Names, name: &str) -> Result<(), All
 
 /// From here on this is known under the name, where there is room.
 pub fn know(names: &mut Names, name: &str, known: Known)
-    ensures { IsSome (get_by_text names.old name.now) → get_by_text names.new name.now ≡ Some (Some known) }
+    ensures known { IsSome (get_by_text names.old name.now) → get_by_text names.new name.now ≡ Some (Some known) }
+    ensures others { KnowsOthers names.old names.new name.now }
 {
     if let Some(place) = names.get_mut(name) {
         *place = Some(known);
@@ -102,7 +105,9 @@ pub fn know_fetched(
     name: &str,
     fetched: &Fetched,
 ) -> Result<(), AllocError>
-    ensures { OnOk result (KnowsFetched (get_by_text names.new name.now) fetched.now) }
+    ensures known { OnOk result (KnowsFetched (get_by_text names.new name.now) fetched.now) }
+    ensures others { KnowsOthers names.old names.new name.now }
+    ensures kept { OnErr result (KeepsKnown names.old names.new) }
 {
     let known = match fetched {
         Fetched::Absent => Known::Absent,

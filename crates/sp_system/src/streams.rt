@@ -1,4 +1,5 @@
 //! Streams as a source and as sinks. They tell what their streams tell, and count a fault at each error.
+ghost use Rattle.std.specs.Prelude.{◌≡◌};
 
 use sp_kit::{Failed, Sink, Source};
 use std::io::{Read, Write};
@@ -12,7 +13,10 @@ pub struct Input<R: Read + Drop> {
 
 impl<R: Read + Drop> Input<R> {
     /// Reads from this stream; no fault is counted yet. Takes no memory.
-    pub fn new(stream: R) -> Self {
+    pub fn new(stream: R) -> Self
+        ensures stream { result.stream ≡ stream }
+        ensures faults { result.faults ≡ 0 }
+    {
         Input { stream, faults: 0 }
     }
 }
@@ -40,7 +44,10 @@ pub struct Output<W: Write + Drop> {
 
 impl<W: Write + Drop> Output<W> {
     /// Writes to this stream; no fault is counted yet. Takes no memory.
-    pub fn new(stream: W) -> Self {
+    pub fn new(stream: W) -> Self
+        ensures stream { result.stream ≡ stream }
+        ensures faults { result.faults ≡ 0 }
+    {
         Output { stream, faults: 0 }
     }
 }
