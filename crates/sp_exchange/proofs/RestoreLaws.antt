@@ -10,8 +10,8 @@ use Rattle.spec_edit.proofs.Counts.{count-from}
 use Rattle.spec_edit.proofs.Edits.{edited-back, edited-lines}
 use Rattle.sp_text.specs.DisplacedLines.{DisplacedState, displaced_of}
 use Rattle.sp_text.specs.Gap.{LinesState, text_of}
-use Rattle.sp_reread.specs.Cache.{GivesBack, StanzasState, SwappedState, exchanged}
-use Rattle.sp_exchange.specs.Restoring.{CanRestoreText, HasRoomFor, IsSameText, IsTurned, Swap, swap_of, text_before, text_stanzas}
+use Rattle.sp_reread.specs.Cache.{GivesBack, SwappedState, exchanged}
+use Rattle.sp_exchange.specs.Restoring.{CanRestoreText, HasRoomFor, IsSameText, IsTurned, Swap, TextOf, stanzas_in, swap_of, text_before, text_stanzas}
 
 -- The stanzas before an edit are those of some text that the edit made this one.
 pub was-list : (old new : TextState) (back : Displacement) (stanzas : List StanzaOf) → back.first + back.stands ≤ length new.lines → restored new back ≡ old → stanzas ≡ text_stanzas old
@@ -93,18 +93,17 @@ pub stanzas-room : (swapped : SwappedState) (now before : List StanzaOf) (old ne
 stanzas-room swapped now before old new g fits grows = omega (arith, gives-length swapped now before g, g.within, fits, grows)
 
 -- There is room to take a change back.
-pub room-back : (old new : LinesState) (olds news : StanzasState) (back : DisplacedState) (swapped : SwappedState) → CanRestoreText (text_of new) back swapped → text_before (text_of new) back ≡ text_of old
-    → olds.stanzas ≡ text_stanzas (text_of old) → news.stanzas ≡ text_stanzas (text_of new) → length old.lines ≤ old.room → old.room ≤ new.room → length olds.stanzas ≤ olds.room → olds.room ≤ news.room
-    → back.stands ≤ back.room → swapped.stands ≤ swapped.room → HasRoomFor new news back swapped
-room-back old new olds news back swapped can leads stanzas_were stanzas_are fits grows stanzas_fit stanzas_grow room swapped_room =
-    let given = subst (λ (t : TextState). GivesBack swapped (text_stanzas (text_of new)) (text_stanzas t)) leads can.stanzas in
-    let gives = subst (GivesBack swapped news.stanzas) (sym stanzas_were) (subst (λ (xs : List StanzaOf). GivesBack swapped xs (text_stanzas (text_of old))) (sym stanzas_are) given) in
-    record {
-      lines_room = lines-room old new back can.place leads fits grows;
-      displaced_room = room;
-      stanzas_room = stanzas-room swapped news.stanzas olds.stanzas olds.room news.room gives stanzas_fit stanzas_grow;
-      swapped_room = swapped_room;
-    }
+pub room-back : (old new : TextOf) (back : DisplacedState) (swapped : SwappedState) → CanRestoreText (text_of new.lines) back swapped → text_before (text_of new.lines) back ≡ text_of old.lines
+    → length old.lines.lines ≤ old.lines.room → old.lines.room ≤ new.lines.room → length (stanzas_in old) ≤ old.room → old.room ≤ new.room → back.stands ≤ back.room → swapped.stands ≤ swapped.room
+    → HasRoomFor new back swapped
+room-back old new back swapped can leads fits grows stanzas_fit stanzas_grow room swapped_room = record {
+  lines_room = lines-room old.lines new.lines back can.place leads fits grows;
+  displaced_room = room;
+  stanzas_room =
+      stanzas-room swapped (stanzas_in new) (stanzas_in old) old.room new.room
+      (subst (λ (t : TextState). GivesBack swapped (stanzas_in new) (text_stanzas t)) leads can.stanzas) stanzas_fit stanzas_grow;
+  swapped_room = swapped_room;
+}
 
 same-gives : (this that : SwappedState) (now before : List StanzaOf) → swap_of this ≡ swap_of that → GivesBack that now before → GivesBack this now before
 same-gives this that now before is g = record {

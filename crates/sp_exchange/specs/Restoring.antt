@@ -11,11 +11,19 @@ use Rattle.sp_text.specs.declared.edit.Edit.{Edit}
 use Rattle.sp_text.specs.Changing.{edit_of}
 use Rattle.sp_text.specs.Gap.{LinesState, text_of}
 use Rattle.sp_text.specs.DisplacedLines.{DisplacedState, displaced_of}
-use Rattle.sp_reread.specs.Cache.{GivesBack, StandInWindow, StanzasState, SwappedState, texts_in}
+use Rattle.sp_reread.specs.Cache.{GivesBack, StandInWindow, SwappedState, texts_in}
 
 -- The stanzas of a text.
 abbrev pub text_stanzas : TextState → List StanzaOf
 text_stanzas text = stanzas_of (line_texts text.lines)
+
+-- Lines, and for how many stanzas there is room without taking memory. The stanzas are those of the lines.
+pub record TextOf : Type 0 where
+  pub lines : LinesState
+  pub room : ℕ
+
+abbrev pub stanzas_in : TextOf → List StanzaOf
+stanzas_in text = text_stanzas (text_of text.lines)
 
 -- What an edit replaces of these lines, why it is refused, and the text after it in a round.
 abbrev pub replacement_in : LinesState → Edit → Replacement
@@ -68,10 +76,10 @@ pub record IsTurned (text : TextState) (back : DisplacedState) (swapped : Swappe
   pub stands : others.stands ≡ length swapped.stanzas
 
 -- There is room for what putting it back takes.
-pub record HasRoomFor (lines : LinesState) (stanzas : StanzasState) (back : DisplacedState) (swapped : SwappedState) : Type 0 where
-  pub lines_room : length lines.lines - back.stands + length back.lines ≤ lines.room
+pub record HasRoomFor (text : TextOf) (back : DisplacedState) (swapped : SwappedState) : Type 0 where
+  pub lines_room : length text.lines.lines - back.stands + length back.lines ≤ text.lines.room
   pub displaced_room : back.stands ≤ back.room
-  pub stanzas_room : length stanzas.stanzas - swapped.stands + length swapped.stanzas ≤ stanzas.room
+  pub stanzas_room : length (stanzas_in text) - swapped.stands + length swapped.stanzas ≤ text.room
   pub swapped_room : swapped.stands ≤ swapped.room
 
 -- Displaced stanzas, without their room.

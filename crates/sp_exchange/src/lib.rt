@@ -1,7 +1,7 @@
-//! The lines of a text and its stanzas, exchanged together: an edit reads the stanzas of its window anew, and what it
-//! displaced is put back without reading.
+//! The lines of a text with its stanzas, one value: an edit reads the stanzas of its window anew, and what it displaced is put
+//! back without reading.
 #![tactic(auto)]
 
-mod change;
+mod text;
 
-pub use change::{UnrestoredText, change_text, restore_text};
+pub use text::{Text, UnrestoredText};

@@ -13,7 +13,6 @@ ghost use Rattle.sp_text.specs.Gap.{text_of};
 ghost use Rattle.spec_state.specs.StateSheets.{body_sheets, sheets_of_state};
 ghost use Rattle.sp_reread.specs.Cache.{texts_in, ReadsAtMostAll, ReadsAll};
 ghost use Rattle.sp_exchange.specs.Reads.{IsRefused};
-ghost use Rattle.sp_exchange.specs.Restoring.{text_stanzas};
 ghost use Rattle.sp_sheets.specs.Made.{IsMadeOf};
 ghost use Rattle.sp_sheets.specs.Openings.{IsOpening};
 ghost use Rattle.sp_text_entry.specs.Reads.{ReadsEdit, ReadsEditAtMost};
@@ -25,12 +24,12 @@ ghost use Rattle.sp_text_entry.specs.TextEntries.{edited_by, refusal_at};
 
 use crate::editing::{edit_made, made_on, made_with_speakers, put_made, turn_made};
 use crate::entry::{Entry, Unturned};
+use sp_exchange::Text;
 use sp_kit::Steps;
 use sp_locks::Sheet;
 use sp_print::PageView;
 use sp_records::{OpeningFault, Records};
 use sp_reflow::Pages;
-use sp_reread::Stanzas;
 use sp_sheets::{
     Made, StateView, lock_pages_made, lock_scenes_made, made_sheet, made_starts, made_title, make,
     next_round_made, sheet_count, title_count,
@@ -40,11 +39,10 @@ use spec_pages::Paper;
 use std::alloc::{AllocError, Global};
 use std::marker::Model;
 
-/// A script: its lines, their stanzas, its records, and what is made of them: the rows of its elements, its pages and its
+/// A script: its lines with their stanzas, its records, and what is made of them: the rows of its elements, its pages and its
 /// sheets (docs/RULES.md, "The desk" and "Sheets"). Contracts see the state alone.
 pub struct Script {
-    lines: Lines,
-    stanzas: Stanzas,
+    text: Text,
     records: Records,
     pages: Pages,
     made: Made,
@@ -56,8 +54,7 @@ pub struct Script {
 impl Drop for Script {
     fn drop(self) {
         let Script {
-            lines: _lines,
-            stanzas: _stanzas,
+            text: _text,
             records: _records,
             pages: _pages,
             made: _made,
@@ -68,44 +65,41 @@ impl Drop for Script {
 
 impl Model for Script {
     ghost use Rattle.std.specs.Prelude.{◌≡◌, IfSome};
-    ghost use Rattle.sp_text.specs.Gap.{text_of};
     ghost use Rattle.spec_state.specs.State.{State};
     ghost use Rattle.spec_state.specs.Keeping.{IsWhole};
-    ghost use Rattle.sp_sheets.specs.States.{state_in};
-    ghost use Rattle.sp_exchange.specs.Restoring.{text_stanzas};
+    ghost use Rattle.sp_text_entry.specs.TextEntries.{state_with};
     ghost use Rattle.spec_locked_pages.specs.Segments.{pages_of};
     ghost use Rattle.sp_sheets.specs.Firsts.{first_rows};
     ghost use Rattle.sp_sheets.specs.Made.{IsMadeOf};
 
     ghost Value = { State };
 
-    ghost view = { λ s. state_in s.lines s.records };
+    ghost view = { λ s. state_with s.text s.records };
 
-    ghost invariant = { λ s. IsWhole (state_in s.lines s.records) × IsMadeOf (state_in s.lines s.records) s.made
-        × (s.stanzas.stanzas ≡ text_stanzas (text_of s.lines))
-        × (s.pages.starts ≡ pages_of (state_in s.lines s.records))
-        × IfSome s.firsts (λ those. those.items ≡ first_rows (state_in s.lines s.records)) };
+    ghost invariant = { λ s. IsWhole (state_with s.text s.records) × IsMadeOf (state_with s.text s.records) s.made
+        × (s.pages.starts ≡ pages_of (state_with s.text s.records))
+        × IfSome s.firsts (λ those. those.items ≡ first_rows (state_with s.text s.records)) };
 }
 
-/// The stanzas of lines, and what is made of them with these records. Each stanza is read once, and each page filled once.
+/// Lines with their stanzas, and what is made of them with these records. Each stanza is read once, and each page filled once.
 fn read_and_make<S: Steps>(
     alloc: Global,
-    lines: &Lines,
+    lines: Lines,
     records: &Records,
     steps: &mut S,
-) -> Result<(Stanzas, Made, Pages), AllocError>
-    requires { IsWhole (state_in lines.now records.now) }
-    ensures stanzas { IfOk result (λ it. it.0.stanzas ≡ text_stanzas (text_of lines.now)) }
-    ensures made { IfOk result (λ it. IsMadeOf (state_in lines.now records.now) it.1) }
-    ensures pages { IfOk result (λ it. it.2.starts ≡ pages_of (state_in lines.now records.now)) }
-    ensures reads { OnOk result (ReadsAll (texts_in lines.now) (S.reads steps.old) (S.reads steps.new)) }
-    ensures at_most { ReadsAtMostAll (texts_in lines.now) (S.reads steps.old) (S.reads steps.new) }
-    ensures fills { OnOk result (FillsAll (state_in lines.now records.now) (S.fills steps.old) (S.fills steps.new)) }
-    ensures fills_at_most { FillsAtMostAll (state_in lines.now records.now) (S.fills steps.old) (S.fills steps.new) }
+) -> Result<(Text, Made, Pages), AllocError>
+    requires { IsWhole (state_in lines records.now) }
+    ensures lines { IfOk result (λ it. it.0.lines ≡ lines) }
+    ensures made { IfOk result (λ it. IsMadeOf (state_in lines records.now) it.1) }
+    ensures pages { IfOk result (λ it. it.2.starts ≡ pages_of (state_in lines records.now)) }
+    ensures reads { OnOk result (ReadsAll (texts_in lines) (S.reads steps.old) (S.reads steps.new)) }
+    ensures at_most { ReadsAtMostAll (texts_in lines) (S.reads steps.old) (S.reads steps.new) }
+    ensures fills { OnOk result (FillsAll (state_in lines records.now) (S.fills steps.old) (S.fills steps.new)) }
+    ensures fills_at_most { FillsAtMostAll (state_in lines records.now) (S.fills steps.old) (S.fills steps.new) }
 {
-    let stanzas = Stanzas::new(alloc, lines, steps)?;
-    let (made, pages) = make(alloc, lines, &stanzas, records, steps)?;
-    Ok((stanzas, made, pages))
+    let text = Text::new(alloc, lines, steps)?;
+    let (made, pages) = make(alloc, text.lines(), text.stanzas(), records, steps)?;
+    Ok((text, made, pages))
 }
 
 /// Makes the index of ids where pages are locked, since page records are carried by it.
@@ -151,10 +145,9 @@ impl Script {
     {
         let mut lines = lines;
         index_ids(&mut lines, &records)?;
-        let (stanzas, made, pages) = read_and_make(alloc, &lines, &records, steps)?;
+        let (text, made, pages) = read_and_make(alloc, lines, &records, steps)?;
         Ok(Script {
-            lines,
-            stanzas,
+            text,
             records,
             pages,
             made,
@@ -166,14 +159,16 @@ impl Script {
     pub fn view(&self) -> StateView<'_>
         ensures { result ≡ self.now }
     {
-        StateView::new(&self.lines, &self.stanzas, &self.records, &self.made)
+        let lines = self.text.lines();
+        let stanzas = self.text.stanzas();
+        StateView::new(lines, stanzas, &self.records, &self.made)
     }
 
     /// Lends its lines.
     pub fn lines(&self) -> &Lines
         ensures { text_of result.now ≡ state_text self.now }
     {
-        &self.lines
+        self.text.lines()
     }
 
     /// Lends its round, its settings and its records.
@@ -197,7 +192,8 @@ impl Script {
     pub fn page_starts(&self, alloc: Global) -> Result<Vec<usize>, AllocError>
         ensures { IfOk result (λ starts. starts.items ≡ locked_starts_in self.now) }
     {
-        made_starts(alloc, &self.lines, &self.records, &self.made)
+        let lines = self.text.lines();
+        made_starts(alloc, lines, &self.records, &self.made)
     }
 
     /// How many sheets it has, those of its title page counted. Takes no memory.
@@ -212,11 +208,12 @@ impl Script {
         ensures some { IfSome result (λ page. slice_get (sheets_of_state self.now) i ≡ Some page) }
         ensures none { IfNone result (length (sheets_of_state self.now) ≤ i) }
     {
+        let lines = self.text.lines();
         let count = title_count(&self.made);
         if i < count {
-            return Some(made_title(&self.lines, &self.made, i));
+            return Some(made_title(lines, &self.made, i));
         }
-        made_sheet(&self.lines, &self.made, i - count)
+        made_sheet(lines, &self.made, i - count)
     }
 
     /// Makes an edit, and answers the entry that undoes it. Each stanza of its window is read once, the part of the layout that
@@ -248,8 +245,7 @@ impl Script {
     {
         let entry = edit_made(
             alloc,
-            &mut self.lines,
-            &mut self.stanzas,
+            &mut self.text,
             &mut self.records,
             &mut self.made.layout,
             &mut self.pages,
@@ -279,8 +275,7 @@ impl Script {
     {
         let other = turn_made(
             alloc,
-            &mut self.lines,
-            &mut self.stanzas,
+            &mut self.text,
             &mut self.records,
             &mut self.made.layout,
             &mut self.pages,
@@ -299,8 +294,7 @@ impl Script {
     {
         let made = made_with_speakers(
             alloc,
-            &self.lines,
-            &self.stanzas,
+            &self.text,
             &mut self.records,
             &self.pages,
             &self.made.numbered.title_starts,
@@ -326,14 +320,7 @@ impl Script {
         ensures fills_at_most { FillsAtMostAll (record self.old { paper = paper })
             (S.fills steps.old) (S.fills steps.new) }
     {
-        let (made, pages) = made_on(
-            alloc,
-            &self.lines,
-            &self.stanzas,
-            &mut self.records,
-            paper,
-            steps,
-        )?;
+        let (made, pages) = made_on(alloc, &self.text, &mut self.records, paper, steps)?;
         put_made(&mut self.made, &mut self.firsts, made);
         self.pages = pages;
         Ok(())
@@ -346,13 +333,9 @@ impl Script {
         ensures { IsOpening (scenes_refusal self.old) (scenes_locked self.old) self.old self.new result }
     {
         self.firsts = None;
-        lock_scenes_made(
-            alloc,
-            &self.lines,
-            &self.stanzas,
-            &mut self.records,
-            &mut self.made,
-        )
+        let lines = self.text.lines();
+        let stanzas = self.text.stanzas();
+        lock_scenes_made(alloc, lines, stanzas, &mut self.records, &mut self.made)
     }
 
     /// Locks pages: each page gets a record, and each heading that has none (docs/RULES.md, "Page records"). No stanza is
@@ -362,14 +345,10 @@ impl Script {
         ensures { IsOpening (pages_refusal self.old) (pages_locked self.old) self.old self.new result }
     {
         self.firsts = None;
-        self.lines.make_index()?;
-        lock_pages_made(
-            alloc,
-            &self.lines,
-            &self.stanzas,
-            &mut self.records,
-            &self.made,
-        )
+        self.text.make_index()?;
+        let lines = self.text.lines();
+        let stanzas = self.text.stanzas();
+        lock_pages_made(alloc, lines, stanzas, &mut self.records, &self.made)
     }
 
     /// Begins the next round: where scenes are locked each heading that has no record gets one, and where pages are locked each
@@ -380,12 +359,8 @@ impl Script {
         ensures { IsOpening (round_refusal self.old) (round_begun self.old) self.old self.new result }
     {
         self.firsts = None;
-        next_round_made(
-            alloc,
-            &self.lines,
-            &self.stanzas,
-            &mut self.records,
-            &self.made,
-        )
+        let lines = self.text.lines();
+        let stanzas = self.text.stanzas();
+        next_round_made(alloc, lines, stanzas, &mut self.records, &self.made)
     }
 }

@@ -4,8 +4,6 @@ ghost use Rattle.std.specs.Bool.{OnTrue};
 ghost use Rattle.spec_state.specs.Keeping.{IsWhole};
 ghost use Rattle.spec_state.specs.StateSheets.{title_starts};
 ghost use Rattle.spec_locked_pages.specs.Segments.{pages_of};
-ghost use Rattle.sp_text.specs.Gap.{text_of};
-ghost use Rattle.sp_exchange.specs.Restoring.{text_stanzas};
 ghost use Rattle.sp_reflow.specs.Updates.{CanPutBack, taken_back, taken_of, with_taken};
 ghost use Rattle.sp_layout.specs.Changes.{CanChange, with_change};
 ghost use Rattle.sp_layout.specs.Kept.{laid_of};
@@ -16,14 +14,15 @@ ghost use Rattle.sp_sheets.specs.Made.{IsNumberedOf};
 ghost use Rattle.sp_sheets.specs.Pages.{labels_in, WerePageSheets, WereUnmarkedSheets};
 ghost use Rattle.sp_sheets.specs.Titles.{laid_titles};
 ghost use Rattle.sp_sheets.specs.States.{state_in};
+ghost use Rattle.sp_text_entry.specs.TextEntries.{state_with};
 ghost use Rattle.sp_state.specs.Fills.{exchange_of, AreStartsBefore, RefillsWindow, RefillsAtMost};
 ghost use Rattle.sp_state.specs.Entries.{LeadToSame};
 
+use sp_exchange::Text;
 use sp_kit::Steps;
 use sp_layout::{KeptLayout, LayoutChange, UnchangedLayout};
 use sp_records::Records;
 use sp_reflow::{Pages, SwappedPages, UnswappedPages};
-use sp_reread::Stanzas;
 use sp_sheets::{
     Numbered, firsts_stay, keeps_headings, laid_firsts, laid_stops, leaves_titles, renumber,
     rows_on,
@@ -103,8 +102,7 @@ fn pages_stay(keeps_firsts: bool, pages: &Pages, swapped: &SwappedPages) -> bool
 /// but for their rounds, if pages stay too. On an error there was no memory, and nothing is changed.
 pub(crate) fn refilled<S: Steps>(
     alloc: Global,
-    lines: &Lines,
-    stanzas: &Stanzas,
+    text: &Text,
     records: &Records,
     layout: &KeptLayout,
     firsts: &[usize],
@@ -118,35 +116,44 @@ pub(crate) fn refilled<S: Steps>(
     new: usize,
     steps: &mut S,
 ) -> Result<SwappedPages, AllocError>
-    requires whole { IsWhole (state_in lines.now records.now) }
-    requires stanzas { stanzas.now.stanzas ≡ text_stanzas (text_of lines.now) }
-    requires laid { IsLaidOf (state_in lines.now records.now) (laid_of layout.now) }
-    requires firsts { firsts.now ≡ first_rows (state_in lines.now records.now) }
-    requires stale { AreStartsBefore (state_in lines.now records.now) (exchange_of first old new) pages.old.starts }
-    requires labels { IsTrue keeps_labels → numbered.old.labels ≡ labels_in lines.now records.now }
-    requires titles { IsTrue keeps_titles → numbered.old.title_starts ≡ title_starts (state_in lines.now records.now) }
+    requires whole { IsWhole (state_with text.now records.now) }
+    requires laid { IsLaidOf (state_with text.now records.now) (laid_of layout.now) }
+    requires firsts { firsts.now ≡ first_rows (state_with text.now records.now) }
+    requires stale { AreStartsBefore (state_with text.now records.now) (exchange_of first old new) pages.old.starts }
+    requires labels { IsTrue keeps_labels → numbered.old.labels ≡ labels_in text.now.lines records.now }
+    requires titles { IsTrue keeps_titles
+        → numbered.old.title_starts ≡ title_starts (state_with text.now records.now) }
     requires sheets { WereUnmarkedSheets records.now pages.old.starts numbered.old.sheets }
     requires kept { IsTrue keeps_firsts → WerePageSheets records.now firsts.now pages.old.starts numbered.old.sheets }
-    ensures pages { OnOk result (pages.new.starts ≡ pages_of (state_in lines.now records.now)) }
+    ensures pages { OnOk result (pages.new.starts ≡ pages_of (state_with text.now records.now)) }
     ensures back { IfOk result (λ it. with_taken pages.new.starts it ≡ pages.old.starts) }
     ensures can { IfOk result (λ it. CanPutBack pages.new.starts it) }
-    ensures numbered { OnOk result (IsNumberedOf (state_in lines.now records.now) numbered.new) }
+    ensures numbered { OnOk result (IsNumberedOf (state_with text.now records.now) numbered.new) }
     ensures same_numbered { OnErr result (numbered.new ≡ numbered.old) }
-    ensures fills { OnOk result (RefillsWindow (state_in lines.now records.now)
+    ensures fills { OnOk result (RefillsWindow (state_with text.now records.now)
         (exchange_of first old new) pages.old.starts (S.fills steps.old) (S.fills steps.new)) }
-    ensures at_most { RefillsAtMost (state_in lines.now records.now)
+    ensures at_most { RefillsAtMost (state_with text.now records.now)
         (exchange_of first old new) pages.old.starts (S.fills steps.old) (S.fills steps.new) }
     ensures reads { S.reads steps.new ≡ S.reads steps.old }
     ensures same { OnErr result (pages.new.starts ≡ pages.old.starts) }
 {
     let swapped = update_pages(
-        alloc, lines, records, layout, firsts, pages, first, old, new, steps,
+        alloc,
+        text.lines(),
+        records,
+        layout,
+        firsts,
+        pages,
+        first,
+        old,
+        new,
+        steps,
     )?;
     let keeps_pages = pages_stay(keeps_firsts, pages, &swapped);
     match renumber(
         alloc,
-        lines,
-        stanzas,
+        text.lines(),
+        text.stanzas(),
         records,
         layout,
         firsts,
@@ -179,8 +186,7 @@ struct TurnedPages {
 /// starts, labels and sheets are as they were.
 fn turned_pages(
     alloc: Global,
-    lines: &Lines,
-    stanzas: &Stanzas,
+    text: &Text,
     records: &Records,
     layout: &KeptLayout,
     known: &Option<Vec<usize>>,
@@ -190,21 +196,21 @@ fn turned_pages(
     keeps_labels: bool,
     keeps_titles: bool,
 ) -> Result<TurnedPages, UnswappedPages>
-    requires whole { IsWhole (state_in lines.now records.now) }
-    requires stanzas { stanzas.now.stanzas ≡ text_stanzas (text_of lines.now) }
-    requires laid { IsLaidOf (state_in lines.now records.now) (laid_of layout.now) }
+    requires whole { IsWhole (state_with text.now records.now) }
+    requires laid { IsLaidOf (state_with text.now records.now) (laid_of layout.now) }
     requires can { CanPutBack pages.old.starts back }
-    requires leads { with_taken pages.old.starts back ≡ pages_of (state_in lines.now records.now) }
-    requires labels { IsTrue keeps_labels → numbered.old.labels ≡ labels_in lines.now records.now }
-    requires titles { IsTrue keeps_titles → numbered.old.title_starts ≡ title_starts (state_in lines.now records.now) }
+    requires leads { with_taken pages.old.starts back ≡ pages_of (state_with text.now records.now) }
+    requires labels { IsTrue keeps_labels → numbered.old.labels ≡ labels_in text.now.lines records.now }
+    requires titles { IsTrue keeps_titles
+        → numbered.old.title_starts ≡ title_starts (state_with text.now records.now) }
     requires sheets { WereUnmarkedSheets records.now pages.old.starts numbered.old.sheets }
     requires kept { IfSome known.now (λ those.
         WerePageSheets records.now those.items pages.old.starts numbered.old.sheets) }
-    ensures pages { OnOk result (pages.new.starts ≡ pages_of (state_in lines.now records.now)) }
+    ensures pages { OnOk result (pages.new.starts ≡ pages_of (state_with text.now records.now)) }
     ensures back { IfOk result (λ it. with_taken pages.new.starts it.pages ≡ pages.old.starts) }
     ensures can { IfOk result (λ it. CanPutBack pages.new.starts it.pages) }
-    ensures firsts { IfOk result (λ it. it.firsts.items ≡ first_rows (state_in lines.now records.now)) }
-    ensures numbered { OnOk result (IsNumberedOf (state_in lines.now records.now) numbered.new) }
+    ensures firsts { IfOk result (λ it. it.firsts.items ≡ first_rows (state_with text.now records.now)) }
+    ensures numbered { OnOk result (IsNumberedOf (state_with text.now records.now) numbered.new) }
     ensures same_numbered { OnErr result (numbered.new ≡ numbered.old) }
     ensures same { OnErr result (pages.new.starts ≡ pages.old.starts) }
     ensures handed_back { IfErr result (λ error. taken_of error.back ≡ taken_of back) }
@@ -214,7 +220,7 @@ fn turned_pages(
         Some(firsts) => firsts.as_slice(),
         None => none,
     };
-    let Ok(firsts) = laid_firsts(alloc, lines, records, layout, near) else {
+    let Ok(firsts) = laid_firsts(alloc, text.lines(), records, layout, near) else {
         return Err(UnswappedPages { back });
     };
     let other = pages.put_back(back)?;
@@ -222,8 +228,8 @@ fn turned_pages(
     let keeps_pages = pages_stay(keeps_firsts, pages, &other);
     match renumber(
         alloc,
-        lines,
-        stanzas,
+        text.lines(),
+        text.stanzas(),
         records,
         layout,
         &firsts,
@@ -267,8 +273,7 @@ pub(crate) struct UnturnedPages {
 /// there was no memory, all four are as they were, and what is handed back leads where what was to be put back led.
 pub(crate) fn turn_layout(
     alloc: Global,
-    lines: &Lines,
-    stanzas: &Stanzas,
+    text: &Text,
     records: &Records,
     layout: &mut KeptLayout,
     known: &Option<Vec<usize>>,
@@ -277,26 +282,25 @@ pub(crate) fn turn_layout(
     back: SwappedPages,
     numbered: &mut Numbered,
 ) -> Result<Turned, UnturnedPages>
-    requires whole { IsWhole (state_in lines.now records.now) }
-    requires stanzas { stanzas.now.stanzas ≡ text_stanzas (text_of lines.now) }
+    requires whole { IsWhole (state_with text.now records.now) }
     requires can_change { CanChange (laid_of layout.old) change }
-    requires laid { IsLaidOf (state_in lines.now records.now) (with_change (laid_of layout.old) change) }
+    requires laid { IsLaidOf (state_with text.now records.now) (with_change (laid_of layout.old) change) }
     requires can { CanPutBack pages.old.starts back }
-    requires leads { with_taken pages.old.starts back ≡ pages_of (state_in lines.now records.now) }
+    requires leads { with_taken pages.old.starts back ≡ pages_of (state_with text.now records.now) }
     requires labels { numbered.old.labels ≡ laid_labels (laid_of layout.old) (records.now).scenes }
     requires titles { numbered.old.title_starts ≡ laid_titles (laid_of layout.old) (records.now).paper }
     requires sheets { WereUnmarkedSheets records.now pages.old.starts numbered.old.sheets }
     requires kept { IfSome known.now (λ those.
         WerePageSheets records.now those.items pages.old.starts numbered.old.sheets) }
-    ensures laid { OnOk result (IsLaidOf (state_in lines.now records.now) (laid_of layout.new)) }
+    ensures laid { OnOk result (IsLaidOf (state_with text.now records.now) (laid_of layout.new)) }
     ensures places { IfOk result (λ it. StandsBack change it.layout) }
     ensures layout_back { IfOk result (λ it. with_change (laid_of layout.new) it.layout ≡ laid_of layout.old) }
     ensures can_change { IfOk result (λ it. CanChange (laid_of layout.new) it.layout) }
-    ensures pages { OnOk result (pages.new.starts ≡ pages_of (state_in lines.now records.now)) }
+    ensures pages { OnOk result (pages.new.starts ≡ pages_of (state_with text.now records.now)) }
     ensures back { IfOk result (λ it. with_taken pages.new.starts it.pages ≡ pages.old.starts) }
     ensures can { IfOk result (λ it. CanPutBack pages.new.starts it.pages) }
-    ensures firsts { IfOk result (λ it. it.firsts.items ≡ first_rows (state_in lines.now records.now)) }
-    ensures numbered { OnOk result (IsNumberedOf (state_in lines.now records.now) numbered.new) }
+    ensures firsts { IfOk result (λ it. it.firsts.items ≡ first_rows (state_with text.now records.now)) }
+    ensures numbered { OnOk result (IsNumberedOf (state_with text.now records.now) numbered.new) }
     ensures same_numbered { OnErr result (numbered.new ≡ numbered.old) }
     ensures same { OnErr result (pages.new.starts ≡ pages.old.starts) }
     ensures same_layout { OnErr result (laid_of layout.new ≡ laid_of layout.old) }
@@ -310,8 +314,7 @@ pub(crate) fn turn_layout(
             let keeps_titles = leaves_titles(&other);
             match turned_pages(
                 alloc,
-                lines,
-                stanzas,
+                text,
                 records,
                 layout,
                 known,

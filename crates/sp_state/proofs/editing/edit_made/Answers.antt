@@ -37,58 +37,58 @@ none-known (Some those) P is = absurd (let bad : ⊥ = cc in bad)
 
 pub refilled-requires-clause-stale : goal.refilled-requires-clause-stale
 refilled-requires-clause-stale g c stops are =
-    let old : State = state_of (text_of c.args.lines.now) c.args.records.now in
-    let new : State = state_of (text_of c.edit_entry.new.lines) c.edit_entry.new.records in
-    let it : Replacement = replacement_of c.args.lines.now.lines (edit_of c.args.edit) in
+    let old : State = state_of (text_of c.args.text.now.lines) c.args.records.now in
+    let new : State = state_of (text_of c.edit_entry.new.text.lines) c.edit_entry.new.records in
+    let it : Replacement = replacement_of c.args.text.now.lines.lines (edit_of c.args.edit) in
     let edit : Exchange = record { first = c.rows.inside.first; old = c.rows.inside.old; new = c.rows.inside.new } in
-    let found : IsExchangeOf old it edit = subst (IsExchangeOf old it) (sym c.rows.view_is) c.in_ok-text.ensures.rows in
-    stale-edited old new it edit c.args.pages.now.starts stops c.requires.whole (can-edit (text_of c.args.lines.now) c.args.records.now (edit_of c.args.edit) new c.in_ok-text.ensures.refuses c.in_ok-text.ensures.whole c.in_ok-text.ensures.state) c.in_ok-text.ensures.state c.requires.pages found are
+    let found : IsExchangeOf old it edit = subst (IsExchangeOf old it) (sym c.rows.view_is) c.in_ok-entry.ensures.rows in
+    stale-edited old new it edit c.args.pages.now.starts stops c.requires.whole (can-edit (text_of c.args.text.now.lines) c.args.records.now (edit_of c.args.edit) new c.in_ok-entry.ensures.refuses c.in_ok-entry.ensures.whole c.in_ok-entry.ensures.state) c.in_ok-entry.ensures.state c.requires.pages found are
 
 pub refilled-requires-clause-labels : goal.refilled-requires-clause-labels
 refilled-requires-clause-labels g c keeps =
-    let old : State = state_of (text_of c.args.lines.now) c.args.records.now in
-    let new : State = state_of (text_of c.edit_entry.new.lines) c.edit_entry.new.records in
+    let old : State = state_of (text_of c.args.text.now.lines) c.args.records.now in
+    let new : State = state_of (text_of c.edit_entry.new.text.lines) c.edit_entry.new.records in
     let layout = laid_of c.edit_entry.new.layout in
-    let change = c.in_ok-text.field-0.layout in
-    labels-after old new layout (with_change layout change) c.args.numbered.now.labels c.requires.whole.text c.in_ok-text.ensures.whole c.in_ok-text.ensures.laid
-    (c.in_ok-text.ensures.layout_back ∙ c.requires.laid) (ap (λ (s : State). s.scenes) c.in_ok-text.ensures.state) c.requires.numbered.labels (c.keeps_headings-keeps_labels.ensures.0 keeps)
+    let change = c.in_ok-entry.field-0.layout in
+    labels-after old new layout (with_change layout change) c.args.numbered.now.labels c.requires.whole.text c.in_ok-entry.ensures.whole c.in_ok-entry.ensures.laid
+    (c.in_ok-entry.ensures.layout_back ∙ c.requires.laid) (ap (λ (s : State). s.scenes) c.in_ok-entry.ensures.state) c.requires.numbered.labels (c.keeps_headings-keeps_labels.ensures.0 keeps)
 
 pub refilled-requires-clause-titles : goal.refilled-requires-clause-titles
 refilled-requires-clause-titles g c keeps =
-    let old : State = state_of (text_of c.args.lines.now) c.args.records.now in
-    let new : State = state_of (text_of c.edit_entry.new.lines) c.edit_entry.new.records in
+    let old : State = state_of (text_of c.args.text.now.lines) c.args.records.now in
+    let new : State = state_of (text_of c.edit_entry.new.text.lines) c.edit_entry.new.records in
     let layout = laid_of c.edit_entry.new.layout in
-    let change = c.in_ok-text.field-0.layout in
+    let change = c.in_ok-entry.field-0.layout in
     let starts = c.args.numbered.now.title_starts in
     let were =
-    titles-were old (with_change layout change) new.paper starts (c.in_ok-text.ensures.layout_back ∙ c.requires.laid) (ap (λ (s : State). s.paper) c.in_ok-text.ensures.state) c.requires.numbered.title_starts in
-    titles-after new layout change starts c.in_ok-text.ensures.laid were (c.leaves_titles-keeps_titles.ensures.0 keeps)
+    titles-were old (with_change layout change) new.paper starts (c.in_ok-entry.ensures.layout_back ∙ c.requires.laid) (ap (λ (s : State). s.paper) c.in_ok-entry.ensures.state) c.requires.numbered.title_starts in
+    titles-after new layout change starts c.in_ok-entry.ensures.laid were (c.leaves_titles-keeps_titles.ensures.0 keeps)
 
 pub refilled-requires-clause-sheets : goal.refilled-requires-clause-sheets
 refilled-requires-clause-sheets g c none first =
-    let old : State = state_of (text_of c.args.lines.now) c.args.records.now in
-    let it : Replacement = replacement_of c.args.lines.now.lines (edit_of c.args.edit) in
-    let led = c.in_ok-text.ensures.state in
+    let old : State = state_of (text_of c.args.text.now.lines) c.args.records.now in
+    let it : Replacement = replacement_of c.args.text.now.lines.lines (edit_of c.args.edit) in
+    let led = c.in_ok-entry.ensures.state in
     sheets-before old c.args.numbered.now.sheets c.args.pages.now.starts c.requires.whole
     (edited-unlocked old it (sym (ap (λ (s : State). s.pages) led) ∙ none)) (sym (ap (λ (s : State). s.round) led) ∙ first)
     c.requires.numbered.sheets c.requires.pages
 
 pub refilled-requires-clause-kept : goal.refilled-requires-clause-kept
 refilled-requires-clause-kept g c keeps =
-    let old : State = state_of (text_of c.args.lines.now) c.args.records.now in
-    let it : Replacement = replacement_of c.args.lines.now.lines (edit_of c.args.edit) in
+    let old : State = state_of (text_of c.args.text.now.lines) c.args.records.now in
+    let it : Replacement = replacement_of c.args.text.now.lines.lines (edit_of c.args.edit) in
     let same = (slice_eq-Decides Decides-eqb c.as_slice.result.now c.as_slice-2.result.now c.eq-keeps_firsts.result c.eq-keeps_firsts.ensures).0 keeps in
     let first : c.deref-2.result.now ≡ first_rows old = c.deref-2.ensures.value ∙ sym c.as_slice-2.ensures.value ∙ sym same ∙ c.as_slice.ensures.value ∙ c.in_ok-before.ensures.found in
-    subst (λ (s : State). IfSome s.pages (λ those. AreSheetsBefore those c.deref-2.result.now c.args.pages.now.starts c.args.numbered.now.sheets)) (sym c.in_ok-text.ensures.state)
+    subst (λ (s : State). IfSome s.pages (λ those. AreSheetsBefore those c.deref-2.result.now c.args.pages.now.starts c.args.numbered.now.sheets)) (sym c.in_ok-entry.ensures.state)
     (locked-before old it c.deref-2.result.now c.args.pages.now.starts c.args.numbered.now.sheets c.requires.whole first c.requires.pages c.requires.numbered.sheets)
 
-pub returns-in_err-text : goal.returns-in_err-text
-returns-in_err-text g c =
-    let old : State = state_of (text_of c.args.lines.now) c.args.records.now in
-    let it : Replacement = replacement_of c.args.lines.now.lines (edit_of c.args.edit) in
-    let left = c.in_err-text.ensures in
-    let now : State = state_of (text_of c.edit_entry.new.lines) c.edit_entry.new.records in
-    let p = err_from_is_err_and c.from_residual-in_err-text.result c.from_residual-in_err-text.ensures.1 in
+pub returns-in_err-entry : goal.returns-in_err-entry
+returns-in_err-entry g c =
+    let old : State = state_of (text_of c.args.text.now.lines) c.args.records.now in
+    let it : Replacement = replacement_of c.args.text.now.lines.lines (edit_of c.args.edit) in
+    let left = c.in_err-entry.ensures in
+    let now : State = state_of (text_of c.edit_entry.new.text.lines) c.edit_entry.new.records in
+    let p = err_from_is_err_and c.from_residual-in_err-entry.result c.from_residual-in_err-entry.ensures.1 in
     rw (p.1, p.2) (record {
       refuses = left.refuses;
       state = tt;
@@ -101,7 +101,6 @@ returns-in_err-text g c =
       numbered = subst (λ (s : State). IsNumberedOf s c.args.numbered.now) (sym left.same) c.requires.numbered;
       firsts = none-known c.firsts_before.new.known (λ those. those.items ≡ first_rows now) c.firsts_before.ensures.forgotten;
       pages = c.requires.pages ∙ sym (ap pages_of left.same);
-      stanzas = c.edit_entry.ensures.stanzas;
       same = left.same;
       reads = tt;
       at_most = c.edit_entry.ensures.at_most;
@@ -113,11 +112,11 @@ returns-in_err-text g c =
 
 pub returns-in-Ok : goal.returns-in-Ok
 returns-in-Ok g c =
-    let old : State = state_of (text_of c.args.lines.now) c.args.records.now in
-    let new : State = state_of (text_of c.edit_entry.new.lines) c.edit_entry.new.records in
-    let it : Replacement = replacement_of c.args.lines.now.lines (edit_of c.args.edit) in
+    let old : State = state_of (text_of c.args.text.now.lines) c.args.records.now in
+    let new : State = state_of (text_of c.edit_entry.new.text.lines) c.edit_entry.new.records in
+    let it : Replacement = replacement_of c.args.text.now.lines.lines (edit_of c.args.edit) in
     let edit : Exchange = record { first = c.rows.inside.first; old = c.rows.inside.old; new = c.rows.inside.new } in
-    let done = c.in_ok-text.ensures in
+    let done = c.in_ok-entry.ensures in
     let filled = c.in-Ok.ensures in
     let found : IsExchangeOf old it edit = subst (IsExchangeOf old it) (sym c.rows.view_is) done.rows in
     let reads = g.S.Steps.reads c.args.steps.now in
@@ -126,7 +125,7 @@ returns-in-Ok g c =
       refuses = done.refuses;
       state = done.state;
       whole = done.whole;
-      back = entry-leads new old c.in_ok-text.field-0.text c.in_ok-text.field-0.layout c.in-Ok.swapped (laid_of c.edit_entry.new.layout) (laid_of c.args.layout.now) c.refilled.new.pages.starts
+      back = entry-leads new old c.in_ok-entry.field-0.text c.in_ok-entry.field-0.layout c.in-Ok.swapped (laid_of c.edit_entry.new.layout) (laid_of c.args.layout.now) c.refilled.new.pages.starts
           done.back done.laid c.requires.laid done.can_change done.layout_back filled.pages filled.can (filled.back ∙ c.requires.pages);
       range = done.range;
       window = done.window;
@@ -135,7 +134,6 @@ returns-in-Ok g c =
       numbered = filled.numbered;
       firsts = done.firsts;
       pages = filled.pages;
-      stanzas = c.edit_entry.ensures.stanzas;
       same = tt;
       reads = subst (EditReads old it reads) (sym c.refilled.ensures.reads) done.reads;
       at_most = subst (EditReadsAtMost old it reads) (sym c.refilled.ensures.reads) c.edit_entry.ensures.at_most;
@@ -149,12 +147,12 @@ returns-in-Ok g c =
 
 pub returns : goal.returns
 returns g c =
-    let old : State = state_of (text_of c.args.lines.now) c.args.records.now in
-    let new : State = state_of (text_of c.edit_entry.new.lines) c.edit_entry.new.records in
-    let now : State = state_of (text_of c.take_back.new.lines) c.take_back.new.records in
-    let it : Replacement = replacement_of c.args.lines.now.lines (edit_of c.args.edit) in
+    let old : State = state_of (text_of c.args.text.now.lines) c.args.records.now in
+    let new : State = state_of (text_of c.edit_entry.new.text.lines) c.edit_entry.new.records in
+    let now : State = state_of (text_of c.take_back.new.text.lines) c.take_back.new.records in
+    let it : Replacement = replacement_of c.args.text.now.lines.lines (edit_of c.args.edit) in
     let edit : Exchange = record { first = c.rows.inside.first; old = c.rows.inside.old; new = c.rows.inside.new } in
-    let done = c.in_ok-text.ensures in
+    let done = c.in_ok-entry.ensures in
     let left = c.in-Err.ensures in
     let found : IsExchangeOf old it edit = subst (IsExchangeOf old it) (sym c.rows.view_is) done.rows in
     let same : now ≡ old = c.take_back.ensures.state ∙ done.back.there in
@@ -170,7 +168,6 @@ returns g c =
       numbered = subst (IsNumberedOf now) (sym left.same_numbered) (subst (λ (s : State). IsNumberedOf s c.args.numbered.now) (sym same) c.requires.numbered);
       firsts = none-known c.firsts_before.new.known (λ those. those.items ≡ first_rows now) c.firsts_before.ensures.forgotten;
       pages = left.same ∙ c.requires.pages ∙ sym (ap pages_of same);
-      stanzas = c.take_back.ensures.stanzas;
       same = same;
       reads = tt;
       at_most = subst (EditReadsAtMost old it (g.S.Steps.reads c.args.steps.now)) (sym c.refilled.ensures.reads) c.edit_entry.ensures.at_most;

@@ -22,17 +22,17 @@ use Rattle.sp_state.proofs.editing.turn_made.Goals as goal
 
 pub turn_layout-requires-clause-labels : goal.turn_layout-requires-clause-labels
 turn_layout-requires-clause-labels c =
-    let state : State = state_of (text_of c.args.lines.now) c.args.records.now in
-    labels-were state (laid_of c.args.layout.now) c.args.numbered.now.labels c.turn_entry.new.records.scenes c.len-count.ensures.keeps c.requires.laid (ap (λ (s : State). s.scenes) c.in-Ok.ensures.state) c.requires.numbered.labels
+    let state : State = state_of (text_of c.args.text.now.lines) c.args.records.now in
+    labels-were state (laid_of c.args.layout.now) c.args.numbered.now.labels c.turn_entry.new.records.scenes c.lines-lines.ensures.keeps c.requires.laid (ap (λ (s : State). s.scenes) c.in-Ok.ensures.state) c.requires.numbered.labels
 
 pub turn_layout-requires-clause-titles : goal.turn_layout-requires-clause-titles
 turn_layout-requires-clause-titles c =
-    let state : State = state_of (text_of c.args.lines.now) c.args.records.now in
+    let state : State = state_of (text_of c.args.text.now.lines) c.args.records.now in
     titles-were state (laid_of c.args.layout.now) c.turn_entry.new.records.paper c.args.numbered.now.title_starts c.requires.laid (ap (λ (s : State). s.paper) c.in-Ok.ensures.state) c.requires.numbered.title_starts
 
 pub turn_layout-requires-clause-sheets : goal.turn_layout-requires-clause-sheets
 turn_layout-requires-clause-sheets c none first =
-    let old : State = state_of (text_of c.args.lines.now) c.args.records.now in
+    let old : State = state_of (text_of c.args.text.now.lines) c.args.records.now in
     let led = c.in-Ok.ensures.state in
     sheets-before old c.args.numbered.now.sheets c.args.pages.now.starts c.requires.was_whole
     (none-mapped _ old.pages (sym (ap (λ (s : State). s.pages) led) ∙ none)) (sym (ap (λ (s : State). s.round) led) ∙ first)
@@ -40,14 +40,14 @@ turn_layout-requires-clause-sheets c none first =
 
 pub turn_layout-requires-clause-kept : goal.turn_layout-requires-clause-kept
 turn_layout-requires-clause-kept c =
-    let old : State = state_of (text_of c.args.lines.now) c.args.records.now in
+    let old : State = state_of (text_of c.args.text.now.lines) c.args.records.now in
     subst (λ (s : State). IfSome c.args.firsts.now (λ those. IfSome s.pages (λ them. AreSheetsBefore them those.items c.args.pages.now.starts c.args.numbered.now.sheets))) (sym c.in-Ok.ensures.state)
     (turned-before old c.entry.inside.text.first c.entry.inside.text.second c.args.firsts.now c.args.pages.now.starts c.args.numbered.now.sheets c.requires.was_whole c.requires.firsts c.requires.pages c.requires.numbered.sheets)
 
 pub returns-in-Ok-turn_layout : goal.returns-in-Ok-turn_layout
 returns-in-Ok-turn_layout c =
-    let state : State = state_of (text_of c.args.lines.now) c.args.records.now in
-    let after : State = state_of (text_of c.turn_entry.new.lines) c.turn_entry.new.records in
+    let state : State = state_of (text_of c.args.text.now.lines) c.args.records.now in
+    let after : State = state_of (text_of c.turn_entry.new.text.lines) c.turn_entry.new.records in
     let led = c.in-Ok.ensures in
     let turned = c.in-Ok-turn_layout.ensures in
     let it = c.in-Ok-turn_layout.field-0 in
@@ -61,12 +61,11 @@ returns-in-Ok-turn_layout c =
       few = λ held. holds-few state after entry c.in-Ok.other it.layout it.pages (laid_of c.args.layout.now) (laid_of c.turn_layout.new.layout) can.text.text led.entry.text (ap state_text led.state)
           (subst (λ (l : LayoutOf). CanChange l entry.layout) (sym c.requires.laid) can.layout.can)
           (turned.laid ∙ ap laid_in led.state ∙ sym can.layout.are ∙ ap (λ (l : LayoutOf). with_change l entry.layout) (sym c.requires.laid)) turned.places turned.can_change turned.layout_back
-          (subst (HoldsFew (text_of c.args.lines.now)) (sym c.entry.view_is) held);
+          (subst (HoldsFew (text_of c.args.text.now.lines)) (sym c.entry.view_is) held);
       laid = turned.laid;
       numbered = turned.numbered;
       firsts = turned.firsts;
       pages = turned.pages;
-      stanzas = c.turn_entry.ensures.stanzas;
       same = tt;
       handed_back = tt;
       again = tt;
@@ -74,11 +73,11 @@ returns-in-Ok-turn_layout c =
 
 pub returns-in-Err-turn_layout : goal.returns-in-Err-turn_layout
 returns-in-Err-turn_layout c =
-    let state : State = state_of (text_of c.args.lines.now) c.args.records.now in
-    let now : State = state_of (text_of c.turn_in_room-text.new.lines) c.turn_in_room-text.new.records in
+    let state : State = state_of (text_of c.args.text.now.lines) c.args.records.now in
+    let now : State = state_of (text_of c.turn_in_room-of_text.new.text.lines) c.turn_in_room-of_text.new.records in
     let other = c.in-Ok.other in
-    let back = c.turn_in_room-text.result in
-    let again = c.turn_in_room-text.ensures in
+    let back = c.turn_in_room-of_text.result in
+    let again = c.turn_in_room-of_text.ensures in
     let left = c.in-Err-turn_layout.ensures in
     let entry : EntryState = record { text = c.entry.inside.text; layout = c.entry.inside.layout; pages = c.entry.inside.pages } in
     let can : CanTurn state entry = subst (CanTurn state) (sym c.entry.view_is) c.requires.can in
@@ -102,7 +101,7 @@ returns-in-Err-turn_layout c =
 
 pub returns-in-Err : goal.returns-in-Err
 returns-in-Err c =
-    let state : State = state_of (text_of c.args.lines.now) c.args.records.now in
+    let state : State = state_of (text_of c.args.text.now.lines) c.args.records.now in
     let left = c.in-Err.ensures in
     let entry : EntryState = record { text = c.entry.inside.text; layout = c.entry.inside.layout; pages = c.entry.inside.pages } in
     let can : CanTurn state entry = subst (CanTurn state) (sym c.entry.view_is) c.requires.can in
@@ -116,7 +115,6 @@ returns-in-Err c =
       numbered = subst (λ (s : State). IsNumberedOf s c.args.numbered.now) (sym left.same) c.requires.numbered;
       firsts = tt;
       pages = c.requires.pages ∙ sym (ap pages_of left.same);
-      stanzas = c.turn_entry.ensures.stanzas;
       same = left.same;
       handed_back = subst (λ (e : EntryState). IsSameTextEntry c.in-Err.field-0.back e.text) c.entry.view_is left.handed_back;
       again = turn-again state (laid_in state) back entry refl left.handed_back (record { can = can.layout.can; same = refl }) refl can;

@@ -14,7 +14,7 @@ use Rattle.sp_state.proofs.turning.turn_layout.Goals as goal
 
 pub turned_pages-requires-clause-labels : goal.turned_pages-requires-clause-labels
 turned_pages-requires-clause-labels c keeps =
-    let state : State = state_of (text_of c.args.lines.now) c.args.records.now in
+    let state : State = state_of (text_of c.args.text.now.lines) c.args.records.now in
     let layout = laid_of c.change.new.self in
     let other = c.in-Ok.other in
     labels-stay state layout (with_change layout other) c.args.numbered.now.labels c.requires.whole.text (c.in-Ok.ensures.layout ∙ c.requires.laid)
@@ -22,7 +22,7 @@ turned_pages-requires-clause-labels c keeps =
 
 pub turned_pages-requires-clause-titles : goal.turned_pages-requires-clause-titles
 turned_pages-requires-clause-titles c keeps =
-    let state : State = state_of (text_of c.args.lines.now) c.args.records.now in
+    let state : State = state_of (text_of c.args.text.now.lines) c.args.records.now in
     let layout = laid_of c.change.new.self in
     let other = c.in-Ok.other in
     titles-after state layout other c.args.numbered.now.title_starts (c.in-Ok.ensures.layout ∙ c.requires.laid)

@@ -23,7 +23,7 @@ invariant_of-self g c =
     let made = c.edit_made.ensures in
     let before = before-is c.self-inside.view_is c.self.view_is in
     let whole = subst IsWhole (sym before) (subst IsWhole c.self.view_is c.self.invariant.0) in
-    (whole-by c.edit_made.result _ _ whole made.whole made.same, record { layout = made.laid; numbered = made.numbered }, made.stanzas, made.pages, made.firsts)
+    (whole-by c.edit_made.result _ _ whole made.whole made.same, record { layout = made.laid; numbered = made.numbered }, made.pages, made.firsts)
 
 pub returns-in_err-entry : goal.returns-in_err-entry
 returns-in_err-entry g c =
@@ -53,7 +53,7 @@ returns-in_err-entry g c =
 
 pub returns : goal.returns
 returns g c =
-    let new : State = state_of (text_of c.edit_made.new.lines) c.edit_made.new.records in
+    let new : State = state_of (text_of c.edit_made.new.text.lines) c.edit_made.new.records in
     let edit = edit_of c.args.edit in
     let reads = g.S.Steps.reads c.args.steps.now in
     let fills = g.S.Steps.fills c.args.steps.now in

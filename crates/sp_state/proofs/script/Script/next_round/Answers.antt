@@ -10,11 +10,11 @@ use Rattle.sp_state.proofs.script.Script.next_round.Goals as goal
 
 pub returns : goal.returns
 returns c =
-    let new : State = state_of (text_of c.self.inside.lines) c.next_round_made.new.records in
-    subst (λ (s : State). IsOpening (round_refusal s) (round_begun s) s new c.next_round_made.result) c.self.view_is c.next_round_made.ensures.opening
+    let new : State = state_of (text_of c.self.inside.text.lines) c.next_round_made.new.records in
+    subst (λ (s : State). IsOpening (round_refusal s) (round_begun s) s new c.next_round_made.result) c.self.view_is (rw c.lines-lines.ensures.lines at c.next_round_made.ensures.opening)
 
 pub invariant_of-self : goal.invariant_of-self
 invariant_of-self c =
-    let old : State = state_of (text_of c.self.inside.lines) c.self.inside.records in
-    let new : State = state_of (text_of c.self.inside.lines) c.next_round_made.new.records in
-    (c.next_round_made.ensures.whole, c.next_round_made.ensures.made, c.self.invariant.2, c.self.invariant.3 ∙ sym (round-stay old new c.next_round_made.result c.self.invariant.0 c.next_round_made.ensures.opening), tt)
+    let old : State = state_of (text_of c.self.inside.text.lines) c.self.inside.records in
+    let new : State = state_of (text_of c.self.inside.text.lines) c.next_round_made.new.records in
+    ((rw c.lines-lines.ensures.lines at c.next_round_made.ensures.whole), (rw c.lines-lines.ensures.lines at c.next_round_made.ensures.made), c.self.invariant.2 ∙ sym (round-stay old new c.next_round_made.result c.self.invariant.0 (rw c.lines-lines.ensures.lines at c.next_round_made.ensures.opening)), tt)

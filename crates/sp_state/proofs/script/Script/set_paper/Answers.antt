@@ -15,7 +15,7 @@ returns-in_err-made g c =
     let p = err_from_is_err_and c.from_residual.result c.from_residual.ensures.1 in
     rw p.1 (record {
       state = tt;
-      same = ap (state_of (text_of c.self.inside.lines)) left.same ∙ c.self.view_is;
+      same = ap (state_of (text_of c.self.inside.text.lines)) left.same ∙ c.self.view_is;
       reads = made.reads;
       fills = tt;
       fills_at_most = subst (λ (state : State). FilledAtMost (g.S.Steps.fills c.args.steps.now) (g.S.Steps.fills c.made_on.new.steps) (length (pages_of (record state { paper = c.args.paper })))) c.self.view_is made.at_most;
@@ -27,7 +27,7 @@ returns g c =
     let filled = g.S.Steps.fills c.made_on.new.steps in
     let made = c.in_ok-made.ensures in
     record {
-      state = ap (state_of (text_of c.self.inside.lines)) made.records ∙ ap (λ (state : State). record state { paper = c.args.paper }) c.self.view_is;
+      state = ap (state_of (text_of c.self.inside.text.lines)) made.records ∙ ap (λ (state : State). record state { paper = c.args.paper }) c.self.view_is;
       same = tt;
       reads = c.made_on.ensures.reads;
       fills = subst (λ (state : State). filled ≡ many_more fills (length (pages_of (record state { paper = c.args.paper })))) c.self.view_is made.fills;

@@ -8,5 +8,5 @@ use Rattle.sp_state.proofs.script.Script.sheets.Goals as goal
 
 pub returns : goal.returns
 returns c =
-    let state : State = state_of (text_of c.self.inside.lines) c.self.inside.records in
+    let state : State = state_of (text_of c.self.inside.text.lines) c.self.inside.records in
     c.sheet_count.ensures ∙ sym (made-count state c.self.inside.made c.self.invariant.1) ∙ ap (λ (it : State). length (sheets_of_state it)) c.self.view_is

@@ -25,7 +25,7 @@ returns-in_err-other c =
 
 pub returns : goal.returns
 returns c =
-    let new : State = state_of (text_of c.turn_made.new.lines) c.turn_made.new.records in
+    let new : State = state_of (text_of c.turn_made.new.text.lines) c.turn_made.new.records in
     let done = c.in_ok-other.ensures in
     let before = before-is c.self-inside.view_is c.self.view_is in
     record {

@@ -1,5 +1,5 @@
 use Rattle.std.proofs.Common.{rules}
-use Rattle.sp_exchange.proofs.change.reread.Goals as goal
+use Rattle.sp_exchange.proofs.text.reread.Goals as goal
 
 pub update-requires : goal.update-requires
 update-requires g c = search rules
