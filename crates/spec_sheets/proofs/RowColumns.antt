@@ -1,9 +1,9 @@
 -- What is written of a row is its clusters at their columns, and spaces at all others.
-use Rattle.std.proofs.Common.{◌≡◌, ℕ, zero, suc, ◌+◌, ◌-◌, ◌<◌, ◌≤◌, max, Bool, true, false, ◌&&◌, ◌||◌, cond, ◌==◌, leb, ltb, List, [], ◌∷◌, ◌++◌, length, inl, inr, refl, sym, ap, ap₂, subst, ◌∙◌, arith, append_assoc}
+use Rattle.std.proofs.Common.{◌≡◌, ℕ, zero, suc, ◌+◌, ◌-◌, ◌<◌, ◌≤◌, Bool, true, false, ◌&&◌, ◌||◌, cond, ◌==◌, leb, ltb, List, [], ◌∷◌, ◌++◌, length, inl, inr, refl, sym, ap, ap₂, subst, ◌∙◌, arith, append_assoc}
 use Rattle.std.specs.Prelude.{All, filter, sum_by}
 use Rattle.std.specs.List.{flat_map, list_any, concat}
 use Rattle.std.specs.Str.{IsUtf8}
-use Rattle.std.proofs.lemmas.Bool.{cases_lt, cases_eq, eq-eqb, ne_eqb, eqb-false, le-leb, lt-leb, le-ltb, lt-ltb}
+use Rattle.std.proofs.lemmas.Bool.{cases_lt, eq-eqb, ne_eqb, eqb-false, le-leb, lt-leb, le-ltb, lt-ltb}
 use Rattle.std.proofs.lemmas.List.{append-nil}
 use Rattle.std.proofs.lemmas.List.Elements.{All-head, All-tail, All-nil, All-cons, All-append}
 use Rattle.std.proofs.lemmas.List.Folds.{concat-append}
@@ -16,7 +16,7 @@ use Rattle.unicode_segmentation.specs.Grapheme.{graphemes, is_grapheme_break}
 use Rattle.unicode_segmentation.proofs.SegmentsLemmas.{concat-segments}
 use Rattle.spec_pages.specs.Clusters.{width_of, columns_of}
 use Rattle.spec_sheets.specs.Cells.{ShownPart, ShownCell, part_text, cell_text, cell_width, fixed_cell}
-use Rattle.spec_sheets.specs.RowBytes.{ShownRow, spaces, untabbed, part_bytes, is_blank, gap, columns_behind, cells_bytes, star_cells, row_bytes}
+use Rattle.spec_sheets.specs.RowBytes.{ShownRow, spaces, untabbed, part_bytes, is_blank, gap, cells_bytes, star_cells, row_bytes}
 use Rattle.spec_sheets.specs.RowColumns.{Placed, placed_from, cell_clusters, start_of, placed_cells, row_placed, stands_at, takes, standing_at, written_at, written_from, end_of, row_written}
 
 -- ---- clusters in order

@@ -3,7 +3,7 @@ use Rattle.std.proofs.Common.{◌≡◌, ℕ, zero, suc, ◌+◌, ◌-◌, ◌<�
 use Rattle.std.specs.Prelude.{slice_range, slice_index_or, None}
 use Rattle.std.specs.List.{flat_map}
 use Rattle.std.proofs.lemmas.Bool.{cases_lt}
-use Rattle.std.proofs.lemmas.List.{append-nil, length-map, length-take-le, drop_all, drop-drop, take_at, drop_at, take-append-le}
+use Rattle.std.proofs.lemmas.List.{length-map, length-take-le, drop_all, drop-drop, take_at, drop_at, take-append-le}
 use Rattle.std.proofs.lemmas.List.Concat.{flat_map-cons}
 use Rattle.spec_text.specs.Lines.{IsText, line_texts}
 use Rattle.spec_script.specs.Stanzas.{PlacedBlock, blocks_of}
