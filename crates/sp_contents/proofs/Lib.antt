@@ -6,3 +6,4 @@ mod Pushes
 mod EntryLaws
 mod SaidSteps
 mod SceneFacts
+mod SaidLaws

@@ -7,7 +7,8 @@ use Rattle.spec_labels.specs.Labels.{LabelOf}
 use Rattle.spec_labels.specs.PageRecords.{SheetOf}
 use Rattle.spec_state.specs.Headings.{is_heading_block}
 use Rattle.spec_cast.specs.Sides.{SaidOf}
-use Rattle.spec_cast.specs.Said.{Walk, begins_speech, block_said, first_label, is_first, said_from, speech_sheets, walked}
+use Rattle.spec_cast.specs.Places.{begins_speech}
+use Rattle.sp_contents.specs.Speeches.{Walk, block_said, first_label, is_first, said_from, speech_sheets, walked}
 
 front : {X : Type 0} (xs : List X) (i : ℕ) (d : X) → i < length xs → drop i xs ≡ get_or xs i d ∷ drop (i + 1) xs
 front xs i d inside = rw (add-one, drop-cons xs i d) refl

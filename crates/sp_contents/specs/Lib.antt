@@ -3,3 +3,4 @@ pub mod Texts
 pub mod Gone
 pub mod Sheets
 pub mod Walks
+pub mod Speeches

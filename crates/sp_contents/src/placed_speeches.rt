@@ -4,8 +4,10 @@ ghost use Rattle.spec_text.specs.Lines.{line_texts};
 ghost use Rattle.spec_script.specs.Elements.{is_speech_block, PlacedLies};
 ghost use Rattle.spec_labels.specs.Labels.{plain_label};
 ghost use Rattle.spec_state.specs.Headings.{is_heading_block};
-ghost use Rattle.spec_cast.specs.Said.{begins_speech, block_said, first_label, is_first, last_label, said_by, said_from, speech_sheets, walk_start, walked};
+ghost use Rattle.spec_cast.specs.Places.{begins_speech};
+ghost use Rattle.spec_cast.specs.Said.{last_label};
 ghost use Rattle.sp_contents.specs.Sheets.{AreInTurn};
+ghost use Rattle.sp_contents.specs.Speeches.{block_said, first_label, is_first, said_by, said_from, speech_sheets, walk_start, walked};
 
 use crate::heading_sheets::sheet_of;
 use sp_blocks::{Kind, PlacedBlock, is_speech_block};
@@ -29,7 +31,7 @@ struct Walk {
 }
 
 impl Model for Walk {
-    ghost use Rattle.spec_cast.specs.Said.{Walk as WalkOf};
+    ghost use Rattle.sp_contents.specs.Speeches.{Walk as WalkOf};
 
     ghost Value = { WalkOf };
 

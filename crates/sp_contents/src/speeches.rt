@@ -2,7 +2,8 @@
 ghost use Rattle.std.specs.Prelude.{◌≡◌, IfOk, map};
 ghost use Rattle.spec_sheets.specs.Shown.{shape_of};
 ghost use Rattle.spec_state.specs.StateSheets.{body_sheets, rows_in};
-ghost use Rattle.spec_cast.specs.Said.{said_of, speech_sheets};
+ghost use Rattle.spec_cast.specs.Said.{said_of};
+ghost use Rattle.sp_contents.specs.Speeches.{speech_sheets};
 
 use crate::scenes::scenes_of;
 use crate::{said_among, speech_sheets};
@@ -20,6 +21,7 @@ pub fn said(alloc: Global, view: &StateView<'_>) -> Result<Vec<Said>, AllocError
 {
     let lines = view.lines();
     let _count = lines.len();
+    let _sheets = view.body_sheets();
     let blocks = placed_blocks(alloc, view.stanzas())?;
     let scenes = scenes_of(alloc, view, &blocks)?;
     let sheets = speech_sheets_of(alloc, view)?;

@@ -1,19 +1,24 @@
 -- What a script's views show that were written whole: what follows of the contract of `run` (docs/RULES.md, "The program").
-use Rattle.std.proofs.Common.{◌≡◌, ◌≤◌, List, length, Some}
-use Rattle.std.specs.Prelude.{All}
+use Rattle.std.proofs.Common.{◌≡◌, ◌≤◌, ◌||◌, true, List, ◌∷◌, ◌++◌, length, map, Some}
+use Rattle.std.specs.Prelude.{All, is_some}
 use Rattle.std.specs.List.{flat_map}
 use Rattle.std.specs.declared.alloc.Global.{Global}
 use Rattle.std.specs.declared.string.String.{String}
+use Rattle.spec_script.specs.LongestRuns.{Group}
 use Rattle.spec_pages.specs.Pages.{rows_on}
+use Rattle.spec_sheets.specs.Speakers.{Spoken}
 use Rattle.spec_sheets.specs.Sheets.{Sheet}
-use Rattle.spec_state.specs.StateSheets.{sheets_of_state}
+use Rattle.spec_state.specs.StateSheets.{body_sheets, sheets_of_state}
 use Rattle.spec_state.proofs.SheetsLow.{sheets-low}
+use Rattle.spec_machine.specs.Outlines.{outline_entries}
 use Rattle.spec_html.specs.HtmlReading.{styled_text}
 use Rattle.spec_html.specs.StyledSheets.{sheet_styled}
 use Rattle.spec_html.proofs.PagesLaws.{pages-styles}
+use Rattle.spec_cast.specs.Places.{state_elements, has_heading, has_speech, row_count, StandsOnOne, heading_sheets, told_sheets}
 use Rattle.spec_cast.specs.Said.{said_of}
-use Rattle.spec_cast.specs.Sides.{sides_count}
+use Rattle.spec_cast.specs.Sides.{SaidOf, sides_count}
 use Rattle.spec_cast.proofs.Counts.{sides-add}
+use Rattle.spec_cast.proofs.SheetLaws.{element-one, said-placed, outline-sheets}
 use Rattle.sp_run.specs.declared.form.View.{View}
 use Rattle.sp_run.specs.declared.form.View.TheVariants as views
 use Rattle.sp_run.specs.declared.status.Status.{Status}
@@ -45,3 +50,20 @@ module _ {I O F S : Type 0} {words : List (String Global)} {old new : World I O 
   pub run-sides-add : (origin : OriginOf) (is : asked_in words ≡ Some (show views.Cast origin)) (done : status ≡ statuses.Done)
       → sides_count (said_of (run-shown it views.Cast origin is done).state) ≡ length (said_of (run-shown it views.Cast origin is done).state)
   run-sides-add origin is done = sides-add (said_of (run-shown it views.Cast origin is done).state)
+
+  -- Each speech in the sides that were written begins on one of its sheets, and the first label of that stands there.
+  pub run-speeches-placed : (origin : OriginOf) (is : asked_in words ≡ Some (show views.Cast origin)) (done : status ≡ statuses.Done)
+      → All (λ (said : SaidOf). is_some said.sheet ≡ true) (said_of (run-shown it views.Cast origin is done).state)
+  run-speeches-placed origin is done = said-placed (run-shown it views.Cast origin is done).state (run-shown it views.Cast origin is done).whole
+
+  -- The outline that was written tells of each heading, in order, the sheet with the first row of its element.
+  pub run-headings-placed : (origin : OriginOf) (is : asked_in words ≡ Some (show views.Outline origin)) (done : status ≡ statuses.Done)
+      → map Some (told_sheets (outline_entries (run-shown it views.Outline origin is done).state)) ≡ heading_sheets (run-shown it views.Outline origin is done).state
+  run-headings-placed origin is done = outline-sheets (run-shown it views.Outline origin is done).state (run-shown it views.Outline origin is done).whole
+
+  -- Each heading and each speech of a script whose view was written begins on one sheet, and on no other.
+  pub run-begins-once : (view : View) (origin : OriginOf) (is : asked_in words ≡ Some (show view origin)) (done : status ≡ statuses.Done) (before : List (Group Spoken)) (element : Group Spoken)
+      (later : List (Group Spoken)) → state_elements (run-shown it view origin is done).state ≡ before ++ element ∷ later → has_heading element || has_speech element ≡ true
+      → StandsOnOne (body_sheets (run-shown it view origin is done).state) (row_count (run-shown it view origin is done).state.lines before)
+  run-begins-once view origin is done before element later split begins =
+      element-one (run-shown it view origin is done).state (run-shown it view origin is done).whole before element later split begins

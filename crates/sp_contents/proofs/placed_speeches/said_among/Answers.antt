@@ -1,7 +1,7 @@
 use Rattle.std.proofs.Common.{◌++◌, ap, ◌∙◌}
 use Rattle.spec_text.specs.Lines.{line_texts}
 use Rattle.spec_script.specs.Stanzas.{PlacedBlock}
-use Rattle.spec_cast.specs.Said.{block_said, walked}
+use Rattle.sp_contents.specs.Speeches.{block_said, walked}
 use Rattle.sp_contents.proofs.SaidSteps.{said-step, walked-low, speeches-low}
 use Rattle.sp_contents.proofs.placed_speeches.said_among.Goals as goal
 

@@ -1,6 +1,6 @@
 use Rattle.std.proofs.Common.{◌≡◌, ◌≤◌, ◌++◌, drop}
 use Rattle.spec_text.specs.Lines.{line_texts}
-use Rattle.spec_cast.specs.Said.{said_from, walk_start}
+use Rattle.sp_contents.specs.Speeches.{said_from, walk_start}
 use Rattle.sp_contents.proofs.placed_speeches.said_among.Given as goal
 
 -- The speeches so far and those of the blocks that are left are all.

@@ -1,5 +1,5 @@
 use Rattle.std.proofs.Common.{◌≡◌, ◌++◌, drop}
-use Rattle.spec_cast.specs.Said.{speech_sheets}
+use Rattle.sp_contents.specs.Speeches.{speech_sheets}
 use Rattle.sp_contents.proofs.placed_speeches.speech_sheets.Given as goal
 
 -- The labels so far and those of the rows that are left are all.
