@@ -1,14 +1,14 @@
 -- One test of a place finds the marker of any layer there.
-use Rattle.std.proofs.Common.{◌≡◌, ◌==◌, ℕ, zero, suc, ◌+◌, ◌-◌, Bool, true, false, not, ◌&&◌, cond, List, ◌∷◌, ◌++◌, filter, Option, Some, None, refl, sym, ap, ◌∙◌, arith}
+use Rattle.std.proofs.Common.{◌≡◌, ◌==◌, ℕ, zero, suc, ◌+◌, ◌-◌, Bool, true, false, not, ◌&&◌, cond, List, ◌∷◌, ◌++◌, filter, Option, Some, None, refl, sym, ap, subst, ◌∙◌, ◌||◌, ◌<◌, ◌≤◌, arith}
 use Rattle.std.specs.Prelude.{nat_lt}
 use Rattle.std.specs.List.{range_with_len}
-use Rattle.std.proofs.lemmas.Bool.{and_parts, eqb-true}
+use Rattle.std.proofs.lemmas.Bool.{and_parts, eqb-true, or_parts}
 use Rattle.std.proofs.lemmas.List.{append-nil}
 use Rattle.spec_script.specs.declared.Layer.{Layer}
 use Rattle.spec_script.specs.declared.Layer.TheVariants.{Italic, Bold, BoldItalic, Underline}
 use Rattle.spec_script.specs.Emphasis.{byte_at, byte_before, is_mark, is_marker}
 use Rattle.sp_emph.specs.declared.markers.Markers.{Markers}
-use Rattle.sp_emph.specs.Markers.{AreBelow, HasOneMore, is_layer, is_same, place_if, begins_run, layer_at}
+use Rattle.sp_emph.specs.Markers.{AreBelow, HasOneMore, is_layer, is_same, place_if, begins_run, has_mark, layer_at, star_layer}
 
 -- One place more, at the end.
 filter-more : (p : ℕ → Bool) (a n end : ℕ) → a + n ≡ end → filter p (range_with_len a (n + 1)) ≡ filter p (range_with_len a n) ++ place_if (p end) end
@@ -89,3 +89,21 @@ module _ (line : List ℕ) (place : ℕ) where
         ∙ sym (filter-more (is_marker layer line) 0 place place (omega arith)
         ∙ ap (λ b. filter (is_marker layer line) (range_with_len 0 place) ++ place_if b place) (marker-layer_at layer ∙ ap (is_layer layer) some));
   }
+
+-- Where no mark stands there is no marker.
+layer_at-bare : (line : List ℕ) (place : ℕ) → has_mark line place ≡ false → layer_at line place ≡ None
+layer_at-bare line place none =
+    let (star, under) = or_parts (byte_at line place == 42) (byte_at line place == 95) none in
+    let literal = not (byte_before line place == 92) in
+    let rest : Option Layer = cond (begins_run Underline line place && not (is_mark Underline line (place + 1))) (Some Underline) None in
+    ap (λ b. cond ((b && literal) && not (nat_lt 0 place && is_mark Italic line (place - 1))) (star_layer line place) rest) star
+    ∙ ap (λ b. cond (((b && literal) && not (nat_lt 0 place && is_mark Underline line (place - 1))) && not (is_mark Underline line (place + 1))) (Some Underline) None) under
+
+-- Places without marks are passed over.
+pub AreBelow-bare : (line : List ℕ) (markers : Markers) (n from to : ℕ) → from + n ≡ to → ((k : ℕ) → from ≤ k → k < to → has_mark line k ≡ false) → AreBelow line from markers → AreBelow line to markers
+AreBelow-bare line markers zero from to end none below =
+    let same : from ≡ to = omega arith in
+    subst (λ k. AreBelow line k markers) same below
+AreBelow-bare line markers (suc n) from to end none below =
+    AreBelow-bare line markers n (from + 1) to (omega arith) (λ k low high. none k (omega arith) high)
+    (AreBelow-none line from markers (layer_at-bare line from (none from (omega arith) (omega arith))) below)

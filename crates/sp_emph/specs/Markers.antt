@@ -1,9 +1,9 @@
 -- The markers of all layers, found from left to right.
-use Rattle.std.specs.Prelude.{◌≡◌, ℕ, ◌+◌, ◌-◌, nat_lt, Bool, true, false, not, ◌&&◌, List, [], ◌∷◌, ◌++◌, filter, Option, Some, None, if◌then◌else◌}
+use Rattle.std.specs.Prelude.{◌≡◌, ℕ, ◌+◌, ◌-◌, nat_lt, Bool, true, false, not, ◌&&◌, ◌||◌, ◌==◌, List, [], ◌∷◌, ◌++◌, filter, Option, Some, None, if◌then◌else◌}
 use Rattle.std.specs.List.{range_with_len}
 use Rattle.spec_script.specs.declared.Layer.{Layer}
 use Rattle.spec_script.specs.declared.Layer.TheVariants.{Italic, Bold, BoldItalic, Underline}
-use Rattle.spec_script.specs.Emphasis.{is_mark, is_marker}
+use Rattle.spec_script.specs.Emphasis.{byte_at, is_mark, is_marker}
 use Rattle.sp_emph.specs.declared.markers.Markers.{Markers}
 
 -- The markers of a layer, by their places.
@@ -31,6 +31,10 @@ place_if counts place = if counts then place ∷ [] else []
 -- One layer has a marker more.
 pub record HasOneMore (layer : Layer) (place : ℕ) (old new : Markers) : Type 0 where
   pub each : (other : Layer) → markers_in new other ≡ markers_in old other ++ place_if (is_same other layer) place
+
+-- A `*` or a `_` stands at the place.
+abbrev pub has_mark : List ℕ → ℕ → Bool
+has_mark line place = (byte_at line place == 42) || (byte_at line place == 95)
 
 -- The place is the first of a longest run of the layer's marks.
 abbrev pub begins_run : Layer → List ℕ → ℕ → Bool

@@ -1,8 +1,9 @@
 //! The markers of all layers.
-ghost use Rattle.std.specs.Prelude.{◌≡◌, ◌+◌, ◌^◌, ◌<◌, ◌≤◌, List, ℕ, length, IfOk, OnOk};
-ghost use Rattle.sp_emph.specs.Markers.{AreBelow, HasOneMore, begins_run, layer_at, star_layer};
+ghost use Rattle.std.specs.Prelude.{◌≡◌, ◌+◌, ◌^◌, ◌<◌, ◌≤◌, List, ℕ, false, length, IfOk, OnOk};
+ghost use Rattle.sp_emph.specs.Markers.{AreBelow, HasOneMore, begins_run, has_mark, layer_at, star_layer};
 
 use crate::marks::is_mark;
+use memchr::memchr2;
 use spec_script::Layer;
 use std::alloc::{AllocError, Global};
 
@@ -42,6 +43,19 @@ fn layer_at(line: &[u8], place: usize) -> Option<Layer>
         Some(Layer::Underline)
     } else {
         None
+    }
+}
+
+/// The first place, from one on, at which `*` or `_` stands, or else the end of the line.
+fn next_mark(line: &[u8], from: usize) -> usize
+    requires { from ≤ length line.now }
+    ensures order { from ≤ result }
+    ensures within { result ≤ length line.now }
+    ensures bare { (k : ℕ) → from ≤ k → k < result → has_mark line.now k ≡ false }
+{
+    match memchr2(b'*', b'_', &line[from..]) {
+        Some(next) => from + next,
+        None => line.len(),
     }
 }
 
@@ -97,8 +111,10 @@ pub fn markers_of(alloc: Global, line: &[u8]) -> Result<Markers, AllocError>
     ensures { IfOk result (AreBelow line.now (length line.now)) }
 {
     let mut markers = Markers::new(alloc);
-    for place in 0..line.len() {
+    let mut place = next_mark(line, 0);
+    while place < line.len() {
         markers.add(line, place)?;
+        place = next_mark(line, place + 1);
     }
     Ok(markers)
 }

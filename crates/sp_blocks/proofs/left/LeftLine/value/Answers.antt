@@ -12,8 +12,8 @@ runs-requires-clause-parts c =
     let (short, parts, text) = c.self.invariant in
     let line : c.written.result.now ≡ c.self.inside.line.now = rw (← c.self.view_is) at c.written.ensures in
     let cut : c.value_cut.result ≡ value_cut (cow_str_bytes c.self.inside.text) = rw (← c.self.view_is) at c.value_cut.ensures.value in
-    let made : c.in_ok-parts.parts.items ≡ clip_spans (window c.self.inside.spans c.value_cut.result) c.self.inside.spans =
+    let made : c.in_ok-parts.parts.items ≡ clip_spans (window c.self.inside.spans.items c.value_cut.result) c.self.inside.spans.items =
     rw (← c.self.view_is) at c.in_ok-parts.ensures in
-    let are = value-Parts c.self.inside.line.now (cow_str_bytes c.self.inside.text) c.self.inside.spans c.deref.result.now c.value_cut.result
+    let are = value-Parts c.self.inside.line.now (cow_str_bytes c.self.inside.text) c.self.inside.spans.items c.deref.result.now c.value_cut.result
     (subst IsUtf8 line c.written.utf8) parts text cut (c.deref.ensures.value ∙ made) in
     subst (λ written. Parts written 0 c.deref.result.now) (sym line) are
