@@ -11,6 +11,7 @@ ghost use Rattle.sp_text.specs.Gap.{text_of};
 ghost use Rattle.sp_run.specs.Forms.{origin_of};
 ghost use Rattle.sp_run.specs.Opening.{LeavesSource, LeavesShelf};
 ghost use Rattle.sp_run.specs.Showing.{EndsAs};
+ghost use Rattle.sp_run.specs.Asking.{OriginAsks};
 ghost use Rattle.sp_run.specs.ShowCounted.{ShowCountsAs, ShowsState};
 ghost use Rattle.sp_run.specs.Unopened.{ReadsUpTo, outside};
 ghost use Rattle.sp_run.specs.Written.{IsWritten};
@@ -19,8 +20,9 @@ use crate::sheets::{write_packet, write_pages, write_sheets};
 use crate::{Opened, Origin, Status, View, open_state};
 use sp_cast::sides;
 use sp_contents::{outline_text, said};
-use sp_kit::{Shelf, Sink, Source, Steps, write_whole};
+use sp_kit::{Sink, Source, Steps, write_whole};
 use sp_sheets::StateView;
+use sp_shelf::Shelf;
 use sp_state::Script;
 use std::alloc::Global;
 use std::mem;
@@ -44,6 +46,7 @@ pub fn show_script<I: Source, O: Sink, F: Shelf, S: Steps>(
     ensures source_kept { LeavesSource (origin_of origin.entry) input.old input.new }
     ensures shelf_kept { LeavesShelf (origin_of origin.entry) shelf.old shelf.new }
     ensures files_kept { (F.state shelf.new).files ≡ (F.state shelf.old).files }
+    ensures asks { OriginAsks (origin_of origin.entry) (F.state shelf.old) (F.state shelf.new) result }
     ensures counts { ShowCountsAs view (origin_of origin.entry)
         (outside (I.state input.old) (O.state output.old) (F.state shelf.old))
         (outside (I.state input.new) (O.state output.new) (F.state shelf.new))

@@ -1,14 +1,14 @@
-//! Files as a shelf. It tells no content, and counts a fault at each error of a store, and at each of a fetch but those of a missing
+//! Files as a shelf. It tells no content and no calls, and counts a fault at each error of a store, and at each of a fetch but those of a missing
 //! file and of want of memory. A store takes the place of no file that another program wrote.
 ghost use Rattle.std.specs.Prelude.{◌≡◌, ◌≤◌, Some, Ok, IfSome, IfOk, IsTrue, OnOk};
 ghost use Rattle.std.specs.Io.KnownBytes.{Appends};
 ghost use Rattle.std.specs.BTreeMap.{get_by_text};
 ghost use Rattle.sp_kit.specs.Causes.{Rose};
-ghost use Rattle.sp_kit.specs.Files.{FetchesAtMost, FetchGives, StoreLeaves, HasShelfCause};
+ghost use Rattle.sp_shelf.specs.Files.{FetchesAtMost, FetchGives, StoreLeaves, HasShelfCause};
 ghost use Rattle.sp_system.specs.Known.{IsAsKnown, KnowsBytes, KnowsFetched};
 
 use crate::known::{Content, Known, Names, know, know_fetched, make_room};
-use sp_kit::{Fetched, Shelf, ShelfFault};
+use sp_shelf::{Fetched, Shelf, ShelfFault};
 use std::alloc::Global;
 use std::collections::BTreeMap;
 use std::fs::{self, File, Metadata, OpenFile, OpenOptions, Permissions};
@@ -230,7 +230,7 @@ fn store_file<R: Files>(
 impl<'a, R: Files> Shelf for FileShelf<'a, R> {
     ghost use Rattle.std.specs.declared.option.Option.TheVariants.{None};
 
-    ghost state = { λ s. record { files = None; faults = s.faults } };
+    ghost state = { λ s. record { files = None; faults = s.faults; calls = None } };
 
     /// Reads at most one byte more than `most`, and knows what it gives from here on, where it guards files.
     fn fetch(&mut self, name: &str, most: usize) -> Result<Fetched, ShelfFault>
