@@ -70,5 +70,7 @@ returns-clause-asks g c =
     let shelf = g.F.Shelf.state c.args.shelf.now in
     let before = desk_at name c.in-Ok.desk (g.F.Shelf.state c.open_desk.new.shelf) opened in
     let after = at_shelf c.session-ended.new.responder (g.F.Shelf.state c.session-ended.new.shelf) to in
+    let begun = streams (g.I.Source.state c.open_desk.new.input) (g.O.Sink.state c.args.output.now) in
+    let ended = streams (g.I.Source.state c.session-ended.new.input) (g.O.Sink.state c.session-ended.new.output) in
     subst (CommandsAsk name shelf after.shelf) (sym c.from.ensures)
-    (ended-asks name shelf after.shelf c.session-ended.result (opened-asks by_desk name shelf _ _ before after c.session-ended.result refl c.session-ended.ensures.ends c.in-Ok.ensures.asks))
+    (ended-asks name shelf after.shelf c.session-ended.result (opened-asks by_desk name shelf begun ended before after c.session-ended.result refl c.session-ended.ensures.ends c.in-Ok.ensures.asks))

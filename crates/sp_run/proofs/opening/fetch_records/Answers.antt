@@ -27,6 +27,6 @@ pub returns-in-Err-Failed-clause-asks : goal.returns-in-Err-Failed-clause-asks
 returns-in-Err-Failed-clause-asks g c =
     beside-named c.as_str.result.now c.args.name.now (g.F.Shelf.state c.args.shelf.now) (g.F.Shelf.state c.fetch.new.self) (c.as_str.ensures.value ∙ c.in_ok-beside.ensures) c.fetch.ensures.asks
 
-pub returns-in-Err-NoMemory-clause-asks : goal.returns-in-Err-NoMemory-clause-asks
-returns-in-Err-NoMemory-clause-asks g c =
+pub returns-clause-asks : goal.returns-clause-asks
+returns-clause-asks g c =
     inr (beside-named c.as_str.result.now c.args.name.now (g.F.Shelf.state c.args.shelf.now) (g.F.Shelf.state c.fetch.new.self) (c.as_str.ensures.value ∙ c.in_ok-beside.ensures) c.fetch.ensures.asks)

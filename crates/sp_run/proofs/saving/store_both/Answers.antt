@@ -5,8 +5,8 @@ use Rattle.sp_run.proofs.saving.store_both.Goals as goal
 pub returns-in-Ok : goal.returns-in-Ok
 returns-in-Ok g c =
     let it : TwoFiles = record { name = c.args.name.now; bytes = c.args.text.now; beside = c.args.beside.now; records = c.args.records.now } in
-    second-tried it c.requires (g.F.Shelf.state c.args.shelf.now) (g.F.Shelf.state c.store.new.self) (g.F.Shelf.state c.store-2.new.self) c.store-2.result
-    c.in-Ok.ensures.leaves c.in-Ok.ensures.cause c.store.ensures.asks c.store-2.ensures.leaves c.store-2.ensures.cause c.store-2.ensures.asks
+    second-tried it c.requires (g.F.Shelf.state c.args.shelf.now) (g.F.Shelf.state c.store.new.self) (g.F.Shelf.state c.store-in-Ok.new.self) c.store-in-Ok.result
+    c.in-Ok.ensures.leaves c.in-Ok.ensures.cause c.store.ensures.asks c.store-in-Ok.ensures.leaves c.store-in-Ok.ensures.cause c.store-in-Ok.ensures.asks
 
 pub returns-in-Err : goal.returns-in-Err
 returns-in-Err g c =
