@@ -3,7 +3,7 @@ use crate::bytes::written_of;
 use crate::faults::Faults;
 use crate::lines::first_of;
 use crate::ran::{Program, kept, ran_over, shelf_of, store, written};
-use sp_shelf::MemoryShelf;
+use sp_kit::MemoryShelf;
 use std::alloc::{AllocError, Global};
 
 /// Keeps under a name what a run writes over what the shelf has.

@@ -2,8 +2,7 @@
 use crate::bytes::{said, written_of};
 use crate::faults::Faults;
 use crate::lines::{first_of, has, line_of, status_of};
-use sp_kit::{Counter, MemorySink, MemorySource};
-use sp_shelf::{Fetched, MemoryShelf, Shelf};
+use sp_kit::{Counter, Fetched, MemoryShelf, MemorySink, MemorySource, Shelf};
 use std::alloc::{AllocError, Global};
 
 /// More than any call asks for.

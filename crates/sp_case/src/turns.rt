@@ -3,7 +3,7 @@ use crate::bytes::written_of;
 use crate::faults::Faults;
 use crate::lines::{first_of, has, line_of, status_of};
 use crate::ran::{Outcome, Program, kept, ran, ran_over, shelf_of, store, written};
-use sp_shelf::MemoryShelf;
+use sp_kit::MemoryShelf;
 use std::alloc::{AllocError, Global};
 
 /// Compares what a run told and wrote in which a call failed: it has to end with the status, and to write what begins what the case

@@ -4,9 +4,8 @@
 #![tactic(auto)]
 
 use sp_case::{Program, faults_of, shown};
-use sp_kit::{Counter, MemorySink, MemorySource};
+use sp_kit::{Counter, MemoryShelf, MemorySink, MemorySource};
 use sp_run::{Status, fault_line, run};
-use sp_shelf::MemoryShelf;
 use std::alloc::{AllocError, Global};
 use std::process::ExitCode;
 use std::rt::{Env, Files};

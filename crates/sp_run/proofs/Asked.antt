@@ -5,7 +5,7 @@ use Rattle.std.specs.declared.result.Result.{Result}
 use Rattle.spec_session.specs.Runs.{Counts}
 use Rattle.spec_state.specs.Printing.{Printing}
 use Rattle.spec_state.specs.State.{State}
-use Rattle.sp_shelf.specs.Files.{Asks, CallOf, Files, ShelfState, fetch}
+use Rattle.sp_kit.specs.Files.{Asks, CallOf, Files, ShelfState, fetch}
 use Rattle.sp_kit.specs.Outside.{SourceState, SinkState}
 use Rattle.sp_run.specs.declared.form.View.{View}
 use Rattle.sp_run.specs.declared.status.Status.{Status}

@@ -6,7 +6,7 @@ use Rattle.spec_session.specs.Sessions.{SessionEnds, Streams}
 use Rattle.spec_session.specs.declared.SessionEnd.{SessionEnd}
 use Rattle.spec_session.specs.declared.SessionEnd.TheVariants as endings
 use Rattle.spec_session.proofs.KeepLaws.{ends-keep}
-use Rattle.sp_shelf.specs.Files.{Asks, CallOf, ShelfState, fetch}
+use Rattle.sp_kit.specs.Files.{Asks, CallOf, ShelfState, fetch}
 use Rattle.sp_run.specs.declared.status.Status.{Status}
 use Rattle.sp_run.specs.declared.status.Status.TheVariants as statuses
 use Rattle.sp_run.specs.Asking.{AsksTwo, CommandsAsk, OpeningAsks, SessionAsks, calls_saved}

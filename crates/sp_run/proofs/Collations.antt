@@ -9,7 +9,7 @@ use Rattle.sp_packet.specs.Collating.{IsNotCollated}
 use Rattle.sp_packet.specs.declared.fault.CollateFault.{CollateFault}
 use Rattle.sp_packet.specs.declared.fault.CollateFault.TheVariants as sheets_faults
 use Rattle.sp_kit.specs.Causes.{Rose}
-use Rattle.sp_shelf.specs.Files.{Files, ShelfState}
+use Rattle.sp_kit.specs.Files.{Files, ShelfState}
 use Rattle.sp_kit.specs.Outside.{SinkState}
 use Rattle.sp_text.specs.declared.fault.TextFault.TheVariants as faults
 use Rattle.sp_run.specs.declared.status.Status.{Status}

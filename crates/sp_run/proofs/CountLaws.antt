@@ -5,7 +5,7 @@ use Rattle.spec_wire.specs.Replies.{RefusalOf, refused}
 use Rattle.spec_machine.specs.Machine.{Memory}
 use Rattle.spec_machine.specs.Answers.{step_of}
 use Rattle.spec_session.specs.Runs.{Counts}
-use Rattle.sp_shelf.specs.Files.{ShelfState}
+use Rattle.sp_kit.specs.Files.{ShelfState}
 use Rattle.sp_run.specs.declared.status.Status.{Status}
 use Rattle.sp_run.specs.declared.status.Status.TheVariants as statuses
 use Rattle.sp_desk.specs.Reads.{CommandReads}

@@ -10,7 +10,7 @@ use Rattle.spec_session.proofs.EndLaws.{ends-settle}
 use Rattle.spec_machine.specs.Machine.{opened_memory}
 use Rattle.spec_state.specs.State.{State}
 use Rattle.spec_state.specs.Printing.{too_long, printing_of}
-use Rattle.sp_shelf.specs.Files.{Files}
+use Rattle.sp_kit.specs.Files.{Files}
 use Rattle.sp_text.specs.declared.fault.TextFault.TheVariants as faults
 use Rattle.sp_run.specs.declared.status.Status.{Status}
 use Rattle.sp_run.specs.declared.status.Status.TheVariants as statuses

@@ -21,7 +21,7 @@ use Rattle.spec_machine.specs.Machine.{Memory, opened_memory}
 use Rattle.spec_machine.specs.Answers.{Step}
 use Rattle.spec_machine.specs.KeptMemories.{IsWholeMemory}
 use Rattle.spec_locked_pages.specs.Chains.{AreLinked}
-use Rattle.sp_shelf.specs.Files.{ShelfState}
+use Rattle.sp_kit.specs.Files.{ShelfState}
 use Rattle.sp_run.specs.Records.{records_name}
 use Rattle.sp_run.specs.Saving.{Changes, KeepsAllBut}
 use Rattle.sp_run.specs.DeskLines.{NamedDesk, AnswersLine, RepliesTo, StopsAtLine, asks_save, answered_line, answered_lines, desk_at, desk_itself, line_step_by, other_step, saved_step, saves}

@@ -6,7 +6,7 @@ use Rattle.spec_session.specs.Runs.{Counts}
 use Rattle.spec_session.specs.declared.SessionEnd.{SessionEnd}
 use Rattle.spec_session.specs.declared.SessionEnd.TheVariants as endings
 use Rattle.spec_state.specs.Printing.{too_long, printing_of}
-use Rattle.sp_shelf.specs.Files.{Files}
+use Rattle.sp_kit.specs.Files.{Files}
 use Rattle.sp_text.specs.declared.fault.TextFault.TheVariants as faults
 use Rattle.sp_run.specs.declared.form.View.{View}
 use Rattle.sp_run.specs.declared.status.Status.{Status}

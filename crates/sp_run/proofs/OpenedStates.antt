@@ -12,7 +12,7 @@ use Rattle.spec_state.specs.State as states
 use Rattle.spec_state.specs.Keeping.{IsWhole, records_of, state_of}
 use Rattle.spec_state.proofs.OpenedLaws.{opening-whole}
 use Rattle.spec_state.proofs.SavedStates.{file-state, made-whole}
-use Rattle.sp_shelf.specs.Files.{Files, ShelfState}
+use Rattle.sp_kit.specs.Files.{Files, ShelfState}
 use Rattle.sp_text.specs.Gap.{LinesState, text_of}
 use Rattle.sp_records.specs.Decoding.{IsRelabelled, IsDecoding}
 use Rattle.sp_records.specs.declared.fault.RecordsFault.{RecordsFault}

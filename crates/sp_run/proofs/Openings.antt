@@ -6,7 +6,7 @@ use Rattle.spec_text.specs.Lines.{line_texts}
 use Rattle.spec_state.specs.Printing.{too_long, printing_of}
 use Rattle.spec_state.specs.State.{State}
 use Rattle.sp_kit.specs.Causes.{Rose}
-use Rattle.sp_shelf.specs.Files.{Files, ShelfState}
+use Rattle.sp_kit.specs.Files.{Files, ShelfState}
 use Rattle.sp_kit.specs.Outside.{SourceState, SinkState}
 use Rattle.sp_text.specs.Gap.{LinesState}
 use Rattle.sp_text.specs.declared.fault.TextFault.TheVariants as faults

@@ -6,7 +6,7 @@ use Rattle.spec_records.proofs.FileLaws.{IsRecordFile-unique}
 use Rattle.spec_state.specs.State.{State}
 use Rattle.spec_state.specs.Keeping.{IsWhole}
 use Rattle.spec_state.specs.SavedStates.{state_of_file}
-use Rattle.sp_shelf.specs.Files.{Files, ShelfState}
+use Rattle.sp_kit.specs.Files.{Files, ShelfState}
 use Rattle.sp_run.specs.Opening.{HasState}
 use Rattle.sp_run.specs.Records.{OpensAs, OpensLines, records_name}
 use Rattle.sp_run.specs.Saving.{Changes, PutBoth, SavesState, files_of}

@@ -25,7 +25,7 @@ use Rattle.spec_locked_pages.specs.Chains.{AreLinked}
 use Rattle.spec_room.specs.Changes.{Text}
 use Rattle.spec_room.specs.Rooms.{RoomState, RoomStep, opened_room}
 use Rattle.spec_room.specs.Sessions.{Session, opens}
-use Rattle.sp_shelf.specs.Files.{ShelfState, Files}
+use Rattle.sp_kit.specs.Files.{ShelfState, Files}
 use Rattle.sp_run.specs.Records.{records_name}
 use Rattle.sp_run.specs.Saving.{Changes, KeepsAllBut}
 use Rattle.sp_run.specs.Asking.{AsksTwo, telling}

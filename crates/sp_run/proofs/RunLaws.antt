@@ -13,7 +13,7 @@ use Rattle.spec_state.specs.State.{State}
 use Rattle.spec_state.specs.Keeping.{IsWhole}
 use Rattle.spec_state.specs.Printing.{printing_of}
 use Rattle.spec_text.specs.Limits.{raw_limit}
-use Rattle.sp_shelf.specs.Files.{Files}
+use Rattle.sp_kit.specs.Files.{Files}
 use Rattle.sp_run.specs.declared.form.View.{View}
 use Rattle.sp_run.specs.declared.status.Status.{Status}
 use Rattle.sp_run.specs.declared.status.Status.TheVariants as statuses

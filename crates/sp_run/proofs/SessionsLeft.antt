@@ -20,7 +20,7 @@ use Rattle.spec_machine.specs.Answers.{Step}
 use Rattle.spec_machine.specs.Sessions.{LeadsTo}
 use Rattle.spec_machine.proofs.SessionLaws.{reopened-leads}
 use Rattle.spec_room.specs.Rooms.{RoomState, RoomStep, opened_room}
-use Rattle.sp_shelf.specs.Files.{Files, ShelfState}
+use Rattle.sp_kit.specs.Files.{Files, ShelfState}
 use Rattle.sp_run.specs.Asking.{telling}
 use Rattle.sp_run.specs.DeskEnding.{HeldSession}
 use Rattle.sp_run.specs.DeskLines.{AnswersLine, Leaves, NamedDesk, RepliesTo, Stores, asks_save, desk_at, desk_itself, line_step_by, memories_of, other_step, saved_step, saves}

@@ -9,7 +9,7 @@ use Rattle.spec_text.specs.Limits.{raw_limit}
 use Rattle.spec_text.specs.Lines.{text_full, reading_of}
 use Rattle.spec_state.specs.State.{State, opened_state}
 use Rattle.spec_state.specs.Printing.{Printing, too_long, no_utf8, long_line, printed, printed_state, printing_of, printing_of_reading}
-use Rattle.sp_shelf.specs.Files.{Files}
+use Rattle.sp_kit.specs.Files.{Files}
 use Rattle.sp_text.specs.declared.fault.TextFault.TheVariants as faults
 use Rattle.sp_run.specs.declared.status.Status.{Status}
 use Rattle.sp_run.specs.declared.status.Status.TheVariants as statuses

@@ -6,7 +6,7 @@ use Rattle.spec_text.specs.Lines.{text_bytes}
 use Rattle.spec_records.specs.RecordFile.{written}
 use Rattle.spec_state.specs.State.{State}
 use Rattle.spec_state.specs.Keeping.{state_kept}
-use Rattle.sp_shelf.specs.Files.{Files, ShelfState, KeepsOthers}
+use Rattle.sp_kit.specs.Files.{Files, ShelfState, KeepsOthers}
 use Rattle.sp_run.specs.Records.{records_name}
 use Rattle.sp_run.proofs.Asked.{asks-none}
 use Rattle.sp_run.specs.Saving.{Changes, KeepsAllBut, TwoFiles, files_of, PutBoth, PutFirst, StoreFailed, LeftFirst, StoreLeft}

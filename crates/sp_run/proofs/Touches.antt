@@ -15,7 +15,7 @@ use Rattle.spec_machine.specs.Machine.{Memory}
 use Rattle.spec_machine.specs.KeptMemories.{IsWholeMemory}
 use Rattle.spec_locked_pages.specs.Chains.{AreLinked}
 use Rattle.spec_state.specs.State.{State}
-use Rattle.sp_shelf.specs.Files.{Files, ShelfState, HasOldOrNew}
+use Rattle.sp_kit.specs.Files.{Files, ShelfState, HasOldOrNew}
 use Rattle.sp_run.specs.Records.{records_name}
 use Rattle.sp_run.specs.Saving.{Changes, KeepsAllBut, KeepsOrPuts, LeftFirst, PutBoth, StoreFailed, TwoFiles, files_of}
 use Rattle.sp_run.specs.DeskLines.{NamedDesk, Stores, Leaves, memories_of, shelf_behind, unsaved_count}

@@ -3,9 +3,9 @@ use Rattle.std.proofs.Common.{◌≡◌, ◌≢◌, ℕ, ◌≤◌, ◌⊎◌, L
 use Rattle.std.specs.Prelude.{IsTrue, Ok, Err}
 use Rattle.std.specs.declared.result.Result.{Result}
 use Rattle.sp_kit.specs.Causes.{Rose}
-use Rattle.sp_shelf.specs.Files.{Asks, Files, ShelfState, HasOldOrNew, HasShelfCause, KeepsOthers, StoreLeaves, store}
-use Rattle.sp_shelf.specs.declared.shelf.ShelfFault.{ShelfFault}
-use Rattle.sp_shelf.specs.declared.shelf.ShelfFault.TheVariants as shelf_faults
+use Rattle.sp_kit.specs.Files.{Asks, Files, ShelfState, HasOldOrNew, HasShelfCause, KeepsOthers, StoreLeaves, store}
+use Rattle.sp_kit.specs.declared.shelf.ShelfFault.{ShelfFault}
+use Rattle.sp_kit.specs.declared.shelf.ShelfFault.TheVariants as shelf_faults
 use Rattle.sp_run.specs.Saving.{Changes, KeepsOrPuts, LeftFirst, PutBoth, PutFirst, StoresBoth, TwoFiles}
 use Rattle.sp_run.proofs.Asked.{asks-on}
 

@@ -1,7 +1,7 @@
 -- What a run asks a shelf, as far as that tells its calls (docs/RULES.md, "The program").
 use Rattle.std.specs.Prelude.{◌≡◌, ℕ, ◌⊎◌, List, [], ◌∷◌, flat_map, string_bytes, Option, Ok, Err}
 use Rattle.std.specs.declared.result.Result.{Result}
-use Rattle.sp_shelf.specs.Files.{Asks, CallOf, ShelfState, fetch}
+use Rattle.sp_kit.specs.Files.{Asks, CallOf, ShelfState, fetch}
 use Rattle.sp_run.specs.declared.status.Status.{Status}
 use Rattle.sp_run.specs.declared.status.Status.TheVariants as statuses
 use Rattle.sp_run.specs.Forms.{OriginOf, from_source, from_file}

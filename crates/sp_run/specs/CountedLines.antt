@@ -6,7 +6,7 @@ use Rattle.spec_state.specs.State.{State}
 use Rattle.spec_wire.specs.Commands.{CommandOf, FaultOf}
 use Rattle.spec_machine.specs.Machine.{Memory}
 use Rattle.spec_session.specs.Runs.{Counts}
-use Rattle.sp_shelf.specs.Files.{ShelfState}
+use Rattle.sp_kit.specs.Files.{ShelfState}
 use Rattle.sp_desk.specs.Outcomes.{FillsAtMost, FillsOf, ReadsAtMost, ReadsOf}
 use Rattle.sp_run.specs.Counted.{OpeningCountsAtMost}
 use Rattle.sp_run.specs.Opening.{HasState}

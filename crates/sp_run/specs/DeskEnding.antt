@@ -9,7 +9,7 @@ use Rattle.spec_session.specs.Sessions.{SessionEnds, streams}
 use Rattle.spec_session.specs.declared.SessionEnd.{SessionEnd}
 use Rattle.spec_session.specs.declared.SessionEnd.TheVariants as endings
 use Rattle.spec_state.specs.Printing.{no_utf8, long_line, printing_of}
-use Rattle.sp_shelf.specs.Files.{CallOf, Files, ShelfState}
+use Rattle.sp_kit.specs.Files.{CallOf, Files, ShelfState}
 use Rattle.sp_text.specs.declared.fault.TextFault.TheVariants as faults
 use Rattle.sp_run.specs.declared.status.Status.{Status}
 use Rattle.sp_run.specs.declared.status.Status.TheVariants as statuses

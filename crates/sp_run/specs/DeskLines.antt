@@ -13,7 +13,7 @@ use Rattle.spec_state.specs.State.{State}
 use Rattle.spec_machine.specs.Machine.{Memory}
 use Rattle.spec_machine.specs.Answers.{Step, step_of}
 use Rattle.spec_packet.specs.StatePackets.{packet_places}
-use Rattle.sp_shelf.specs.Files.{ShelfState}
+use Rattle.sp_kit.specs.Files.{ShelfState}
 use Rattle.sp_run.specs.CountedLines.{LineCounts, LineCountsAtMost}
 use Rattle.sp_run.specs.Promises.{Follows}
 use Rattle.sp_run.specs.Saving.{SavesState, StoreFailed, StoreLeft, files_of}

@@ -3,7 +3,7 @@ use Rattle.std.specs.Prelude.{◌≡◌, ℕ, List, Some}
 use Rattle.spec_session.specs.declared.SessionEnd.{SessionEnd}
 use Rattle.spec_session.specs.declared.SessionEnd.TheVariants as endings
 use Rattle.spec_state.specs.State.{State}
-use Rattle.sp_shelf.specs.Files.{Files, ShelfState}
+use Rattle.sp_kit.specs.Files.{Files, ShelfState}
 use Rattle.sp_run.specs.Records.{records_name}
 use Rattle.sp_run.specs.Saving.{StoreLeft, files_of}
 

@@ -9,7 +9,7 @@ use Rattle.spec_session.specs.Sessions.{SessionEnds, streams}
 use Rattle.spec_session.specs.declared.SessionEnd.{SessionEnd}
 use Rattle.sp_run.specs.declared.status.Status.{Status}
 use Rattle.spec_room.specs.Rooms.{opened_room}
-use Rattle.sp_shelf.specs.Files.{CallOf}
+use Rattle.sp_kit.specs.Files.{CallOf}
 use Rattle.sp_run.specs.Counted.{OpeningCounts}
 use Rattle.sp_run.specs.DeskLines.{memories_of, shelf_behind}
 use Rattle.sp_run.specs.RoomLines.{AnswersRoomLine, NamedRoom, StopsAtRoomLine, answered_room_lines, desk_in, room_at, seat_saves}

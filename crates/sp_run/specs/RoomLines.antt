@@ -8,7 +8,7 @@ use Rattle.spec_wire.specs.Lines.{room_line_of_line}
 use Rattle.spec_wire.specs.Replies.{ReplyOf, refused, saved, shelf, unreadable, room_reply_line}
 use Rattle.spec_session.specs.Runs.{Answered, AtShelf, Counts, at_shelf}
 use Rattle.spec_room.specs.Rooms.{RoomState, RoomStep, room_step_to, room_step_of}
-use Rattle.sp_shelf.specs.Files.{ShelfState}
+use Rattle.sp_kit.specs.Files.{ShelfState}
 use Rattle.sp_run.specs.SeatCounted.{SeatCounts, SeatCountsAtMost}
 use Rattle.sp_run.specs.DeskLines.{NamedDesk, Leaves, Stores, asks_save, is_packet, is_save, packet_reply}
 use Rattle.sp_run.specs.Promises.{Follows}

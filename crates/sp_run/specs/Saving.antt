@@ -7,9 +7,9 @@ use Rattle.spec_state.specs.State.{State}
 use Rattle.spec_state.specs.Keeping.{state_kept}
 use Rattle.spec_wire.specs.Replies.{ReplyOf, saved, refused, shelf}
 use Rattle.sp_kit.specs.Causes.{Rose}
-use Rattle.sp_shelf.specs.Files.{Asks, CallOf, Files, ShelfState, HasOldOrNew, KeepsOthers, store}
-use Rattle.sp_shelf.specs.declared.shelf.ShelfFault.{ShelfFault}
-use Rattle.sp_shelf.specs.declared.shelf.ShelfFault.TheVariants as shelf_faults
+use Rattle.sp_kit.specs.Files.{Asks, CallOf, Files, ShelfState, HasOldOrNew, KeepsOthers, store}
+use Rattle.sp_kit.specs.declared.shelf.ShelfFault.{ShelfFault}
+use Rattle.sp_kit.specs.declared.shelf.ShelfFault.TheVariants as shelf_faults
 use Rattle.sp_run.specs.Records.{records_name, OpensAs}
 
 -- What a shelf holds before and after, where it is told; it doesn't fall silent.

@@ -4,7 +4,7 @@ use Rattle.std.specs.declared.result.Result.{Result}
 use Rattle.std.specs.Io.KnownBytes.{Consumes, Keeps}
 use Rattle.spec_text.specs.Lines.{line_texts, lines, reading_of}
 use Rattle.spec_state.specs.Printing.{Printing, too_long, no_utf8, long_line, printing_of}
-use Rattle.sp_shelf.specs.Files.{ShelfState}
+use Rattle.sp_kit.specs.Files.{ShelfState}
 use Rattle.sp_kit.specs.Outside.{SourceState, SinkState}
 use Rattle.sp_records.specs.declared.fault.RecordsFault.{RecordsFault}
 use Rattle.sp_text.specs.Gap.{LinesState}

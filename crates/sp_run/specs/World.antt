@@ -1,7 +1,7 @@
 -- The world of a run, which its words change (docs/RULES.md, "The program").
 use Rattle.std.specs.Prelude.{ℕ}
 use Rattle.spec_session.specs.Runs.{Counts, counts_of}
-use Rattle.sp_shelf.specs.Files.{ShelfState}
+use Rattle.sp_kit.specs.Files.{ShelfState}
 use Rattle.sp_kit.specs.Outside.{SourceState, SinkState}
 use Rattle.sp_run.specs.Unopened.{Outside, outside}
 

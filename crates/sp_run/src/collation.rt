@@ -4,9 +4,8 @@ ghost use Rattle.sp_run.specs.Asking.{AsksOne, CollatedAsks, CollationAsks};
 ghost use Rattle.sp_run.specs.Collating.{FetchedSheets, NoSheets, Comes, NotCollated, CollateEnds, gives};
 
 use crate::Status;
-use sp_kit::{Sink, write_whole};
+use sp_kit::{Fetched, Shelf, ShelfFault, Sink, write_whole};
 use sp_packet::collate;
-use sp_shelf::{Fetched, Shelf, ShelfFault};
 use sp_text::TextFault;
 use std::alloc::Global;
 

@@ -10,10 +10,9 @@ ghost use Rattle.sp_run.specs.DeskLines.{RepliesTo, StopsAt, is_packet, is_save,
 
 use crate::desk_saving::save_desk;
 use sp_desk::{Desk, DeskFault};
-use sp_kit::Steps;
+use sp_kit::{Shelf, Steps};
 use sp_packet::{PacketFault, packet};
 use sp_session::Responder;
-use sp_shelf::Shelf;
 use sp_wire::{Command, Refusal, Reply, WireFault, line_buffer, read_command, write_reply};
 use std::alloc::{AllocError, Global};
 use std::marker::Model;

@@ -5,7 +5,7 @@ ghost use Rattle.sp_run.specs.Saving.{RepliesToSave, StoreLeft, files_of};
 
 use crate::save;
 use sp_desk::Desk;
-use sp_shelf::Shelf;
+use sp_kit::Shelf;
 use sp_wire::Reply;
 use std::alloc::{AllocError, Global};
 

@@ -14,9 +14,8 @@ ghost use Rattle.sp_run.specs.Unopened.{Unopened, outside};
 use crate::desk_lines::DeskLines;
 use crate::{Origin, Status, open_state};
 use sp_desk::Desk;
-use sp_kit::{Sink, Source, Steps};
+use sp_kit::{Shelf, Sink, Source, Steps};
 use sp_session::session;
-use sp_shelf::Shelf;
 use std::alloc::Global;
 use std::mem;
 

@@ -14,9 +14,8 @@ ghost use Rattle.sp_run.specs.Unopened.{ReadsUpTo, Unopened, outside};
 
 use crate::script::{open_script, read_lines};
 use crate::{Origin, Status};
-use sp_kit::Source;
+use sp_kit::{Fetched, Shelf, ShelfFault, Source};
 use sp_records::{Records, RecordsFault, decode};
-use sp_shelf::{Fetched, Shelf, ShelfFault};
 use sp_text::Lines;
 use std::alloc::{AllocError, Global};
 

@@ -13,10 +13,9 @@ ghost use Rattle.sp_run.specs.RoomLines.{SeatReplies, SeatStops, room_at};
 
 use crate::{is_packet, is_save, packet_reply, save_desk};
 use sp_desk::DeskFault;
-use sp_kit::Steps;
+use sp_kit::{Shelf, Steps};
 use sp_room::Room;
 use sp_session::Responder;
-use sp_shelf::Shelf;
 use sp_wire::{
     Refusal, Reply, RoomLine, WireFault, line_buffer, read_room_command, write_room_reply,
 };

@@ -7,10 +7,9 @@ ghost use Rattle.sp_run.specs.World.{world};
 
 use crate::room_lines::RoomLines;
 use crate::{Status, open_desk};
-use sp_kit::{Sink, Source, Steps};
+use sp_kit::{Shelf, Sink, Source, Steps};
 use sp_room::Room;
 use sp_session::session;
-use sp_shelf::Shelf;
 use std::alloc::Global;
 use std::mem;
 

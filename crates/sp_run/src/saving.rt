@@ -7,7 +7,7 @@ ghost use Rattle.sp_run.specs.Saving.{RepliesToSave, StoreLeft, StoresBoth, file
 
 use crate::opening::records_name;
 use sp_records::{Records, digest, encode};
-use sp_shelf::{Shelf, ShelfFault};
+use sp_kit::{Shelf, ShelfFault};
 use sp_text::Lines;
 use sp_wire::{Refusal, Reply};
 use std::alloc::{AllocError, Global};

@@ -6,8 +6,7 @@ ghost use Rattle.sp_session.specs.Answering.{AnswersLine, end_of};
 
 use crate::lines::{CommandLines, LineStop, NextLine};
 use crate::responder::Responder;
-use sp_kit::{Sink, Source, Steps, write_whole};
-use sp_shelf::Shelf;
+use sp_kit::{Shelf, Sink, Source, Steps, write_whole};
 use spec_session::SessionEnd;
 use std::alloc::Global;
 

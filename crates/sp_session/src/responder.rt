@@ -1,8 +1,7 @@
 ghost use Rattle.std.specs.Prelude.{ℕ, ◌+◌, ◌<◌, ◌≤◌, List, IfOk, OnOk, OnErr};
 ghost use Rattle.spec_session.specs.Runs.{AtShelf, at_shelf, counts_of};
 
-use sp_kit::Steps;
-use sp_shelf::Shelf;
+use sp_kit::{Shelf, Steps};
 use std::alloc::AllocError;
 
 /// What answers the lines of a session, with a shelf at hand (docs/RULES.md, "Sessions"). What can be told of it is which

@@ -3,8 +3,8 @@ use Rattle.std.specs.Prelude.{◌≡◌, ℕ, List, length, take, Some}
 use Rattle.std.specs.declared.option.Option.{Option}
 use Rattle.sha2.specs.Sha256.{sha256}
 use Rattle.sp_kit.specs.Causes.{one_more}
-use Rattle.sp_shelf.specs.declared.shelf.Fetched.{Fetched}
-use Rattle.sp_shelf.specs.declared.shelf.Fetched.TheVariants as fetched
+use Rattle.sp_kit.specs.declared.shelf.Fetched.{Fetched}
+use Rattle.sp_kit.specs.declared.shelf.Fetched.TheVariants as fetched
 use Rattle.sp_system.specs.declared.known.Content.{Content}
 use Rattle.sp_system.specs.declared.known.Known.{Known}
 use Rattle.sp_system.specs.declared.known.Known.TheVariants as known

@@ -4,11 +4,11 @@ ghost use Rattle.std.specs.Prelude.{◌≡◌, ◌≤◌, Some, Ok, IfSome, IfOk
 ghost use Rattle.std.specs.Io.KnownBytes.{Appends};
 ghost use Rattle.std.specs.BTreeMap.{get_by_text};
 ghost use Rattle.sp_kit.specs.Causes.{Rose};
-ghost use Rattle.sp_shelf.specs.Files.{FetchesAtMost, FetchGives, StoreLeaves, HasShelfCause};
+ghost use Rattle.sp_kit.specs.Files.{FetchesAtMost, FetchGives, StoreLeaves, HasShelfCause};
 ghost use Rattle.sp_system.specs.Known.{IsAsKnown, KnowsBytes, KnowsFetched};
 
 use crate::known::{Content, Known, Names, know, know_fetched, make_room};
-use sp_shelf::{Fetched, Shelf, ShelfFault};
+use sp_kit::{Fetched, Shelf, ShelfFault};
 use std::alloc::Global;
 use std::collections::BTreeMap;
 use std::fs::{self, File, Metadata, OpenFile, OpenOptions, Permissions};

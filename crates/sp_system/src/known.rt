@@ -5,7 +5,7 @@ ghost use Rattle.sha2.specs.Sha256.{sha256};
 ghost use Rattle.sp_system.specs.Known.{IsContent, IsAsKnown, KnowsFetched};
 
 use sha2::{Digest, Sha256};
-use sp_shelf::Fetched;
+use sp_kit::Fetched;
 use std::alloc::{AllocError, Global};
 use std::collections::BTreeMap;
 use std::io::{self, ErrorKind, Read};

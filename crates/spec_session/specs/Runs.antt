@@ -1,6 +1,6 @@
 -- What answering lines in order comes to (docs/RULES.md, "Sessions").
 use Rattle.std.specs.Prelude.{ℕ, List, [], ◌∷◌, map, flat_map}
-use Rattle.sp_shelf.specs.Files.{ShelfState}
+use Rattle.sp_kit.specs.Files.{ShelfState}
 
 -- How many stanzas were read, and how many pages were filled.
 pub record Counts : Type 0 where

@@ -2,7 +2,7 @@ use Rattle.std.proofs.Common.{sym, ap, refl, subst}
 use Rattle.spec_session.specs.Runs.{at_shelf, counts_of}
 use Rattle.spec_session.specs.Sessions.{SessionEnds, streams}
 use Rattle.std.specs.declared.option.Option.{Option}
-use Rattle.sp_shelf.specs.Files.{Files}
+use Rattle.sp_kit.specs.Files.{Files}
 use Rattle.sp_kit.specs.Outside.{SourceState}
 use Rattle.sp_run.specs.DeskLines.{AnswersLine, StopsAtLine, desk_at}
 use Rattle.sp_run.specs.Records.{records_name}

@@ -2,7 +2,7 @@ use Rattle.std.proofs.Common.{sym, ap, refl, subst}
 use Rattle.spec_session.specs.Runs.{at_shelf, counts_of}
 use Rattle.spec_session.specs.Sessions.{SessionEnds, streams}
 use Rattle.std.specs.declared.option.Option.{Option}
-use Rattle.sp_shelf.specs.Files.{Files}
+use Rattle.sp_kit.specs.Files.{Files}
 use Rattle.sp_kit.specs.Outside.{SourceState}
 use Rattle.spec_room.specs.Rooms.{RoomState, opened_room}
 use Rattle.sp_run.specs.RoomLines.{AnswersRoomLine, StopsAtRoomLine, room_at}

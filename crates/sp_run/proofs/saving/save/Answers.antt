@@ -1,7 +1,7 @@
 use Rattle.std.proofs.Common.{refl, ◌∙◌, subst}
 use Rattle.std.specs.Prelude.{Err}
 use Rattle.spec_state.specs.Keeping.{state_of}
-use Rattle.sp_shelf.specs.declared.shelf.ShelfFault.{ShelfFault}
+use Rattle.sp_kit.specs.declared.shelf.ShelfFault.{ShelfFault}
 use Rattle.sp_text.specs.Gap.{text_of}
 use Rattle.sp_run.specs.Saving.{TwoFiles, StoredBoth, StoreFailed, StoreLeft, StoresBoth, files_of}
 use Rattle.sp_run.proofs.SavedTexts.{saved-opens-again}

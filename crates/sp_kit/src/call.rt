@@ -1,6 +1,6 @@
 ghost use Rattle.std.specs.Prelude.{◌≡◌, [], ◌∷◌, Some, IfOk};
-ghost use Rattle.sp_shelf.specs.Files.{Asks, fetch, store};
-ghost use Rattle.sp_shelf.specs.Memory.{call_of, calls_of};
+ghost use Rattle.sp_kit.specs.Files.{Asks, fetch, store};
+ghost use Rattle.sp_kit.specs.Memory.{call_of, calls_of};
 
 use std::alloc::{AllocError, Global};
 
