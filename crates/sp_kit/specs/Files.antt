@@ -1,5 +1,5 @@
 -- What a shelf holds, and what its calls may answer and leave (docs/RULES.md, "The program").
-use Rattle.std.specs.Prelude.{◌≡◌, ◌≢◌, ℕ, ◌<◌, ◌≤◌, ◌⊎◌, Bool, IsTrue, List, length, Ok, Err, Some, None, IsSomeAnd}
+use Rattle.std.specs.Prelude.{◌≡◌, ◌≢◌, ℕ, ◌<◌, ◌≤◌, ◌⊎◌, Bool, IsTrue, List, ◌++◌, length, Ok, Err, Some, None, IfSome, IsSomeAnd}
 use Rattle.std.specs.declared.option.Option.{Option}
 use Rattle.std.specs.declared.result.Result.{Result}
 use Rattle.sp_kit.specs.Causes.{Rose}
@@ -14,10 +14,20 @@ pub record Files : Type 0 where
   pub held : List ℕ → Option (List ℕ)
   pub atomic : Bool
 
--- A shelf: its files, where they are known, and its count of faults.
+-- A call of a shelf, by the name that it was for.
+pub data CallOf : Type 0 where
+  fetch : List ℕ → CallOf
+  store : List ℕ → CallOf
+
+-- A shelf: its files, where they are known, its count of faults, and the calls that it was asked, in order, where it tells them.
 pub record ShelfState : Type 0 where
   pub files : Option Files
   pub faults : ℕ
+  pub calls : Option (List CallOf)
+
+-- These calls were asked behind those before, and no others, where they are told. A shelf may fall silent, and tells none from then on.
+abbrev pub Asks : Option (List CallOf) → Option (List CallOf) → List CallOf → Type 0
+Asks old new calls = IfSome new (λ now. IsSomeAnd old (λ before. now ≡ before ++ calls))
 
 -- What a fetch of at most so many bytes answers where this stands under the name. A fault says nothing of it.
 abbrev pub FetchGives : Option (List ℕ) → ℕ → Result Fetched ShelfFault → Type 0

@@ -1,12 +1,14 @@
 -- What the objects in memory hold (docs/RULES.md, "The program").
-use Rattle.std.specs.Prelude.{ℕ, true, List, map, string_bytes, bytes_eq}
+use Rattle.std.specs.Prelude.{ℕ, true, List, map, option_map, string_bytes, bytes_eq}
 use Rattle.std.specs.declared.option.Option.{Option}
 use Rattle.std.specs.declared.string.String.{String}
 use Rattle.std.specs.declared.vec.Vec.{Vec}
 use Rattle.std.specs.declared.alloc.Global.{Global}
 use Rattle.std.specs.BTreeMap.{BTreeMap}
 use Rattle.std.specs.Map.{lookup}
-use Rattle.sp_kit.specs.Files.{Files}
+use Rattle.sp_kit.specs.Files.{Files, CallOf, fetch, store}
+use Rattle.sp_kit.specs.declared.call.Call.{Call}
+use Rattle.sp_kit.specs.declared.call.Call.TheVariants as calls
 
 -- A source in memory: the bytes that weren't read yet, the most bytes of one call, the numbers of the calls that fail,
 -- the number of the next call, and the count of faults.
@@ -44,10 +46,19 @@ found_in files name = lookup (bytes_eq name) files
 abbrev pub told_in : List (List ℕ × List ℕ) → Files
 told_in files = record { held = found_in files; atomic = true }
 
--- A shelf in memory: its files, each with its name, the numbers of the calls that fail, the number of the next call, and
--- the count of faults.
+-- A call, and calls in order where there are some, as a shelf tells them.
+abbrev pub call_of : Call → CallOf
+call_of (calls.Fetch name) = fetch (string_bytes name)
+call_of (calls.Store name) = store (string_bytes name)
+
+abbrev pub calls_of : Option (Vec Call Global) → Option (List CallOf)
+calls_of asked = option_map (λ (v : Vec Call Global). map call_of v.items) asked
+
+-- A shelf in memory: its files, each with its name, the numbers of the calls that fail, the number of the next call, the count of
+-- faults, and the calls that it was asked, where there was memory to keep them.
 pub record MemoryShelfState : Type 0 where
   pub files : List (List ℕ × List ℕ)
   pub fails : List ℕ
   pub call : ℕ
   pub faults : ℕ
+  pub calls : Option (List CallOf)

@@ -2,6 +2,7 @@
 //! objects in memory that stand for the real ones.
 #![tactic(auto)]
 
+mod call;
 mod growing_sink;
 mod memory_shelf;
 mod memory_sink;
@@ -10,6 +11,7 @@ mod outside;
 mod shelf;
 mod steps;
 
+pub use call::Call;
 pub use growing_sink::GrowingSink;
 pub use memory_shelf::MemoryShelf;
 pub use memory_sink::MemorySink;

@@ -1,15 +1,16 @@
-ghost use Rattle.std.specs.Prelude.{◌≡◌, ◌≤◌, ◌↔◌, [], Some, Contains, IsTrue, MatchOption, OnOk, OnErr};
+ghost use Rattle.std.specs.Prelude.{◌≡◌, ◌≤◌, ◌↔◌, [], ◌∷◌, Some, Contains, IsTrue, MatchOption, OnOk, OnErr};
 ghost use Rattle.std.specs.Bool.{MatchBool};
 ghost use Rattle.sp_kit.specs.Causes.{one_more};
-ghost use Rattle.sp_kit.specs.Files.{FetchGives, FetchesAtMost, KeepsOthers, StoreLeaves, HasShelfCause};
+ghost use Rattle.sp_kit.specs.Files.{Asks, FetchGives, FetchesAtMost, KeepsOthers, StoreLeaves, HasShelfCause, fetch, store};
 ghost use Rattle.sp_kit.specs.Memory.{files_of, found_in, told_in};
 
+use crate::call::{Call, with_fetch, with_store};
 use crate::shelf::{Fetched, Shelf, ShelfFault};
 use std::alloc::{AllocError, Global};
 use std::collections::BTreeMap;
 use std::marker::Model;
 
-/// A shelf in memory that fails at chosen calls.
+/// A shelf in memory that fails at chosen calls, and keeps which calls it was asked.
 #[derive(Drop)]
 pub struct MemoryShelf {
     alloc: Global,
@@ -17,21 +18,22 @@ pub struct MemoryShelf {
     fails: Vec<u64>,
     call: u64,
     faults: u64,
+    calls: Option<Vec<Call>>,
 }
 
 impl Model for MemoryShelf {
-    ghost use Rattle.sp_kit.specs.Memory.{MemoryShelfState, files_of};
+    ghost use Rattle.sp_kit.specs.Memory.{MemoryShelfState, calls_of, files_of};
 
     ghost Value = { MemoryShelfState };
 
-    ghost view = { λ s. record { files = files_of s.files; fails = s.fails.items; call = s.call; faults = s.faults } };
+    ghost view = { λ s. record { files = files_of s.files; fails = s.fails.items; call = s.call; faults = s.faults; calls = calls_of s.calls } };
 }
 
 impl MemoryShelf {
     /// Holds no file, and fails exactly the calls of fetch and store whose numbers are listed; both are counted together,
     /// from 0. Takes no memory.
     pub fn new(alloc: Global, fails: Vec<u64>) -> MemoryShelf
-        ensures { result ≡ record { files = []; fails = fails.items; call = 0; faults = 0 } }
+        ensures { result ≡ record { files = []; fails = fails.items; call = 0; faults = 0; calls = Some [] } }
     {
         MemoryShelf {
             alloc,
@@ -39,6 +41,7 @@ impl MemoryShelf {
             fails,
             call: 0,
             faults: 0,
+            calls: Some(Vec::new(alloc)),
         }
     }
 
@@ -48,6 +51,7 @@ impl MemoryShelf {
         ensures call { self.new.call ≡ one_more self.old.call }
         ensures cause { MatchBool result ((self.old.faults ≤ self.new.faults) × (self.new.faults ≡ one_more self.old.faults)) (self.new.faults ≡ self.old.faults) }
         ensures kept { (self.new.files ≡ self.old.files) × (self.new.fails ≡ self.old.fails) }
+        ensures calls { self.new.calls ≡ self.old.calls }
     {
         let is_listed = self.fails.contains(&self.call);
         self.call = self.call.saturating_add(1);
@@ -89,9 +93,10 @@ impl Shelf for MemoryShelf {
     ghost use Rattle.std.specs.declared.option.Option.TheVariants.{Some};
     ghost use Rattle.sp_kit.specs.Memory.{told_in};
 
-    ghost state = { λ s. record { files = Some (told_in s.files); faults = s.faults } };
+    ghost state = { λ s. record { files = Some (told_in s.files); faults = s.faults; calls = s.calls } };
 
-    /// Gives the bytes under the name, and fails exactly the listed calls. A failure counts one fault.
+    /// Gives the bytes under the name, and fails exactly the listed calls. A failure counts one fault. Where there is no memory to
+    /// keep the call, no calls are told from here on.
     fn fetch(&mut self, name: &str, most: usize) -> Result<Fetched, ShelfFault>
         ensures bound { FetchesAtMost most result }
         ensures gives { FetchGives (found_in self.old.files name.now) most result }
@@ -101,7 +106,9 @@ impl Shelf for MemoryShelf {
         ensures fails { (result ≡ Err ShelfFault.Failed) ↔ Contains self.old.fails self.old.call }
         ensures call { self.new.call ≡ one_more self.old.call }
         ensures plan { self.new.fails ≡ self.old.fails }
+        ensures asks { Asks self.old.calls self.new.calls (fetch name.now ∷ []) }
     {
+        self.calls = with_fetch(self.alloc, self.calls.take(), name);
         if self.fails_now() {
             return Err(ShelfFault::Failed);
         }
@@ -120,7 +127,9 @@ impl Shelf for MemoryShelf {
         ensures fails { (result ≡ Err ShelfFault.Failed) ↔ Contains self.old.fails self.old.call }
         ensures call { self.new.call ≡ one_more self.old.call }
         ensures plan { self.new.fails ≡ self.old.fails }
+        ensures asks { Asks self.old.calls self.new.calls (store name.now ∷ []) }
     {
+        self.calls = with_store(self.alloc, self.calls.take(), name);
         if self.fails_now() {
             return Err(ShelfFault::Failed);
         }

@@ -1,5 +1,5 @@
-ghost use Rattle.std.specs.Prelude.{◌≡◌, IfSome};
-ghost use Rattle.sp_kit.specs.Files.{ShelfState, FetchGives, FetchesAtMost, StoreLeaves, HasShelfCause};
+ghost use Rattle.std.specs.Prelude.{◌≡◌, [], ◌∷◌, IfSome};
+ghost use Rattle.sp_kit.specs.Files.{ShelfState, Asks, FetchGives, FetchesAtMost, StoreLeaves, HasShelfCause, fetch, store};
 
 use std::alloc::AllocError;
 
@@ -34,8 +34,8 @@ impl From<AllocError> for ShelfFault {
     }
 }
 
-/// Files by name. What can be told of it is what stands under each name, where that is known, whether it is atomic there, and a
-/// count of faults, which never falls (docs/RULES.md, "The program").
+/// Files by name. What can be told of it is what stands under each name, where that is known, whether it is atomic there, a
+/// count of faults, which never falls, and the calls that it was asked, where it tells them (docs/RULES.md, "The program").
 pub trait Shelf {
     ghost state: { Self → ShelfState };
 
@@ -46,12 +46,14 @@ pub trait Shelf {
         ensures bound { FetchesAtMost most result }
         ensures gives { IfSome (state self.old).files (λ files. FetchGives (files.held name.now) most result) }
         ensures kept { (state self.new).files ≡ (state self.old).files }
-        ensures cause { HasShelfCause (state self.old).faults (state self.new).faults result };
+        ensures cause { HasShelfCause (state self.old).faults (state self.new).faults result }
+        ensures asks { Asks (state self.old).calls (state self.new).calls (fetch name.now ∷ []) };
 
     /// Puts the bytes under a name, in place of what stood there. `Failed` comes only where the count of faults rose in
     /// this call; then a shelf that tells that it is atomic has under that name what stood there or these bytes, and of every
     /// other it is open. After `NoMemory` nothing has changed. All other names stay as they were.
     fn store(&mut self, name: &str, bytes: &[u8]) -> Result<(), ShelfFault>
         ensures leaves { StoreLeaves (state self.old).files (state self.new).files name.now bytes.now result }
-        ensures cause { HasShelfCause (state self.old).faults (state self.new).faults result };
+        ensures cause { HasShelfCause (state self.old).faults (state self.new).faults result }
+        ensures asks { Asks (state self.old).calls (state self.new).calls (store name.now ∷ []) };
 }

@@ -14,6 +14,7 @@ use Rattle.sp_kit.specs.Files.{Files}
 use Rattle.sp_text.specs.declared.fault.TextFault.TheVariants as faults
 use Rattle.sp_run.specs.declared.status.Status.{Status}
 use Rattle.sp_run.specs.declared.status.Status.TheVariants as statuses
+use Rattle.sp_run.specs.Asking.{telling}
 use Rattle.sp_run.specs.DeskLines.{AnswersLine, StopsAtLine, desk_at}
 use Rattle.sp_run.specs.Records.{records_name, RefusesRecords}
 use Rattle.sp_run.specs.Opening.{HasState}
@@ -41,7 +42,7 @@ pub desk-settles : (name : List ℕ) (old new : Outside) (from to : Counts) → 
     → old.source.unread ≡ Some input → (end : SessionEnd) → HeldSession name old new from to end → AnswersDesk name (files.held name) (files.held (records_name name)) input (status_of_end end)
 desk-settles name old new from to calm files is input told end held =
     session-answers name old end held.state held.has input
-    (ends-settle AnswersLine StopsAtLine (streams old.source old.sink) (streams new.source new.sink) (desk_at name (opened_memory held.state) old.shelf held.opened) held.after end held.ends calm input told) files is
+    (ends-settle AnswersLine StopsAtLine (streams old.source old.sink) (streams new.source new.sink) (desk_at name (opened_memory held.state) (telling old.shelf held.calls) held.opened) held.after end held.ends calm input told) files is
 
 long-found : (name : List ℕ) (found records : Option (List ℕ)) → IsSomeAnd found (λ script. printing_of script ≡ too_long) → (input : List ℕ) → AnswersDesk name found records input (statuses.BadText faults.TextFull)
 long-found name None records long input = absurd long

@@ -29,6 +29,7 @@ use Rattle.sp_run.specs.Forms.{from_file}
 use Rattle.sp_run.specs.CountedLines.{NotOpenedCounts}
 use Rattle.sp_run.specs.Counted.{OpeningCounts}
 use Rattle.sp_run.specs.Opening.{SameShelf}
+use Rattle.sp_run.specs.Asking.{AsksTwo, telling}
 use Rattle.sp_run.specs.Unopened.{Outside, Unopened}
 use Rattle.sp_run.specs.DeskEnding.{AnsweredAll, AnsweredCalmly, CommandsEnd, CountsUnsaved, HeldSession, OpensDesk}
 use Rattle.sp_run.specs.Statuses.{status_of_end}
@@ -73,8 +74,9 @@ by_desk = record { It = NamedDesk; desk = desk_itself; saves = saves; answers = 
 
 -- ---- how a session ends
 
-pub same-shelf : (old new : ShelfState) → SameShelf old new → new ≡ old
-same-shelf old new same = λ i. record { files = same.files i; faults = same.faults i }
+-- A shelf that is as it was, but for the calls that it tells.
+pub same-shelf : (old new : ShelfState) → SameShelf old new → new ≡ telling old new.calls
+same-shelf old new same = λ i. record { files = same.files i; faults = same.faults i; calls = new.calls }
 
 -- The session of a desk that was opened.
 pub session-held : (name : List ℕ) (old new : Outside) (from opened to : Counts) (between : ShelfState) (memory : Memory) (after : AtShelf NamedDesk) (end : SessionEnd) → OpensDesk old.shelf between name memory
@@ -83,13 +85,16 @@ pub session-held : (name : List ℕ) (old new : Outside) (from opened to : Count
     → HeldSession name old new from to end
 session-held name old new from opened to between memory after end opens opening ends left counts =
     let same = same-shelf old.shelf between opens.same in
-    let before = desk_at name (opened_memory opens.state) old.shelf opened in
+    let begun = telling old.shelf between.calls in
+    let before = desk_at name (opened_memory opens.state) begun opened in
     let held : SessionEnds AnswersLine StopsAtLine (streams old.source old.sink) (streams new.source new.sink) before after end =
-    subst (λ (it : Memory). SessionEnds AnswersLine StopsAtLine (streams old.source old.sink) (streams new.source new.sink) (desk_at name it old.shelf opened) after end) opens.is
+    subst (λ (it : Memory). SessionEnds AnswersLine StopsAtLine (streams old.source old.sink) (streams new.source new.sink) (desk_at name it begun opened) after end) opens.is
     (subst (λ (it : ShelfState). SessionEnds AnswersLine StopsAtLine (streams old.source old.sink) (streams new.source new.sink) (desk_at name memory it opened) after end) same ends) in
     record {
       state = opens.state;
       has = opens.has;
+      calls = between.calls;
+      asks = subst (AsksTwo name (records_name name) old.shelf) same opens.asks;
       opened = opened;
       opening = subst (λ (it : Memory). OpeningCounts it.state from opened) opens.is opening;
       after = after;
@@ -134,11 +139,13 @@ pub held-answered : (name : List ℕ) (old new : Outside) (from to : Counts) →
 held-answered name old new from to held =
     let course = held.ends.course in
     let all = held.ends.ends in
-    let before = desk_at name (opened_memory held.state) old.shelf held.opened in
+    let before = desk_at name (opened_memory held.state) (telling old.shelf held.calls) held.opened in
     let runs : Runs AnswersLine before (command_lines course.read) course.steps = subst (λ (lines : List (List ℕ)). Runs AnswersLine before lines course.steps) all.lines held.ends.went.runs in
     record {
       state = held.state;
       has = held.has;
+      calls = held.calls;
+      asks = held.asks;
       opened = held.opened;
       opening = held.opening;
       input = course.read;
@@ -181,7 +188,7 @@ calm-answers before (line ∷ lines) (step ∷ steps) runs same low =
 
 pub answered-calmly : (name : List ℕ) (old new : Outside) (from to : Counts) → AnsweredAll name old new from to → new.shelf.faults ≡ old.shelf.faults → old.shelf.faults < 2 ^ 64 - 1 → AnsweredCalmly name old new
 answered-calmly name old new from to all same low =
-    let before = desk_at name (opened_memory all.state) old.shelf all.opened in
+    let before = desk_at name (opened_memory all.state) (telling old.shelf all.calls) all.opened in
     let last : (left_by before all.steps).shelf ≡ new.shelf = sym (runs-last by_desk before (command_lines all.input) all.steps all.runs) ∙ sym all.left in
     let end : (left_by before all.steps).shelf.faults ≡ old.shelf.faults = ap (λ (it : ShelfState). it.faults) last ∙ same in
     let steps = calm-answers before (command_lines all.input) all.steps all.runs end low in

@@ -28,6 +28,7 @@ use Rattle.spec_room.specs.Sessions.{Session, opens}
 use Rattle.sp_kit.specs.Files.{ShelfState, Files}
 use Rattle.sp_run.specs.Records.{records_name}
 use Rattle.sp_run.specs.Saving.{Changes, KeepsAllBut}
+use Rattle.sp_run.specs.Asking.{AsksTwo, telling}
 use Rattle.sp_run.specs.Counted.{OpeningCounts}
 use Rattle.sp_run.specs.DeskLines.{asks_save}
 use Rattle.sp_run.specs.RoomLines.{NamedRoom, AnswersRoomLine, SeatReplies, StopsAtRoomLine, answered_room_line, answered_room_lines, desk_in, desk_of_room, other_room, room_at, room_line_step_by, saved_room, seat_saves, seatless, step_line}
@@ -105,14 +106,17 @@ pub room-held : (name : List ℕ) (old new : Outside) (from opened to : Counts) 
     → to ≡ after.counts → HeldRoom name old new from to end
 room-held name old new from opened to between memory after end opens_as opening ends left counts =
     let same = same-shelf old.shelf between opens_as.same in
-    let before = room_at name (opened_room (opened_memory opens_as.state)) old.shelf opened in
+    let begun = telling old.shelf between.calls in
+    let before = room_at name (opened_room (opened_memory opens_as.state)) begun opened in
     let held : SessionEnds AnswersRoomLine StopsAtRoomLine (streams old.source old.sink) (streams new.source new.sink) before after end =
-    subst (λ (it : Memory). SessionEnds AnswersRoomLine StopsAtRoomLine (streams old.source old.sink) (streams new.source new.sink) (room_at name (opened_room it) old.shelf opened) after end) opens_as.is
+    subst (λ (it : Memory). SessionEnds AnswersRoomLine StopsAtRoomLine (streams old.source old.sink) (streams new.source new.sink) (room_at name (opened_room it) begun opened) after end) opens_as.is
     (subst (λ (it : ShelfState). SessionEnds AnswersRoomLine StopsAtRoomLine (streams old.source old.sink) (streams new.source new.sink) (room_at name (opened_room memory) it opened) after end) same ends) in
     let whole = subst IsWholeMemory opens_as.is opens_as.whole in
     record {
       state = opens_as.state;
       has = opens_as.has;
+      calls = between.calls;
+      asks = subst (AsksTwo name (records_name name) old.shelf) same opens_as.asks;
       opened = opened;
       opening = subst (λ (it : Memory). OpeningCounts it.state from opened) opens_as.is opening;
       after = after;
@@ -131,11 +135,13 @@ room-answered name old new from to held =
     let course = held.ends.course in
     let all = held.ends.ends in
     let room = opened_room (opened_memory held.state) in
-    let before = room_at name room old.shelf held.opened in
+    let before = room_at name room (telling old.shelf held.calls) held.opened in
     let runs : Runs AnswersRoomLine before (command_lines course.read) course.steps = subst (λ (lines : List (List ℕ)). Runs AnswersRoomLine before lines course.steps) all.lines held.ends.went.runs in
     record {
       state = held.state;
       has = held.has;
+      calls = held.calls;
+      asks = held.asks;
       opened = held.opened;
       opening = held.opening;
       input = course.read;
@@ -157,7 +163,7 @@ pub room-settles : (name : List ℕ) (old new : Outside) (from to : Counts) → 
     → old.source.unread ≡ Some input → (end : SessionEnd) → HeldRoom name old new from to end → AnswersDesk name (files.held name) (files.held (records_name name)) input (status_of_end end)
 room-settles name old new from to calm files is input told end held =
     session-answers name old end held.state held.has input
-    (ends-settle AnswersRoomLine StopsAtRoomLine (streams old.source old.sink) (streams new.source new.sink) (room_at name (opened_room (opened_memory held.state)) old.shelf held.opened) held.after end held.ends calm input told) files is
+    (ends-settle AnswersRoomLine StopsAtRoomLine (streams old.source old.sink) (streams new.source new.sink) (room_at name (opened_room (opened_memory held.state)) (telling old.shelf held.calls) held.opened) held.after end held.ends calm input told) files is
 
 -- ---- where no store failed
 
@@ -186,7 +192,7 @@ calm-answers before (line ∷ lines) (step ∷ steps) runs same low =
 
 pub room-calmly : (name : List ℕ) (old new : Outside) (from to : Counts) → RoomAnsweredAll name old new from to → new.shelf.faults ≡ old.shelf.faults → old.shelf.faults < 2 ^ 64 - 1 → RoomAnsweredCalmly name old new
 room-calmly name old new from to all same low =
-    let before = room_at name (opened_room (opened_memory all.state)) old.shelf all.opened in
+    let before = room_at name (opened_room (opened_memory all.state)) (telling old.shelf all.calls) all.opened in
     let last : (left_by before all.steps).shelf ≡ new.shelf = sym (runs-last by_room before (command_lines all.input) all.steps all.runs) ∙ sym all.left in
     let end : (left_by before all.steps).shelf.faults ≡ old.shelf.faults = ap (λ (it : ShelfState). it.faults) last ∙ same in
     let steps = calm-answers before (command_lines all.input) all.steps all.runs end low in

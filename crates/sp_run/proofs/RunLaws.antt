@@ -28,11 +28,14 @@ use Rattle.sp_run.specs.DeskLines.{desk_at, desk_itself, memories_of}
 use Rattle.sp_run.specs.RoomLines.{AnswersRoomLine, desk_in, room_at}
 use Rattle.sp_run.specs.RoomEnding.{HeldRoom, RoomAnsweredAll, RoomAnsweredCalmly}
 use Rattle.sp_run.specs.Answering.{AnswersWords, asked_in}
+use Rattle.sp_run.specs.Asking.{AsksOne, CollationAsks, CommandsAsk, SaysMissing, StatusAsks, telling}
 use Rattle.sp_run.specs.Collating.{AnswersFate, Collated, fate_of}
 use Rattle.sp_run.specs.Ending.{AnswersSample, Ends, SampleEnds, ToldSample}
 use Rattle.sp_run.specs.Reopening.{HasSaved}
 use Rattle.sp_run.specs.World.{World}
 use Rattle.spec_machine.proofs.SessionLaws.{reopened-leads}
+use Rattle.sp_run.proofs.Asked.{missing-alone, no-script}
+use Rattle.sp_run.proofs.Missing.{commands-missing, show-missing}
 use Rattle.sp_run.proofs.Held.{not-risen}
 use Rattle.sp_run.proofs.ShownStatus.{answers-ends, answers-file}
 use Rattle.sp_run.proofs.DeskAnswers.{commands-answer, desk-settles}
@@ -109,6 +112,19 @@ module _ {I O F S : Type 0} {words : List (String Global)} {old new : World I O 
       → FetchFailed origin old.told new.told
   run-shelf-fault view origin is failed = (ended-as (show view origin) statuses.ShelfFault is failed).0
 
+  -- The shelf is asked for the script, and then for what stands beside it where the script was there, and nothing else.
+  pub run-asked : (view : View) (origin : OriginOf) → asked_in words ≡ Some (show view origin) → StatusAsks origin old.told.shelf new.told.shelf status
+  run-asked view origin is = (it.form (show view origin) is).asks
+
+  -- Where it tells that there is no script, the status says so, and nothing else was asked for: it is another only where that call
+  -- failed or there was no memory.
+  pub run-missing : (view : View) (name : List ℕ) → asked_in words ≡ Some (show view (from_file name)) → (files : Files) → old.told.shelf.files ≡ Some files → files.held name ≡ None
+      → SaysMissing name status × AsksOne name old.told.shelf new.told.shelf
+  run-missing view name is files told none = (
+    show-missing name files old.told new.told told none view status (run-ends (show view (from_file name)) is).0,
+    missing-alone name files old.told.shelf new.told.shelf status told none (run-asked view (from_file name) is),
+  )
+
   -- It leaves what it doesn't use, and what the shelf holds.
   pub run-source-kept : (view : View) (name : List ℕ) → asked_in words ≡ Some (show view (from_file name)) → new.input ≡ old.input
   run-source-kept view name is = (it.form (show view (from_file name)) is).leaves.source
@@ -164,7 +180,7 @@ module _ {I O F S : Type 0} {words : List (String Global)} {old new : World I O 
       → LeadsTo (opened_memory (run-answered name is done).state) now
   run-leads name is done =
       let all = run-answered name is done in
-      desk-leads (desk_at name (opened_memory all.state) old.told.shelf all.opened) (command_lines all.input) all.steps all.runs
+      desk-leads (desk_at name (opened_memory all.state) (telling old.told.shelf all.calls) all.opened) (command_lines all.input) all.steps all.runs
 
   -- So what led to the memory that was saved leads on to them.
   pub run-goes-on : (earlier saved : Memory) (name : List ℕ) (is : asked_in words ≡ Some (desk name)) (done : status ≡ statuses.Done) → LeadsTo earlier saved
@@ -178,6 +194,16 @@ module _ {I O F S : Type 0} {words : List (String Global)} {old new : World I O 
   pub run-saved : (name : List ℕ) → asked_in words ≡ Some (desk name) → status ≡ statuses.Done
       → new.told.shelf.faults ≡ old.told.shelf.faults → old.told.shelf.faults < 2 ^ 64 - 1 → AnsweredCalmly name old.told new.told
   run-saved name is done stores low = answered-calmly name old.told new.told old.counts new.counts (run-answered name is done) stores low
+
+  -- The shelf is asked for both files, and then for the two stores of each save, and nothing else.
+  pub run-desk-asked : (name : List ℕ) → asked_in words ≡ Some (desk name) → CommandsAsk name old.told.shelf new.told.shelf status
+  run-desk-asked name is = (it.form (desk name) is).asks
+
+  -- A script that the shelf tells it hasn't: the status says so.
+  pub run-desk-missing : (name : List ℕ) → asked_in words ≡ Some (desk name) → (files : Files) → old.told.shelf.files ≡ Some files → files.held name ≡ None → SaysMissing name status
+  run-desk-missing name is files told none =
+      commands-missing name files old.told new.told told none (HeldSession name old.told new.told old.counts new.counts) old.counts new.counts status
+      (λ end held. no-script old.told.shelf.files files name held.has.script told none held.has.has) (run-ends (desk name) is)
 
   -- It leaves what the shelf holds, but for the files of its script.
   pub run-others-kept : (name : List ℕ) → asked_in words ≡ Some (desk name)
@@ -216,7 +242,7 @@ module _ {I O F S : Type 0} {words : List (String Global)} {old new : World I O 
       let all = run-seats-answered name is done in
       let first = opened_room (opened_memory all.state) in
       room-leads first (all.state.lines ∷ []) (command_lines all.input) all.steps all.seen
-      (runs-few AnswersRoomLine (room_at name first old.told.shelf all.opened) (command_lines all.input) all.steps all.runs)
+      (runs-few AnswersRoomLine (room_at name first (telling old.told.shelf all.calls) all.opened) (command_lines all.input) all.steps all.runs)
 
   -- So what led to the memory that was saved leads on to them.
   pub run-seats-go-on : (earlier saved : Memory) (name : List ℕ) (is : asked_in words ≡ Some (room name)) (done : status ≡ statuses.Done) → LeadsTo earlier saved
@@ -230,6 +256,14 @@ module _ {I O F S : Type 0} {words : List (String Global)} {old new : World I O 
   pub run-seats-saved : (name : List ℕ) → asked_in words ≡ Some (room name) → status ≡ statuses.Done
       → new.told.shelf.faults ≡ old.told.shelf.faults → old.told.shelf.faults < 2 ^ 64 - 1 → RoomAnsweredCalmly name old.told new.told
   run-seats-saved name is done stores low = room-calmly name old.told new.told old.counts new.counts (run-seats-answered name is done) stores low
+
+  pub run-room-asked : (name : List ℕ) → asked_in words ≡ Some (room name) → CommandsAsk name old.told.shelf new.told.shelf status
+  run-room-asked name is = (it.form (room name) is).asks
+
+  pub run-room-missing : (name : List ℕ) → asked_in words ≡ Some (room name) → (files : Files) → old.told.shelf.files ≡ Some files → files.held name ≡ None → SaysMissing name status
+  run-room-missing name is files told none =
+      commands-missing name files old.told new.told told none (HeldRoom name old.told new.told old.counts new.counts) old.counts new.counts status
+      (λ end held. no-script old.told.shelf.files files name held.has.script told none held.has.has) (run-ends (room name) is)
 
   -- It leaves what the shelf holds, but for the files of its script.
   pub run-room-others-kept : (name : List ℕ) → asked_in words ≡ Some (room name)
@@ -270,6 +304,10 @@ module _ {I O F S : Type 0} {words : List (String Global)} {old new : World I O 
   pub run-collated : (one other : List ℕ) → asked_in words ≡ Some (collate one other) → status ≡ statuses.Done
       → Collated one other old.told.shelf new.told.shelf old.told.sink new.told.sink
   run-collated one other is done = (ended-as (collate one other) statuses.Done is done).0
+
+  -- The shelf is asked for the old file, and then for the new one where the old one was there, and nothing else.
+  pub run-collation-asked : (one other : List ℕ) → asked_in words ≡ Some (collate one other) → CollationAsks one other old.told.shelf new.told.shelf status
+  run-collation-asked one other is = (it.form (collate one other) is).asks
 
   -- It leaves what it doesn't use, and what the shelf holds.
   pub run-collation-left : (one other : List ℕ) → asked_in words ≡ Some (collate one other)

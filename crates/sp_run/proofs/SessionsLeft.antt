@@ -21,6 +21,7 @@ use Rattle.spec_machine.specs.Sessions.{LeadsTo}
 use Rattle.spec_machine.proofs.SessionLaws.{reopened-leads}
 use Rattle.spec_room.specs.Rooms.{RoomState, RoomStep, opened_room}
 use Rattle.sp_kit.specs.Files.{Files, ShelfState}
+use Rattle.sp_run.specs.Asking.{telling}
 use Rattle.sp_run.specs.DeskEnding.{HeldSession}
 use Rattle.sp_run.specs.DeskLines.{AnswersLine, Leaves, NamedDesk, RepliesTo, Stores, asks_save, desk_at, desk_itself, line_step_by, memories_of, other_step, saved_step, saves}
 use Rattle.sp_run.specs.RoomEnding.{HeldRoom}
@@ -170,7 +171,7 @@ seat-saved before line after bytes files it asks told is = by it.replies
 module _ {name : List ℕ} {old new : Outside} {from to : Counts} {end : SessionEnd} (held : HeldSession name old new from to end) where
   -- Accepted commands lead from the state that it opened to each memory that it had, also to that of a line whose reply wasn't written whole.
   pub held-leads : (j : ℕ) (now : Memory) → slice_get (memories_of desk_itself (opened_memory held.state) held.ends.course.steps) j ≡ Some now → LeadsTo (opened_memory held.state) now
-  held-leads = desk-leads (desk_at name (opened_memory held.state) old.shelf held.opened) held.ends.course.lines held.ends.course.steps held.ends.went.runs
+  held-leads = desk-leads (desk_at name (opened_memory held.state) (telling old.shelf held.calls) held.opened) held.ends.course.lines held.ends.course.steps held.ends.went.runs
 
   -- It opened the state that an earlier session saved, where that stood on the shelf.
   pub held-reopened : (saved : State) → IsWhole saved → HasSaved old.shelf name saved → held.state ≡ saved
@@ -186,7 +187,7 @@ module _ {name : List ℕ} {old new : Outside} {from to : Counts} {end : Session
   pub held-saved : (k : ℕ) (step : Answered (AtShelf NamedDesk)) (state : State) → slice_get held.ends.course.steps k ≡ Some step → HasSaved step.after.shelf name state
       → ((m : ℕ) (line : List ℕ) → k < m → slice_get held.ends.course.lines m ≡ Some line → saves line ≡ false)
       → HasSaved new.shelf name state ⊎ ((last : State) × EndsInSave name last step.after.shelf new.shelf end)
-  held-saved = session-saved by_desk (streams old.source old.sink) (streams new.source new.sink) (desk_at name (opened_memory held.state) old.shelf held.opened) held.after new.shelf end held.ends held.left
+  held-saved = session-saved by_desk (streams old.source old.sink) (streams new.source new.sink) (desk_at name (opened_memory held.state) (telling old.shelf held.calls) held.opened) held.after new.shelf end held.ends held.left
 
 -- ---- a session of a room
 
@@ -195,7 +196,7 @@ module _ {name : List ℕ} {old new : Outside} {from to : Counts} {end : Session
   room-held-leads =
       let first = opened_room (opened_memory held.state) in
       room-leads first (held.state.lines ∷ []) held.ends.course.lines held.ends.course.steps held.seen
-      (runs-few AnswersRoomLine (room_at name first old.shelf held.opened) held.ends.course.lines held.ends.course.steps held.ends.went.runs)
+      (runs-few AnswersRoomLine (room_at name first (telling old.shelf held.calls) held.opened) held.ends.course.lines held.ends.course.steps held.ends.went.runs)
 
   pub room-held-reopened : (saved : State) → IsWhole saved → HasSaved old.shelf name saved → held.state ≡ saved
   room-held-reopened saved whole stands = saved-reopened old.shelf name saved held.state whole stands held.has
@@ -209,4 +210,4 @@ module _ {name : List ℕ} {old new : Outside} {from to : Counts} {end : Session
       → ((m : ℕ) (line : List ℕ) → k < m → slice_get held.ends.course.lines m ≡ Some line → seat_saves line ≡ false)
       → HasSaved new.shelf name state ⊎ ((last : State) × EndsInSave name last step.after.shelf new.shelf end)
   room-held-saved =
-      session-saved by_room (streams old.source old.sink) (streams new.source new.sink) (room_at name (opened_room (opened_memory held.state)) old.shelf held.opened) held.after new.shelf end held.ends held.left
+      session-saved by_room (streams old.source old.sink) (streams new.source new.sink) (room_at name (opened_room (opened_memory held.state)) (telling old.shelf held.calls) held.opened) held.after new.shelf end held.ends held.left

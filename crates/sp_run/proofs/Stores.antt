@@ -8,6 +8,7 @@ use Rattle.spec_state.specs.State.{State}
 use Rattle.spec_state.specs.Keeping.{state_kept}
 use Rattle.sp_kit.specs.Files.{Files, ShelfState, KeepsOthers}
 use Rattle.sp_run.specs.Records.{records_name}
+use Rattle.sp_run.proofs.Asked.{asks-none}
 use Rattle.sp_run.specs.Saving.{Changes, KeepsAllBut, TwoFiles, files_of, PutBoth, PutFirst, StoreFailed, LeftFirst, StoreLeft}
 
 -- The record file doesn't stand under the script's name.
@@ -72,8 +73,11 @@ files-as name state it named text beside records = λ i. record { name = named i
 -- ---- before a store
 
 nothing-left : (it : TwoFiles) (same : ShelfState) → StoreLeft it same same
-nothing-left it same =
-    record { kept = refl; files = changes-none same.files same.files (LeftFirst it) (λ files. record { first = inl refl; others = record { names = λ name other. refl; atomic = refl } }) refl }
+nothing-left it same = record {
+  kept = refl;
+  files = changes-none same.files same.files (LeftFirst it) (λ files. record { first = inl refl; others = record { names = λ name other. refl; atomic = refl } }) refl;
+  asks = inl (asks-none same.calls);
+}
 
 -- Where nothing was stored, the shelf is as it was.
 pub unstored-left : {T E : Type 0} (result : Result T E) (it : TwoFiles) (same : ShelfState) → OnErr result (StoreLeft it same same)

@@ -8,6 +8,7 @@ use Rattle.sp_run.specs.declared.status.Status.{Status}
 use Rattle.sp_run.specs.declared.status.Status.TheVariants as statuses
 use Rattle.sp_run.specs.Forms.{OriginOf, Asked, show, desk, room, sample, collate, asked_by}
 use Rattle.sp_run.specs.Opening.{LeavesSource, LeavesShelf}
+use Rattle.sp_run.specs.Asking.{CollationAsks, CommandsAsk, StatusAsks}
 use Rattle.sp_run.specs.Records.{records_name}
 use Rattle.sp_run.specs.Saving.{Changes, KeepsAllBut}
 use Rattle.sp_run.specs.Unopened.{ReadsUpTo}
@@ -33,10 +34,19 @@ Leaves (room name) old new = Changes old.told.shelf.files new.told.shelf.files (
 Leaves (sample rooms) old new = (new.input ≡ old.input) × (new.shelf ≡ old.shelf)
 Leaves (collate one other) old new = (new.input ≡ old.input) × (new.steps ≡ old.steps) × (new.told.shelf.files ≡ old.told.shelf.files)
 
+-- What the shelf is asked for a form, and nothing else; where it isn't named here, it is left as it was.
+abbrev pub AsksShelf : {I O F S : Type 0} → Asked → World I O F S → World I O F S → Status → Type 0
+AsksShelf (show view origin) old new status = StatusAsks origin old.told.shelf new.told.shelf status
+AsksShelf (desk name) old new status = CommandsAsk name old.told.shelf new.told.shelf status
+AsksShelf (room name) old new status = CommandsAsk name old.told.shelf new.told.shelf status
+AsksShelf (sample rooms) old new status = Unit {0}
+AsksShelf (collate one other) old new status = CollationAsks one other old.told.shelf new.told.shelf status
+
 -- A form was answered.
 pub record AnswersForm {I O F S : Type 0} (asked : Asked) (old new : World I O F S) (status : Status) : Type 0 where
   pub ends : Ends asked old.told new.told old.counts new.counts status
   pub leaves : Leaves asked old new
+  pub asks : AsksShelf asked old new status
 
 -- No form was asked for, and all was left as it was.
 pub record LeavesAll {I O F S : Type 0} (old new : World I O F S) (status : Status) : Type 0 where

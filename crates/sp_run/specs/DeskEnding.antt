@@ -9,11 +9,12 @@ use Rattle.spec_session.specs.Sessions.{SessionEnds, streams}
 use Rattle.spec_session.specs.declared.SessionEnd.{SessionEnd}
 use Rattle.spec_session.specs.declared.SessionEnd.TheVariants as endings
 use Rattle.spec_state.specs.Printing.{no_utf8, long_line, printing_of}
-use Rattle.sp_kit.specs.Files.{Files, ShelfState}
+use Rattle.sp_kit.specs.Files.{CallOf, Files, ShelfState}
 use Rattle.sp_text.specs.declared.fault.TextFault.TheVariants as faults
 use Rattle.sp_run.specs.declared.status.Status.{Status}
 use Rattle.sp_run.specs.declared.status.Status.TheVariants as statuses
 use Rattle.sp_run.specs.Forms.{from_file}
+use Rattle.sp_run.specs.Asking.{AsksTwo, telling}
 use Rattle.spec_machine.specs.KeptMemories.{IsWholeMemory}
 use Rattle.spec_locked_pages.specs.Chains.{AreLinked}
 use Rattle.sp_run.specs.CountedLines.{LackingCounts}
@@ -46,15 +47,18 @@ pub record KeepsOrSaves (name : List ℕ) (memories : List Memory) (old new : Fi
 abbrev pub KeepsSaved : List ℕ → List Memory → ShelfState → ShelfState → Type 0
 KeepsSaved name memories old new = Changes old.files new.files (λ before now. IsTrue before.atomic → KeepsOrSaves name memories before now)
 
--- The shelf has a script under the name; it was opened as a desk with what stands beside it, and so its session ended, which
--- left the shelf and the counts as they are now. All memories that the desk had keep what is promised.
+-- The shelf has a script under the name; it was opened as a desk with what stands beside it, for which the shelf was asked both files
+-- and nothing else, and so its session ended, which left the shelf and the counts as they are now. All memories that the desk had keep
+-- what is promised.
 pub record HeldSession (name : List ℕ) (old new : Outside) (from to : Counts) (end : SessionEnd) : Type 0 where
   pub state : State
   pub has : HasState old.shelf name state
+  pub calls : Option (List CallOf)
+  pub asks : AsksTwo name (records_name name) old.shelf (telling old.shelf calls)
   pub opened : Counts
   pub opening : OpeningCounts state from opened
   pub after : AtShelf NamedDesk
-  pub ends : SessionEnds AnswersLine StopsAtLine (streams old.source old.sink) (streams new.source new.sink) (desk_at name (opened_memory state) old.shelf opened) after end
+  pub ends : SessionEnds AnswersLine StopsAtLine (streams old.source old.sink) (streams new.source new.sink) (desk_at name (opened_memory state) (telling old.shelf calls) opened) after end
   pub left : new.shelf ≡ after.shelf
   pub counts : to ≡ after.counts
   pub promised : ArePromised (memories_of desk_itself (opened_memory state) ends.course.steps)
@@ -66,6 +70,7 @@ pub record OpensDesk (shelf after : ShelfState) (name : List ℕ) (memory : Memo
   pub state : State
   pub has : HasState shelf name state
   pub same : SameShelf shelf after
+  pub asks : AsksTwo name (records_name name) shelf after
   pub is : memory ≡ opened_memory state
   pub whole : IsWholeMemory memory
   pub linked : AreLinked memory
@@ -99,16 +104,18 @@ DeskEnds name old new from to status = CommandsEnd (HeldSession name old new fro
 pub record AnsweredAll (name : List ℕ) (old new : Outside) (from to : Counts) : Type 0 where
   pub state : State
   pub has : HasState old.shelf name state
+  pub calls : Option (List CallOf)
+  pub asks : AsksTwo name (records_name name) old.shelf (telling old.shelf calls)
   pub opened : Counts
   pub opening : OpeningCounts state from opened
   pub input : List ℕ
   pub gave : Consumes old.source.unread new.source.unread input
   pub at_end : IsAtEnd new.source.unread
   pub steps : List (Answered (AtShelf NamedDesk))
-  pub runs : Runs AnswersLine (desk_at name (opened_memory state) old.shelf opened) (command_lines input) steps
-  pub counts : to ≡ (left_by (desk_at name (opened_memory state) old.shelf opened) steps).counts
+  pub runs : Runs AnswersLine (desk_at name (opened_memory state) (telling old.shelf calls) opened) (command_lines input) steps
+  pub counts : to ≡ (left_by (desk_at name (opened_memory state) (telling old.shelf calls) opened) steps).counts
   pub wrote : Appends old.sink.taken new.sink.taken (output_of steps)
-  pub left : new.shelf ≡ shelf_behind saves old.shelf (command_lines input) steps
+  pub left : new.shelf ≡ shelf_behind saves (telling old.shelf calls) (command_lines input) steps
   pub promised : ArePromised (memories_of desk_itself (opened_memory state) steps)
   pub counted : CountsUnsaved saves old.shelf new.shelf (command_lines input) steps
   pub kept : KeepsSaved name (memories_of desk_itself (opened_memory state) steps) old.shelf new.shelf

@@ -1,5 +1,5 @@
 -- What a save leaves on a shelf (docs/RULES.md, "Sessions").
-use Rattle.std.specs.Prelude.{◌≡◌, ◌≢◌, ℕ, ◌≤◌, ◌⊎◌, IsTrue, List, Option, Some, None, Ok, Err}
+use Rattle.std.specs.Prelude.{◌≡◌, ◌≢◌, ℕ, ◌≤◌, ◌⊎◌, IsTrue, List, [], ◌∷◌, Option, Some, None, Ok, Err}
 use Rattle.std.specs.declared.result.Result.{Result}
 use Rattle.spec_text.specs.Lines.{text_bytes}
 use Rattle.spec_records.specs.RecordFile.{digest_of, written}
@@ -7,7 +7,7 @@ use Rattle.spec_state.specs.State.{State}
 use Rattle.spec_state.specs.Keeping.{state_kept}
 use Rattle.spec_wire.specs.Replies.{ReplyOf, saved, refused, shelf}
 use Rattle.sp_kit.specs.Causes.{Rose}
-use Rattle.sp_kit.specs.Files.{Files, ShelfState, HasOldOrNew, KeepsOthers}
+use Rattle.sp_kit.specs.Files.{Asks, CallOf, Files, ShelfState, HasOldOrNew, KeepsOthers, store}
 use Rattle.sp_kit.specs.declared.shelf.ShelfFault.{ShelfFault}
 use Rattle.sp_kit.specs.declared.shelf.ShelfFault.TheVariants as shelf_faults
 use Rattle.sp_run.specs.Records.{records_name, OpensAs}
@@ -51,10 +51,26 @@ pub record KeepsOrPuts (it : TwoFiles) (old new : Files) : Type 0 where
   pub second : HasOldOrNew old new it.beside it.records
   pub others : KeepsAllBut old new it.name it.beside
 
+-- Which of two stores were asked: none, the first alone, or both in order.
+pub data Tried : Type 0 where
+  neither : Tried
+  first_alone : Tried
+  both : Tried
+
+abbrev pub calls_tried : List ℕ → List ℕ → Tried → List CallOf
+calls_tried name beside neither = []
+calls_tried name beside first_alone = store name ∷ []
+calls_tried name beside both = store name ∷ store beside ∷ []
+
+-- These stores were asked, and nothing else.
+abbrev pub AsksStores : TwoFiles → ShelfState → ShelfState → Tried → Type 0
+AsksStores it old new tried = Asks old.calls new.calls (calls_tried it.name it.beside tried)
+
 -- Both files were stored, and no fault was counted.
 pub record StoredBoth (it : TwoFiles) (old new : ShelfState) : Type 0 where
   pub kept : new.faults ≡ old.faults
   pub files : Changes old.files new.files (PutBoth it)
+  pub asks : AsksStores it old new both
 
 -- A store failed: the first one, and the second wasn't tried, or the second one behind it. Of atomic files none is lost.
 pub record StoreFailed (it : TwoFiles) (old new : ShelfState) : Type 0 where
@@ -62,6 +78,7 @@ pub record StoreFailed (it : TwoFiles) (old new : ShelfState) : Type 0 where
   pub rose : Rose old.faults new.faults
   pub files : Changes old.files new.files (λ before now. KeepsOthers before now it.name ⊎ PutFirst it before now)
   pub kept : Changes old.files new.files (λ before now. IsTrue before.atomic → KeepsOrPuts it before now)
+  pub asks : AsksStores it old new first_alone ⊎ AsksStores it old new both
 
 -- The first name is as it was, or has its bytes; all others are as they were.
 pub record LeftFirst (it : TwoFiles) (old new : Files) : Type 0 where
@@ -72,6 +89,7 @@ pub record LeftFirst (it : TwoFiles) (old new : Files) : Type 0 where
 pub record StoreLeft (it : TwoFiles) (old new : ShelfState) : Type 0 where
   pub kept : new.faults ≡ old.faults
   pub files : Changes old.files new.files (LeftFirst it)
+  pub asks : AsksStores it old new neither ⊎ AsksStores it old new first_alone ⊎ AsksStores it old new both
 
 -- How two stores go, the second of which isn't tried where the first failed.
 abbrev pub StoresBoth : TwoFiles → ShelfState → ShelfState → Result (Unit {0}) ShelfFault → Type 0

@@ -1,5 +1,6 @@
 //! The collation of two files of printed sheets (docs/RULES.md, "The program" and "Collation").
 ghost use Rattle.std.specs.Prelude.{◌≡◌, IfOk, IfErr};
+ghost use Rattle.sp_run.specs.Asking.{AsksOne, CollatedAsks, CollationAsks};
 ghost use Rattle.sp_run.specs.Collating.{FetchedSheets, NoSheets, Comes, NotCollated, CollateEnds, gives};
 
 use crate::Status;
@@ -16,6 +17,7 @@ fn fetch_sheets<F: Shelf>(alloc: Global, name: &str, shelf: &mut F) -> Result<Ve
     ensures given { IfOk result (λ bytes. FetchedSheets (F.state shelf.old) (F.state shelf.new) name.now bytes.items) }
     ensures refused { IfErr result (NoSheets (F.state shelf.old) (F.state shelf.new) name.now) }
     ensures files_kept { (F.state shelf.new).files ≡ (F.state shelf.old).files }
+    ensures asks { AsksOne name.now (F.state shelf.old) (F.state shelf.new) }
 {
     match shelf.fetch(name, SHEETS_LIMIT) {
         Ok(Fetched::Bytes(bytes)) => Ok(bytes),
@@ -32,6 +34,7 @@ fn collated<F: Shelf>(alloc: Global, old: &str, new: &str, shelf: &mut F) -> Res
         (λ bytes. Comes old.now new.now (F.state shelf.old) (F.state shelf.new) (gives bytes.items)) }
     ensures refused { IfErr result (NotCollated old.now new.now (F.state shelf.old) (F.state shelf.new)) }
     ensures files_kept { (F.state shelf.new).files ≡ (F.state shelf.old).files }
+    ensures asks { CollatedAsks old.now new.now (F.state shelf.old) (F.state shelf.new) result }
 {
     let first = fetch_sheets(alloc, old, shelf)?;
     let second = fetch_sheets(alloc, new, shelf)?;
@@ -49,6 +52,7 @@ pub fn collate_files<O: Sink, F: Shelf>(
     ensures ends { CollateEnds old.now new.now (F.state shelf.old) (F.state shelf.new)
         (O.state output.old) (O.state output.new) result }
     ensures files_kept { (F.state shelf.new).files ≡ (F.state shelf.old).files }
+    ensures asks { CollationAsks old.now new.now (F.state shelf.old) (F.state shelf.new) result }
 {
     match collated(alloc, old, new, shelf) {
         Ok(bytes) => match write_whole(output, &bytes) {

@@ -7,6 +7,7 @@ ghost use Rattle.sp_run.specs.Saving.{Changes, KeepsAllBut};
 ghost use Rattle.spec_session.specs.Runs.{counts_of};
 ghost use Rattle.sp_run.specs.CountedLines.{NotOpenedCounts};
 ghost use Rattle.sp_run.specs.Counted.{OpeningCounts};
+ghost use Rattle.sp_run.specs.Asking.{CommandsAsk, OriginAsks};
 ghost use Rattle.sp_run.specs.DeskEnding.{DeskEnds, OpensDesk};
 ghost use Rattle.sp_run.specs.Unopened.{Unopened, outside};
 
@@ -36,6 +37,7 @@ pub fn open_desk<I: Source, F: Shelf, S: Steps>(
         (outside (I.state input.old) sink (F.state shelf.old)) (outside (I.state input.new) sink (F.state shelf.new))) }
     ensures source_kept { input.new ≡ input.old }
     ensures files_kept { (F.state shelf.new).files ≡ (F.state shelf.old).files }
+    ensures asks { OriginAsks (from_file name.now) (F.state shelf.old) (F.state shelf.new) result }
 {
     let opened = open_state(alloc, Origin::File(name), input, shelf)?;
     let desk = Desk::open(alloc, opened.lines, opened.records, steps)?;
@@ -58,6 +60,7 @@ pub fn hold_session<I: Source, O: Sink, F: Shelf, S: Steps>(
         (counts_of (S.reads steps.old) (S.fills steps.old)) (counts_of (S.reads steps.new) (S.fills steps.new)) result }
     ensures others { Changes (F.state shelf.old).files (F.state shelf.new).files (λ old new.
         KeepsAllBut old new name.now (records_name name.now)) }
+    ensures asks { CommandsAsk name.now (F.state shelf.old) (F.state shelf.new) result }
 {
     let desk = match open_desk(alloc, name, input, shelf, steps) {
         Ok(desk) => desk,

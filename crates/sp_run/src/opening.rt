@@ -8,6 +8,7 @@ ghost use Rattle.sp_text.specs.Gap.{text_of};
 ghost use Rattle.sp_run.specs.Forms.{origin_of};
 ghost use Rattle.sp_run.specs.Records.{records_name};
 ghost use Rattle.sp_run.specs.Opening.{AreFresh, FoundBeside, HadState, LeavesShelf, LeavesSource, NotBeside, OpensFresh, RefusesFresh};
+ghost use Rattle.sp_run.specs.Asking.{BesideAsks, OriginAsks};
 ghost use Rattle.sp_run.specs.Fetching.{FetchedRecords, NoRecords};
 ghost use Rattle.sp_run.specs.Unopened.{ReadsUpTo, Unopened, outside};
 
@@ -45,6 +46,7 @@ pub fn open_state<I: Source, F: Shelf>(
     ensures source_kept { LeavesSource (origin_of origin.entry) input.old input.new }
     ensures shelf_kept { LeavesShelf (origin_of origin.entry) shelf.old shelf.new }
     ensures files_kept { (F.state shelf.new).files ≡ (F.state shelf.old).files }
+    ensures asks { OriginAsks (origin_of origin.entry) (F.state shelf.old) (F.state shelf.new) result }
 {
     let script = open_script(alloc, origin, input, shelf)?;
     let lines = read_lines(alloc, &script)?;
@@ -81,6 +83,7 @@ fn open_beside<F: Shelf>(
     ensures refused { IfErr result
         (NotBeside name.now (F.state shelf.old) (F.state shelf.new) (line_texts lines.lines)) }
     ensures files_kept { (F.state shelf.new).files ≡ (F.state shelf.old).files }
+    ensures asks { BesideAsks name.now (F.state shelf.old) (F.state shelf.new) result }
 {
     match fetch_records(alloc, name, shelf)? {
         Some(bytes) => with_records(alloc, lines, &bytes),
@@ -120,6 +123,7 @@ fn fetch_records<F: Shelf>(
         FetchedRecords (F.state shelf.old) (F.state shelf.new) name.now (option_map (λ v. v.items) records)) }
     ensures refused { IfErr result (NoRecords (F.state shelf.old) (F.state shelf.new) name.now) }
     ensures files_kept { (F.state shelf.new).files ≡ (F.state shelf.old).files }
+    ensures asks { BesideAsks name.now (F.state shelf.old) (F.state shelf.new) result }
 {
     let beside = records_name(alloc, name)?;
     match shelf.fetch(beside.as_str(), RECORDS_LIMIT) {

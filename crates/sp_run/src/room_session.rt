@@ -1,6 +1,7 @@
 //! A session of a room (docs/RULES.md, "The program" and "Sessions").
 ghost use Rattle.sp_run.specs.Records.{records_name};
 ghost use Rattle.sp_run.specs.Saving.{Changes, KeepsAllBut};
+ghost use Rattle.sp_run.specs.Asking.{CommandsAsk};
 ghost use Rattle.sp_run.specs.RoomEnding.{RoomEnds};
 ghost use Rattle.sp_run.specs.World.{world};
 
@@ -27,6 +28,7 @@ pub fn hold_room<I: Source, O: Sink, F: Shelf, S: Steps>(
         RoomEnds name.now before.told after.told before.counts after.counts result }
     ensures others { Changes (F.state shelf.old).files (F.state shelf.new).files
         (λ old new. KeepsAllBut old new name.now (records_name name.now)) }
+    ensures asks { CommandsAsk name.now (F.state shelf.old) (F.state shelf.new) result }
 {
     let desk = match open_desk(alloc, name, input, shelf, steps) {
         Ok(desk) => desk,

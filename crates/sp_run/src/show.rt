@@ -11,6 +11,7 @@ ghost use Rattle.sp_text.specs.Gap.{text_of};
 ghost use Rattle.sp_run.specs.Forms.{origin_of};
 ghost use Rattle.sp_run.specs.Opening.{LeavesSource, LeavesShelf};
 ghost use Rattle.sp_run.specs.Showing.{EndsAs};
+ghost use Rattle.sp_run.specs.Asking.{OriginAsks};
 ghost use Rattle.sp_run.specs.ShowCounted.{ShowCountsAs, ShowsState};
 ghost use Rattle.sp_run.specs.Unopened.{ReadsUpTo, outside};
 ghost use Rattle.sp_run.specs.Written.{IsWritten};
@@ -44,6 +45,7 @@ pub fn show_script<I: Source, O: Sink, F: Shelf, S: Steps>(
     ensures source_kept { LeavesSource (origin_of origin.entry) input.old input.new }
     ensures shelf_kept { LeavesShelf (origin_of origin.entry) shelf.old shelf.new }
     ensures files_kept { (F.state shelf.new).files ≡ (F.state shelf.old).files }
+    ensures asks { OriginAsks (origin_of origin.entry) (F.state shelf.old) (F.state shelf.new) result }
     ensures counts { ShowCountsAs view (origin_of origin.entry)
         (outside (I.state input.old) (O.state output.old) (F.state shelf.old))
         (outside (I.state input.new) (O.state output.new) (F.state shelf.new))

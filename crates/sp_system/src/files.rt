@@ -1,4 +1,4 @@
-//! Files as a shelf. It tells no content, and counts a fault at each error of a store, and at each of a fetch but those of a missing
+//! Files as a shelf. It tells no content and no calls, and counts a fault at each error of a store, and at each of a fetch but those of a missing
 //! file and of want of memory. A store takes the place of no file that another program wrote.
 ghost use Rattle.std.specs.Prelude.{◌≡◌, ◌≤◌, ℕ, List, None, Some, Ok, IfSome, IfOk, IsTrue, OnErr, OnOk};
 ghost use Rattle.std.specs.Io.KnownBytes.{Appends};
@@ -236,7 +236,7 @@ fn store_file<R: Files>(
 impl<'a, R: Files> Shelf for FileShelf<'a, R> {
     ghost use Rattle.std.specs.declared.option.Option.TheVariants.{None};
 
-    ghost state = { λ s. record { files = None; faults = s.faults } };
+    ghost state = { λ s. record { files = None; faults = s.faults; calls = None } };
 
     /// Reads at most one byte more than `most`, and knows what it gives from here on, where it guards files. What is known of other
     /// files stays.

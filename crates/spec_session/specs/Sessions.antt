@@ -60,8 +60,8 @@ pub record ReadFailed {R : Type 0} (old new : Streams) (before after : R) (cours
   pub replied : Replied old.sink new.sink before after course.steps
   pub rose : Rose old.source.faults new.source.faults
 
--- The sink failed; it took the replies to all lines that were answered, of the last one a part, and not all of it. Nothing more was
--- read for that.
+-- The sink failed; it took the replies to all lines that were answered, of the last one a part, and not all of it. Behind these lines
+-- fewer bytes were read than one call asks for.
 pub record WriteFailed {R : Type 0} (old new : Streams) (after : R) (course : Course R) : Type 0 where
   pub first : AreFirst course.lines course.read new.source.unread
   pub no_further : ReadsNoFurther course.lines course.read new.source.unread

@@ -10,8 +10,10 @@ use Rattle.sp_run.specs.Records.{records_name}
 use Rattle.sp_run.specs.Saving.{Changes, KeepsAllBut}
 use Rattle.sp_run.specs.RoomEnding.{RoomEnds, HeldRoom}
 use Rattle.sp_run.specs.Unopened.{outside}
+use Rattle.sp_run.specs.Asking.{CommandsAsk}
+use Rattle.sp_run.proofs.AskedSessions.{ended-asks, opened-asks, unopened-asks}
 use Rattle.sp_run.proofs.DeskSessions.{held-ends, unopened-ends}
-use Rattle.sp_run.proofs.RoomSessions.{room-held, room-others}
+use Rattle.sp_run.proofs.RoomSessions.{by_room, room-held, room-others}
 use Rattle.sp_run.proofs.Stores.{changes-none, keeps-itself}
 use Rattle.sp_run.proofs.room_session.hold_room.Goals as goal
 
@@ -58,3 +60,23 @@ returns-clause-others g c =
     c.open.ensures.room c.session-ended.ensures.ends in
     subst (λ (files : Option Files). Changes files after.shelf.files (λ (one other : Files). KeepsAllBut one other name (records_name name))) c.open_desk.ensures.files_kept
     (room-others name c.in-Ok.desk between opened old new after c.session-ended.result ends)
+
+pub returns-in-Err-clause-asks : goal.returns-in-Err-clause-asks
+returns-in-Err-clause-asks g c =
+    let sink = g.O.Sink.state c.args.output.now in
+    let old = outside (g.I.Source.state c.args.input.now) sink (g.F.Shelf.state c.args.shelf.now) in
+    let new = outside (g.I.Source.state c.open_desk.new.input) sink (g.F.Shelf.state c.open_desk.new.shelf) in
+    unopened-asks c.args.name.now old new c.in-Err.status (c.in-Err.ensures.refused sink) c.in-Err.ensures.asks
+
+pub returns-clause-asks : goal.returns-clause-asks
+returns-clause-asks g c =
+    let name = c.args.name.now in
+    let opened = counts_of (g.S.Steps.reads c.open_desk.new.steps) (g.S.Steps.fills c.open_desk.new.steps) in
+    let to = counts_of (g.S.Steps.reads c.session-ended.new.steps) (g.S.Steps.fills c.session-ended.new.steps) in
+    let shelf = g.F.Shelf.state c.args.shelf.now in
+    let before = room_at name c.open.result (g.F.Shelf.state c.open_desk.new.shelf) opened in
+    let after = at_shelf c.session-ended.new.responder (g.F.Shelf.state c.session-ended.new.shelf) to in
+    let begun = streams (g.I.Source.state c.open_desk.new.input) (g.O.Sink.state c.args.output.now) in
+    let ended = streams (g.I.Source.state c.session-ended.new.input) (g.O.Sink.state c.session-ended.new.output) in
+    subst (CommandsAsk name shelf after.shelf) (sym c.from.ensures)
+    (ended-asks name shelf after.shelf c.session-ended.result (opened-asks by_room name shelf begun ended before after c.session-ended.result refl c.session-ended.ensures.ends c.in-Ok.ensures.asks))
