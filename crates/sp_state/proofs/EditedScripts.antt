@@ -5,5 +5,5 @@ use Rattle.spec_state.specs.Keeping.{state_of}
 use Rattle.sp_text.specs.Gap.{text_of}
 use Rattle.sp_state.specs.declared.script.Script.TheInside.{Inside}
 
-pub before-is : {parts own : Inside} {state : State} → parts ≡ own → state_of (text_of own.lines) own.records ≡ state → state_of (text_of parts.lines) parts.records ≡ state
-before-is same is = ap (λ (inside : Inside). state_of (text_of inside.lines) inside.records) same ∙ is
+pub before-is : {parts own : Inside} {state : State} → parts ≡ own → state_of (text_of own.text.lines) own.records ≡ state → state_of (text_of parts.text.lines) parts.records ≡ state
+before-is same is = ap (λ (inside : Inside). state_of (text_of inside.text.lines) inside.records) same ∙ is

@@ -137,23 +137,16 @@ pub(crate) fn refilled<S: Steps>(
     ensures reads { S.reads steps.new ≡ S.reads steps.old }
     ensures same { OnErr result (pages.new.starts ≡ pages.old.starts) }
 {
+    let lines = text.lines();
+    let stanzas = text.stanzas();
     let swapped = update_pages(
-        alloc,
-        text.lines(),
-        records,
-        layout,
-        firsts,
-        pages,
-        first,
-        old,
-        new,
-        steps,
+        alloc, lines, records, layout, firsts, pages, first, old, new, steps,
     )?;
     let keeps_pages = pages_stay(keeps_firsts, pages, &swapped);
     match renumber(
         alloc,
-        text.lines(),
-        text.stanzas(),
+        lines,
+        stanzas,
         records,
         layout,
         firsts,
@@ -215,12 +208,14 @@ fn turned_pages(
     ensures same { OnErr result (pages.new.starts ≡ pages.old.starts) }
     ensures handed_back { IfErr result (λ error. taken_of error.back ≡ taken_of back) }
 {
+    let lines = text.lines();
+    let stanzas = text.stanzas();
     let none: &[usize] = &[];
     let near = match known {
         Some(firsts) => firsts.as_slice(),
         None => none,
     };
-    let Ok(firsts) = laid_firsts(alloc, text.lines(), records, layout, near) else {
+    let Ok(firsts) = laid_firsts(alloc, lines, records, layout, near) else {
         return Err(UnswappedPages { back });
     };
     let other = pages.put_back(back)?;
@@ -228,8 +223,8 @@ fn turned_pages(
     let keeps_pages = pages_stay(keeps_firsts, pages, &other);
     match renumber(
         alloc,
-        text.lines(),
-        text.stanzas(),
+        lines,
+        stanzas,
         records,
         layout,
         &firsts,

@@ -78,7 +78,7 @@ refilled-requires-clause-kept g c keeps =
     let old : State = state_of (text_of c.args.text.now.lines) c.args.records.now in
     let it : Replacement = replacement_of c.args.text.now.lines.lines (edit_of c.args.edit) in
     let same = (slice_eq-Decides Decides-eqb c.as_slice.result.now c.as_slice-2.result.now c.eq-keeps_firsts.result c.eq-keeps_firsts.ensures).0 keeps in
-    let first : c.deref-2.result.now ≡ first_rows old = c.deref-2.ensures.value ∙ sym c.as_slice-2.ensures.value ∙ sym same ∙ c.as_slice.ensures.value ∙ c.in_ok-before.ensures.found in
+    let first : c.deref-2.result.now ≡ first_rows old = c.deref-2.ensures.value ∙ sym c.as_slice-2.ensures.value ∙ sym same ∙ c.as_slice.ensures.value ∙ (rw c.lines.ensures.lines at c.in_ok-before.ensures.found) in
     subst (λ (s : State). IfSome s.pages (λ those. AreSheetsBefore those c.deref-2.result.now c.args.pages.now.starts c.args.numbered.now.sheets)) (sym c.in_ok-entry.ensures.state)
     (locked-before old it c.deref-2.result.now c.args.pages.now.starts c.args.numbered.now.sheets c.requires.whole first c.requires.pages c.requires.numbered.sheets)
 

@@ -92,7 +92,6 @@ returns-in-Err-turn_layout c =
       numbered = subst (IsNumberedOf now) (sym left.same_numbered) (subst (λ (s : State). IsNumberedOf s c.args.numbered.now) (sym same) c.requires.numbered);
       firsts = tt;
       pages = left.same ∙ c.requires.pages ∙ sym (ap pages_of same);
-      stanzas = again.stanzas;
       same = same;
       handed_back = subst (λ (e : EntryState). IsSameTextEntry back e.text) c.entry.view_is own;
       again = turn-again state (laid_of c.args.layout.now) (record { text = back; layout = c.in-Err-turn_layout.field-0.layout; pages = c.in-Err-turn_layout.field-0.pages }) entry c.requires.laid own

@@ -1,4 +1,4 @@
-use Rattle.std.proofs.Common.{◌≡◌, ℕ, List, length, ap, subst, ◌∙◌, arith}
+use Rattle.std.proofs.Common.{ℕ, length, ap, sym, subst, ◌∙◌, arith}
 use Rattle.std.proofs.lemmas.Result.{err_from_is_err_and}
 use Rattle.spec_state.specs.State.{State}
 use Rattle.spec_state.specs.Keeping.{state_of}
@@ -6,7 +6,7 @@ use Rattle.spec_locked_pages.specs.Segments.{pages_of}
 use Rattle.sp_text.specs.Gap.{LinesState, text_of}
 use Rattle.sp_reflow.specs.Filling.{FilledAtMost}
 use Rattle.sp_reflow.specs.Starts.{many_more}
-use Rattle.sp_sheets.specs.Made.{IsMadeOf}
+use Rattle.sp_reread.specs.Cache.{ReadsAtMostAll, texts_in}
 use Rattle.sp_state.proofs.script.read_and_make.Goals as goal
 
 pub returns-in_err-text : goal.returns-in_err-text
