@@ -1,4 +1,4 @@
--- Characters that are clusters of one column beside one another, by their first bytes.
+-- Characters that are clusters of one column beside one another, by their first bytes (docs/RULES.md, "Columns").
 use Rattle.std.specs.Prelude.{ℕ, if◌then◌else◌}
 use Rattle.std.specs.Int.{is_in_range}
 use Rattle.spec_pages.specs.Clusters.{is_printable}
