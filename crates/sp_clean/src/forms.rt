@@ -113,7 +113,8 @@ fn is_natural_transition(text: &str) -> bool
 
 /// Whether a text has an uppercase name, and begins with no mark of another form, which is told sooner.
 fn has_uppercase_name(text: &str) -> bool
-    ensures { result ≡ (is_uppercase (cue_name (without_caret text.now)) && not (begins_with_one (codes "!@>~#=") text.now)) }
+    ensures { result ≡ (is_uppercase (cue_name (without_caret text.now))
+        && not (begins_with_one (codes "!@>~#=") text.now)) }
 {
     !begins_with_one(text, b"!@>~#=") && is_uppercase(cue_name(without_caret(text)))
 }

@@ -58,7 +58,8 @@ impl Cell {
     /// A cell that begins at the column and shows these parts of its line, by places of bytes. The line is counted from the
     /// element's first. The error is want of memory alone.
     pub fn new(alloc: Global, column: u32, line: u32, runs: RowRuns) -> Result<Cell, AllocError>
-        ensures { IfOk result (λ cell. cell ≡ record { column = column; line = line; runs = row_runs runs; fixed = false; number = false }) }
+        ensures { IfOk result (λ cell. cell
+            ≡ record { column = column; line = line; runs = row_runs runs; fixed = false; number = false }) }
     {
         Ok(Cell {
             column,
@@ -70,7 +71,8 @@ impl Cell {
     /// A cell that begins at the column and shows a heading's written number, which these parts of its line are. The error is
     /// want of memory alone.
     pub fn number(alloc: Global, column: u32, line: u32, runs: Vec<Run>) -> Result<Cell, AllocError>
-        ensures { IfOk result (λ cell. cell ≡ record { column = column; line = line; runs = runs.items; fixed = false; number = true }) }
+        ensures { IfOk result (λ cell. cell
+            ≡ record { column = column; line = line; runs = runs.items; fixed = false; number = true }) }
     {
         Ok(Cell {
             column,

@@ -1,5 +1,5 @@
 -- The walks over rows and blocks find the speeches of a state, each with the sheet that has the first row of its element.
-use Rattle.std.proofs.Common.{◌≡◌, ℕ, zero, suc, ◌+◌, ◌-◌, ◌&&◌, ◌==◌, Bool, true, false, not, cond, Option, Some, None, List, [], ◌∷◌, ◌++◌, length, map, filter, slice_get, refl, sym, ap, ap₂, ◌∙◌, arith, ne_eqb, append_assoc, append-nil, length-append}
+use Rattle.std.proofs.Common.{◌≡◌, ℕ, suc, ◌+◌, ◌-◌, ◌&&◌, ◌==◌, Bool, true, false, not, cond, Option, Some, None, List, [], ◌∷◌, ◌++◌, length, map, filter, slice_get, refl, sym, ap, ap₂, ◌∙◌, arith, ne_eqb, append_assoc, append-nil, length-append}
 use Rattle.std.specs.Prelude.{find, option_map, unwrap_or}
 use Rattle.std.specs.Option.{option_map_or}
 use Rattle.spec_text.specs.Lines.{line_texts}
@@ -17,7 +17,6 @@ use Rattle.spec_labels.specs.Scenes.{scene_labels}
 use Rattle.spec_labels.specs.PageRecords.{SheetOf}
 use Rattle.spec_sheets.specs.Shown.{shape_of}
 use Rattle.spec_sheets.specs.Speakers.{Spoken, cue_text, name_in, named_block, settled, speaker_after, spoken_elements}
-use Rattle.spec_sheets.proofs.LaidRows.{body_rows}
 use Rattle.spec_sheets.proofs.SpokenLaws.{spoken_alone, spoken_pair}
 use Rattle.spec_state.specs.State.{State}
 use Rattle.spec_state.specs.Headings.{headings_of, is_heading_kind, is_heading_block}
@@ -27,10 +26,10 @@ use Rattle.spec_machine.specs.Outlines.{has_row}
 use Rattle.spec_cast.specs.Sides.{SaidOf}
 use Rattle.spec_cast.specs.Places.{state_elements, has_heading, has_speech, row_count, StandsOnOne, each_behind, opens_speech, begins_speech}
 use Rattle.spec_cast.specs.Said.{last_label, first_of, speech_said, element_said, said_of}
-use Rattle.spec_cast.proofs.FirstRows.{dual-second, dual-other, elements-step}
-use Rattle.spec_cast.proofs.RowPlaces.{places, first_rows, row_shape, elements-places, count-next}
+use Rattle.spec_cast.proofs.FirstRows.{dual-second, elements-step}
+use Rattle.spec_cast.proofs.RowPlaces.{places, first_rows, elements-places, count-next}
 use Rattle.spec_cast.proofs.SheetLaws.{speech-one, state-shapes, state-speech, next-behind}
-use Rattle.sp_contents.specs.Speeches.{Walk, walk_start, is_first, walked, first_label, speech_sheets, said_by, block_said, said_from}
+use Rattle.sp_contents.specs.Speeches.{Walk, walk_start, is_first, walked, first_label, speech_sheets, said_by, said_from}
 
 -- ---- rows
 

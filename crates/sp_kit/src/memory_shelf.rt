@@ -49,7 +49,8 @@ impl MemoryShelf {
     fn fails_now(&mut self) -> bool
         ensures listed { IsTrue result ↔ Contains self.old.fails self.old.call }
         ensures call { self.new.call ≡ one_more self.old.call }
-        ensures cause { MatchBool result ((self.old.faults ≤ self.new.faults) × (self.new.faults ≡ one_more self.old.faults)) (self.new.faults ≡ self.old.faults) }
+        ensures cause { MatchBool result ((self.old.faults ≤ self.new.faults)
+            × (self.new.faults ≡ one_more self.old.faults)) (self.new.faults ≡ self.old.faults) }
         ensures kept { (self.new.files ≡ self.old.files) × (self.new.fails ≡ self.old.fails) }
         ensures calls { self.new.calls ≡ self.old.calls }
     {
@@ -64,7 +65,8 @@ impl MemoryShelf {
 
 /// The bytes under the name.
 fn bytes_under<'a>(files: &'a BTreeMap<String, Vec<u8>>, name: &str) -> Option<&'a [u8]>
-    ensures { MatchOption result (found_in (files_of files.now) name.now ≡ None) (λ bytes. found_in (files_of files.now) name.now ≡ Some bytes.now) }
+    ensures { MatchOption result (found_in (files_of files.now) name.now ≡ None)
+        (λ bytes. found_in (files_of files.now) name.now ≡ Some bytes.now) }
 {
     match files.get(name) {
         None => None,
@@ -121,7 +123,9 @@ impl Shelf for MemoryShelf {
 
     /// Puts the bytes under the name, and fails exactly the listed calls, which change no file and count one fault each.
     fn store(&mut self, name: &str, bytes: &[u8]) -> Result<(), ShelfFault>
-        ensures leaves { StoreLeaves (Some (told_in self.old.files)) (Some (told_in self.new.files)) name.now bytes.now result }
+        ensures leaves { StoreLeaves (Some (told_in self.old.files)) (Some (told_in self.new.files))
+            name.now bytes.now result }
+        ensures failed { result ≡ Err ShelfFault.Failed → self.new.files ≡ self.old.files }
         ensures cause { HasShelfCause self.old.faults self.new.faults result }
         ensures one_fault { result ≡ Err ShelfFault.Failed → self.new.faults ≡ one_more self.old.faults }
         ensures fails { (result ≡ Err ShelfFault.Failed) ↔ Contains self.old.fails self.old.call }

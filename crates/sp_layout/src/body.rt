@@ -320,7 +320,7 @@ impl Body {
 
     /// Makes room behind the gaps in what is kept of the places of elements, where there is memory for it: without it an exchange
     /// moves those of later ones.
-    pub fn make_gaps(&mut self)
+    pub(crate) fn make_gaps(&mut self)
         ensures { self.new ≡ self.old }
     {
         self.row_starts.make_gap();

@@ -13,9 +13,9 @@ use Rattle.sp_run.specs.declared.status.Status.TheVariants as statuses
 use Rattle.sp_run.specs.Asking.{AsksOne, AsksTwo, BesideAsks, BesideStatusAsks, CollatedAsks, CollationAsks, OpeningAsks, OriginAsks, ScriptAsks, StatusAsks, WholeAsks}
 use Rattle.sp_run.specs.Collating.{NoSheets}
 use Rattle.sp_run.specs.Forms.{OriginOf, from_source, from_file}
-use Rattle.sp_run.specs.Opening.{HadNone, HadScript, HasScript, NotBeside}
+use Rattle.sp_run.specs.Opening.{HadNone, HasScript, NotBeside}
 use Rattle.sp_run.specs.Records.{records_name}
-use Rattle.sp_run.specs.ShowCounted.{ShowsState, WithoutMemory, WithoutView, WritesView}
+use Rattle.sp_run.specs.ShowCounted.{ShowsState, WritesView}
 use Rattle.sp_run.specs.Unopened.{Refuses}
 
 -- Calls behind calls.

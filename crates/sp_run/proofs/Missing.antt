@@ -1,5 +1,5 @@
 -- The status of a run whose script is missing.
-use Rattle.std.proofs.Common.{◌≡◌, ℕ, List, Some, None, sym, subst}
+use Rattle.std.proofs.Common.{◌≡◌, ℕ, List, Some, None, subst}
 use Rattle.std.specs.Prelude.{IfSome, IsSomeAnd}
 use Rattle.std.specs.declared.option.Option.{Option}
 use Rattle.spec_session.specs.Runs.{Counts}

@@ -6,8 +6,8 @@ ghost use Rattle.sp_wire.specs.Values.{reply_of};
 ghost use Rattle.sp_run.specs.Saving.{RepliesToSave, StoreLeft, StoresBoth, files_of};
 
 use crate::opening::records_name;
-use sp_records::{Records, digest, encode};
 use sp_kit::{Shelf, ShelfFault};
+use sp_records::{Records, digest, encode};
 use sp_text::Lines;
 use sp_wire::{Refusal, Reply};
 use std::alloc::{AllocError, Global};

@@ -1,5 +1,5 @@
 -- An entry that keeps few elements, and the one that leads back.
-use Rattle.std.proofs.Common.{◌≡◌, ℕ, ◌+◌, ◌-◌, ◌≤◌, List, ◌++◌, length, take, drop, slice_range, Option, Some, None, refl, sym, ap, ap₂, subst, ◌∙◌, arith, length-append, length-take, length-drop, take_at, drop_at}
+use Rattle.std.proofs.Common.{◌≡◌, ◌+◌, ◌-◌, List, ◌++◌, length, take, drop, slice_range, Option, Some, None, refl, sym, ap, ap₂, subst, ◌∙◌, arith, length-append, length-take, length-drop, take_at, drop_at}
 use Rattle.spec_script.specs.BlockValues.{StanzaOf}
 use Rattle.sp_layout.proofs.FewBlocks.{run-size}
 use Rattle.sp_layout.proofs.RowSwaps.{length-rows}

@@ -24,7 +24,7 @@ use Rattle.spec_pages.specs.declared.Side.{Side}
 use Rattle.spec_pages.specs.declared.Side.TheVariants as sides
 use Rattle.spec_pages.specs.Columns.{row_kind, text_row_kind, width_of, first_lead, has_rows}
 use Rattle.spec_pages.specs.Pages.{is_heading}
-use Rattle.spec_pages.specs.Rows.{Row, LineContext, line_context, line_rows_from, line_rows, with_number, shaped_rows, joined_rows, title_row, is_title, spoken_rows, with_speakers, block_alone, blocks_beside, single_rows, dual_rows, shifted_row, placed_rows}
+use Rattle.spec_pages.specs.Rows.{Row, LineContext, line_context, line_rows_from, line_rows, with_number, shaped_rows, joined_rows, title_row, is_title, spoken_rows, with_speakers, block_alone, single_rows, dual_rows, shifted_row}
 use Rattle.spec_pages.specs.Rows as rows
 use Rattle.spec_pages.specs.Wrapping.{WrappedRow, wrapped}
 use Rattle.spec_pages.proofs.WrapLaws.{wrapped-some}
