@@ -1,3 +1,13 @@
 pub mod SampleSteps
 pub mod SampleLaws
 pub mod SampleReading
+pub mod Places
+pub mod EditsTaken
+pub mod Unnumbered
+pub mod ScenesTaken
+pub mod WrapFew
+pub mod RowsFew
+pub mod LocksTaken
+pub mod SampleSmall
+pub mod FirstRow
+pub mod SampleAccepted

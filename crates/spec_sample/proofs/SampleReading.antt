@@ -21,22 +21,33 @@ use Rattle.spec_text.specs.Lines.{is_kept, IsClean, line_text, line_size, raw_li
 use Rattle.spec_text.proofs.LineLaws.{raw_lines-append, raw_lines-line_feed}
 use Rattle.spec_text.proofs.TextLaws.{line_text-IsClean, IsClean-no_end}
 use Rattle.spec_sample.specs.Sample.{ended_line, room_lines, second_cue, sample_lines, sample_script}
+use Rattle.spec_pages.specs.Clusters.{is_printable}
 use Rattle.spec_sample.proofs.SampleLaws.{length-sample_lines}
+use Rattle.spec_sample.proofs.Unnumbered.{is_other}
 
 -- ---- plain lines
 
--- A byte that is ASCII and kept.
-abbrev is_plain : ℕ → Bool
-is_plain byte = nat_lt byte 128 && is_kept byte
+-- A byte that is ASCII and kept, takes one column, and is no `#`.
+abbrev is_read : ℕ → Bool
+is_read byte = nat_lt byte 128 && is_kept byte
 
-record IsPlain (text : List ℕ) : Type 0 where
-  plain : list_all is_plain text ≡ true
-  short : length text ≤ 100
+abbrev is_shown : ℕ → Bool
+is_shown byte = is_printable byte && is_other byte
+
+abbrev pub is_plain : ℕ → Bool
+is_plain byte = is_read byte && is_shown byte
+
+pub record IsPlain (text : List ℕ) : Type 0 where
+  pub plain : list_all is_plain text ≡ true
+  pub short : length text ≤ 100
 
 ascii : (line : List ℕ) → list_all is_plain line ≡ true → IsAscii line
 ascii line plain i =
     elim (cases_lt i (length line)) [
-      | inl inside ↦ ltb-true (get_or line i 0) 128 (and_parts (ltb (get_or line i 0) 128) (is_kept (get_or line i 0)) (and_at (list_all is_plain) is_plain refl (λ _ _. refl) line i 0 inside plain)).0
+      | inl inside ↦
+          let byte = get_or line i 0 in
+          let parts = and_parts (is_read byte) (is_shown byte) (and_at (list_all is_plain) is_plain refl (λ _ _. refl) line i 0 inside plain) in
+          ltb-true byte 128 (and_parts (ltb byte 128) (is_kept byte) parts.0).0
       | inr past ↦ omega (arith, get_or_past line i 0 past)
     ]
 
@@ -44,9 +55,24 @@ kept : (line : List ℕ) → list_all is_plain line ≡ true → list_all is_kep
 kept [] plain = refl
 kept (byte ∷ line) plain =
     let parts = and_parts (is_plain byte) (list_all is_plain line) plain in
-    and_from (is_kept byte) (list_all is_kept line) (and_parts (ltb byte 128) (is_kept byte) parts.0).1 (kept line parts.1)
+    let own = and_parts (is_read byte) (is_shown byte) parts.0 in
+    and_from (is_kept byte) (list_all is_kept line) (and_parts (ltb byte 128) (is_kept byte) own.0).1 (kept line parts.1)
 
-clean : (line : List ℕ) → IsPlain line → IsClean line
+pub printable : (line : List ℕ) → list_all is_plain line ≡ true → list_all is_printable line ≡ true
+printable [] plain = refl
+printable (byte ∷ line) plain =
+    let parts = and_parts (is_plain byte) (list_all is_plain line) plain in
+    let own = and_parts (is_read byte) (is_shown byte) parts.0 in
+    and_from (is_printable byte) (list_all is_printable line) (and_parts (is_printable byte) (is_other byte) own.1).0 (printable line parts.1)
+
+pub other : (line : List ℕ) → list_all is_plain line ≡ true → list_all is_other line ≡ true
+other [] plain = refl
+other (byte ∷ line) plain =
+    let parts = and_parts (is_plain byte) (list_all is_plain line) plain in
+    let own = and_parts (is_read byte) (is_shown byte) parts.0 in
+    and_from (is_other byte) (list_all is_other line) (and_parts (is_printable byte) (is_other byte) own.1).1 (other line parts.1)
+
+pub clean : (line : List ℕ) → IsPlain line → IsClean line
 clean line is = record { utf8 = IsUtf8-from_ascii line (ascii line is.plain); kept = ap (list_all is_kept) (chars-IsAscii line (ascii line is.plain)) ∙ kept line is.plain }
 
 -- ---- what plain lines are read as
@@ -71,7 +97,7 @@ length-ended [] = refl
 length-ended (text ∷ texts) =
     length-append (text ++ 10 ∷ []) (flat_map ended_line texts) ∙ ap₂ (λ m n. m + n) (length-append text (10 ∷ [])) (length-ended texts) ∙ sym (sum_by-cons line_size text texts)
 
-size-plain : (texts : List (List ℕ)) → All IsPlain texts → sum_by line_size texts ≤ 101 * length texts
+pub size-plain : (texts : List (List ℕ)) → All IsPlain texts → sum_by line_size texts ≤ 101 * length texts
 size-plain [] all = omega arith
 size-plain (text ∷ texts) all =
     omega (arith, (all 0 text (omega arith)).short, size-plain texts (λ k d inside. all (suc k) d (omega arith)), sum_by-cons line_size text texts)
@@ -119,7 +145,7 @@ plain-number i small =
       short = omega (arith, length-decimal-le 4 i (lit< tt) (omega arith) (omega arith));
     }
 
-numbered : (i : ℕ) (front back : List ℕ) → i < 10000 → list_all is_plain front ≡ true → list_all is_plain back ≡ true → length front ≤ 48 → length back ≤ 48 → IsPlain (front ++ decimal i ++ back)
+pub numbered : (i : ℕ) (front back : List ℕ) → i < 10000 → list_all is_plain front ≡ true → list_all is_plain back ≡ true → length front ≤ 48 → length back ≤ 48 → IsPlain (front ++ decimal i ++ back)
 numbered i front back small first last short_front short_back =
     let number = plain-number i small in
     let digits = length-decimal-le 4 i (lit< tt) (omega arith) (omega arith) in
@@ -136,16 +162,16 @@ plain-cue i =
     let P : Bool → Type 0 = λ b. IsPlain (cond b (codes "BERT ^") (codes "BERT")) in
     elim (i % 5 == 0) as P [ true ↦ record { plain = refl; short = lit≤ tt } | false ↦ record { plain = refl; short = lit≤ tt } ]
 
-told : (text : List ℕ) → list_all is_plain text ≡ true → length text ≤ 100 → IsPlain text
+pub told : (text : List ℕ) → list_all is_plain text ≡ true → length text ≤ 100 → IsPlain text
 told text plain short = record { plain = plain; short = short }
 
-record ArePlain (texts : List (List ℕ)) : Type 0 where
-  all : All IsPlain texts
+pub record ArePlain (texts : List (List ℕ)) : Type 0 where
+  pub all : All IsPlain texts
 
 plain-rest : (texts : List (List ℕ)) (text : List ℕ) → IsPlain text → ArePlain texts → ArePlain (text ∷ texts)
 plain-rest texts text first others = record { all = All-cons IsPlain text texts first others.all }
 
-plain-room : (i : ℕ) → i < 10000 → ArePlain (room_lines i)
+pub plain-room : (i : ℕ) → i < 10000 → ArePlain (room_lines i)
 plain-room i small =
     let empty = told [] refl (lit≤ tt) in
     plain-rest _ _ (numbered i (codes "INT. ROOM ") (codes " - DAY") small refl refl (lit≤ tt) (lit≤ tt))
@@ -160,7 +186,7 @@ plain-room i small =
     (plain-rest _ _ (told (codes "Count them again.") refl (lit≤ tt))
     (plain-rest _ _ empty (record { all = All-nil IsPlain })))))))))))
 
-plain-rooms : (n : ℕ) → n < 10000 → All IsPlain (sample_lines n)
+pub plain-rooms : (n : ℕ) → n < 10000 → All IsPlain (sample_lines n)
 plain-rooms zero small = All-nil IsPlain
 plain-rooms (suc n) small = All-append IsPlain (sample_lines n) (room_lines (suc n)) (plain-rooms n (omega arith)) (plain-room (suc n) small).all
 
