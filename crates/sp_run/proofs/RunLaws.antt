@@ -1,11 +1,14 @@
 -- What a run did, by what it did for its words: what follows of the contract of `run` (docs/RULES.md, "The program").
-use Rattle.std.proofs.Common.{◌≡◌, ℕ, ◌+◌, ◌-◌, ◌^◌, ◌<◌, List, [], ◌∷◌, Some, None, slice_get, ◌↔◌, refl, subst}
+use Rattle.std.proofs.Common.{◌≡◌, ℕ, ◌+◌, ◌-◌, ◌^◌, ◌<◌, List, [], ◌∷◌, map, Some, None, slice_get, ◌↔◌, refl, subst}
+use Rattle.std.specs.Prelude.{string_bytes}
 use Rattle.std.specs.declared.option.Option.{Option}
 use Rattle.std.specs.declared.alloc.Global.{Global}
 use Rattle.std.specs.declared.string.String.{String}
 use Rattle.spec_machine.specs.Machine.{Memory, opened_memory}
 use Rattle.spec_machine.specs.Sessions.{LeadsTo}
 use Rattle.spec_room.specs.Rooms.{opened_room}
+use Rattle.spec_sample.specs.Accepted.{AreAccepted}
+use Rattle.spec_sample.proofs.SampleAccepted.{sample-accepted}
 use Rattle.spec_session.specs.CommandLines.{command_lines}
 use Rattle.spec_session.specs.Runs.{Counts}
 use Rattle.spec_session.specs.Sessions.{FailedNothing, streams}
@@ -44,6 +47,7 @@ use Rattle.sp_run.proofs.Reached.{desk-leads, room-leads, runs-few}
 use Rattle.sp_run.proofs.Reopened.{saved-reopened}
 use Rattle.sp_run.proofs.RoomSessions.{room-answered, room-calmly, room-settles}
 use Rattle.sp_run.proofs.Collations.{answers-fate}
+use Rattle.sp_run.proofs.SampleRooms.{asked-few}
 
 -- No form ends with the status of other words.
 no-usage : (asked : Asked) (old new : Outside) (from to : Counts) → Ends asked old new from to statuses.Usage → ⊥
@@ -287,6 +291,10 @@ module _ {I O F S : Type 0} {words : List (String Global)} {old new : World I O 
   pub run-sampled : (rooms : ℕ) → asked_in words ≡ Some (sample rooms) → status ≡ statuses.Done
       → ToldSample rooms old.told.sink new.told.sink old.counts new.counts
   run-sampled rooms is done = ended-as (sample rooms) statuses.Done is done
+
+  -- None of its commands is refused but, below three rooms, the undo and the redo.
+  pub run-sample-accepted : (rooms : ℕ) → asked_in words ≡ Some (sample rooms) → AreAccepted rooms
+  run-sample-accepted rooms is = let few = asked-few (map string_bytes words) rooms is in sample-accepted rooms few.some few.few
 
   -- It leaves what it doesn't use.
   pub run-others-left : (rooms : ℕ) → asked_in words ≡ Some (sample rooms) → (new.input ≡ old.input) × (new.shelf ≡ old.shelf)
