@@ -14,6 +14,9 @@ use spec_script::Run;
 use std::alloc::{AllocError, Global};
 use std::marker::Model;
 
+/// Lines of more runs have clusters made of them, since each row goes over all runs of its line.
+const FEW_RUNS: usize = 16;
+
 /// A row of a line (docs/RULES.md, "Wrapping"): its runs, by places of bytes in the line, and its width in columns.
 #[derive(Drop)]
 pub struct WrapRow {
@@ -100,7 +103,7 @@ fn wrapped(alloc: Global, text: &str, runs: &[Run], width: u32) -> Result<Vec<Wr
     if let Some(clusters) = printable_of(text, runs) {
         return rows_of(alloc, clusters, width);
     }
-    if runs.len() > 1 {
+    if runs.len() > 1 && runs.len() <= FEW_RUNS {
         let bytes = shown_bytes(alloc, text, runs)?;
         if let Some(clusters) = printable_runs(text, runs, &bytes) {
             return rows_of(alloc, clusters, width);
