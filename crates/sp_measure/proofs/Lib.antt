@@ -4,3 +4,4 @@ pub mod Plain
 pub mod PlainClusters
 pub mod Reading
 pub mod Spaces
+pub mod Windows

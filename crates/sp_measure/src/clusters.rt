@@ -54,15 +54,22 @@ fn width_of(piece: &str) -> u16
     }
 }
 
+/// Whether bytes are printable ASCII alone.
+pub fn all_printable(bytes: &[u8]) -> bool
+    ensures { result ≡ list_all is_printable bytes.now }
+{
+    let mut printable = true;
+    for byte in bytes {
+        printable &= is_printable_byte(*byte);
+    }
+    printable
+}
+
 /// Whether a text is printable ASCII alone, of which each byte is a cluster of one column.
 pub fn is_printable(text: &str) -> bool
     ensures { result ≡ list_all is_printable text.now }
 {
-    let mut printable = true;
-    for byte in text.as_bytes() {
-        printable &= is_printable_byte(*byte);
-    }
-    printable
+    all_printable(text.as_bytes())
 }
 
 /// The columns that a text of at most 4,096 bytes takes: the sum of the widths of its clusters, the text as one run

@@ -7,6 +7,7 @@ mod list;
 mod parts;
 mod row_runs;
 mod rows;
+mod shown;
 
 pub use clusters::columns;
 pub use row_runs::RowRuns;

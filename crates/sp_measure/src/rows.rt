@@ -3,14 +3,19 @@ ghost use Rattle.std.specs.Prelude.{◌≡◌, ◌^◌, ◌<◌, ◌≤◌, leng
 ghost use Rattle.spec_script.specs.Runs.{RunParts};
 ghost use Rattle.spec_pages.specs.Clusters.{clusters_of};
 ghost use Rattle.spec_pages.specs.Wrapping.{wrapped, total_width, row_of, rows_of};
+ghost use Rattle.sp_measure.specs.Shown.{shown_bytes};
 
-use crate::clusters::{clusters_of, is_printable};
+use crate::clusters::{all_printable, clusters_of, is_printable};
 use crate::cuts::{first_cut, rest_after, row_before};
 use crate::list::{ClusterList, Printable};
 use crate::row_runs::RowRuns;
+use crate::shown::{PrintableRuns, shown_bytes};
 use spec_script::Run;
 use std::alloc::{AllocError, Global};
 use std::marker::Model;
+
+/// Lines of more runs have clusters made of them, since each row goes over all runs of its line.
+const FEW_RUNS: usize = 16;
 
 /// A row of a line (docs/RULES.md, "Wrapping"): its runs, by places of bytes in the line, and its width in columns.
 #[derive(Drop)]
@@ -49,6 +54,25 @@ fn printable_of<'a>(text: &'a str, runs: &[Run]) -> Option<Printable<'a>>
     })
 }
 
+/// The clusters of a line whose runs show these bytes, where they are printable.
+fn printable_runs<'a>(text: &'a str, runs: &'a [Run], bytes: &'a [u8]) -> Option<PrintableRuns<'a>>
+    requires parts { RunParts text.now runs.now }
+    requires bytes { bytes.now ≡ shown_bytes text.now runs.now }
+    requires few { length bytes.now ≤ 16384 }
+    ensures value { IfSome result (λ clusters. clusters ≡ clusters_of text.now runs.now) }
+    ensures wide { IfSome result (λ clusters. total_width clusters < 2 ^ 32) }
+{
+    if !all_printable(bytes) {
+        return None;
+    }
+    Some(PrintableRuns {
+        text,
+        runs,
+        skip: 0,
+        bytes,
+    })
+}
+
 /// The rows of a line's clusters.
 fn rows_of<C: ClusterList>(
     alloc: Global,
@@ -78,6 +102,12 @@ fn wrapped(alloc: Global, text: &str, runs: &[Run], width: u32) -> Result<Vec<Wr
 {
     if let Some(clusters) = printable_of(text, runs) {
         return rows_of(alloc, clusters, width);
+    }
+    if runs.len() > 1 && runs.len() <= FEW_RUNS {
+        let bytes = shown_bytes(alloc, text, runs)?;
+        if let Some(clusters) = printable_runs(text, runs, &bytes) {
+            return rows_of(alloc, clusters, width);
+        }
     }
     let clusters = clusters_of(alloc, text, runs)?;
     rows_of(alloc, clusters.as_slice(), width)
