@@ -116,7 +116,12 @@ impl<'a> BothTexts<'a> {
             return false;
         }
         same_cells(
-            &self.old, one.first, &was.cells, self.new, it.first, &now.cells,
+            &self.old,
+            one.first,
+            was.cells.as_slice(),
+            self.new,
+            it.first,
+            now.cells.as_slice(),
         )
     }
 
