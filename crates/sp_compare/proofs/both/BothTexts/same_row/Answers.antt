@@ -27,10 +27,10 @@ returns c =
     let it = c.self.inside in
     let was-with = λ (cells : List Cell). let row : Row = record { line = c.was.inside.line; row = c.was.inside.row; mark = c.was.inside.mark; shape = c.was.inside.shape; cells = cells } in row in
     let now-with = λ (cells : List Cell). let row : Row = record { line = c.now.inside.line; row = c.now.inside.row; mark = c.now.inside.mark; shape = c.now.inside.shape; cells = cells } in row in
-    let was = was-with c.as_slice.result.now in
-    let now = now-with c.as_slice-2.result.now in
-    let is-was : was ≡ c.row-one.result.row.now = ap was-with c.as_slice.ensures ∙ c.was.view_is in
-    let is-now : now ≡ c.row_at-it.result.row.now = ap now-with c.as_slice-2.ensures ∙ c.now.view_is in
+    let was = was-with c.cells_of.result.now in
+    let now = now-with c.cells_of-2.result.now in
+    let is-was : was ≡ c.row-one.result.row.now = ap was-with (c.cells_of.ensures ∙ sym (ap (λ (row : Row). row.cells) c.was.view_is)) ∙ c.was.view_is in
+    let is-now : now ≡ c.row_at-it.result.row.now = ap now-with (c.cells_of-2.ensures ∙ sym (ap (λ (row : Row). row.cells) c.now.view_is)) ∙ c.now.view_is in
     let one : BareRow = record { key = c.row-one.result.key; shape = was.shape; mark = was.mark; cells = bare_cells (line_texts it.old) c.row-one.result.first was.cells } in
     let other : BareRow = record { key = c.row_at-it.result.key; shape = now.shape; mark = now.mark; cells = bare_cells (line_texts it.new.now.lines) c.row_at-it.result.first now.cells } in
     c.same_cells.ensures
