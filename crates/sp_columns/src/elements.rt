@@ -3,11 +3,12 @@ ghost use Rattle.std.specs.Prelude.{◌≡◌, ◌≤◌, IfOk, OnOk};
 ghost use Rattle.spec_text.specs.Lines.{line_texts};
 ghost use Rattle.spec_script.specs.BlockParts.{BlockLies};
 ghost use Rattle.spec_pages.specs.Rows.{block_alone, blocks_beside, dual_rows, is_title, number_cell, numbered_cells, single_rows, with_number};
+ghost use Rattle.sp_columns.specs.CellLists.{cells_in};
 
 use crate::columns::{first_lead, has_rows};
 use crate::lines::block_rows;
 use crate::speakers::tell_speakers;
-use crate::{Cell, Row, join_rows, shape_rows, title_rows};
+use crate::{Cell, CellList, Row, join_rows, shape_rows, title_rows};
 use sp_blocks::{Block, plain_runs};
 use sp_text::Lines;
 use spec_pages::{NUMBER_BEFORE, NUMBER_BEHIND, Side};
@@ -23,15 +24,17 @@ fn number_cell(alloc: Global, block: &Block, column: u32) -> Result<Cell, AllocE
 }
 
 /// Puts a written number before and behind the cells of its heading's first row.
-fn number_cells(alloc: Global, block: &Block, cells: &mut Vec<Cell>) -> Result<(), AllocError>
-    ensures { OnOk result (cells.new.items ≡ numbered_cells block.now cells.old.items) }
+fn number_cells(alloc: Global, block: &Block, cells: &mut CellList) -> Result<(), AllocError>
+    ensures { OnOk result (cells_in cells.new ≡ numbered_cells block.now (cells_in cells.old)) }
 {
     if block.number.is_empty() {
         return Ok(());
     }
-    cells.reserve(2)?;
-    cells.insert(0, number_cell(alloc, block, NUMBER_BEFORE)?)?;
-    cells.push(number_cell(alloc, block, NUMBER_BEHIND)?)?;
+    let mut numbered = cells.take(alloc)?;
+    numbered.reserve_exact(2)?;
+    numbered.insert(0, number_cell(alloc, block, NUMBER_BEFORE)?)?;
+    numbered.push(number_cell(alloc, block, NUMBER_BEHIND)?)?;
+    *cells = CellList::from_vec(alloc, numbered)?;
     Ok(())
 }
 
@@ -112,7 +115,7 @@ fn blocks_beside(
     let shift = (second_first - first) as u32;
     let mut rows = block_rows(alloc, lines, first, 0, Side::Left, block)?;
     let right = block_rows(alloc, lines, second_first, shift, Side::Right, second)?;
-    join_rows(&mut rows, right)?;
+    join_rows(alloc, &mut rows, right)?;
     shape_rows(&mut rows, 1);
     Ok(rows)
 }

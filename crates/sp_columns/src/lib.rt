@@ -2,6 +2,7 @@
 //! "Elements").
 #![tactic(auto)]
 
+mod cells;
 mod columns;
 mod elements;
 mod joins;
@@ -13,6 +14,7 @@ mod shaping;
 mod speakers;
 mod values;
 
+pub use cells::CellList;
 pub use columns::width_of;
 pub use elements::{dual_rows, is_title, single_rows};
 pub use joins::join_rows;

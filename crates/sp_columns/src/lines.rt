@@ -8,7 +8,7 @@ ghost use Rattle.spec_pages.specs.Pages.{is_dialogue};
 ghost use Rattle.spec_pages.specs.Rows.{block_rows, line_context, line_row, own_lead, text_rows};
 
 use crate::columns::{column_of, row_kind, width_of};
-use crate::{Cell, Row, ends_sentence};
+use crate::{Cell, CellList, Row, ends_sentence};
 use sp_blocks::{Block, BlockLine};
 use sp_measure::{WrapRow, wrap};
 use sp_text::Lines;
@@ -89,9 +89,8 @@ fn line_row(
     let place = context.shift + line.offset;
     let kind = row_kind(context.kind, line.part);
     let sentence_end = is_dialogue(kind) && ends_sentence(context.text, row.runs.as_slice());
-    let mut cells = Vec::with_capacity(alloc, 1)?;
     let column = column_of(context.side, context.kind, line.part, row.width);
-    cells.push(Cell::new(alloc, column, place, row.runs)?)?;
+    let cell = Cell::new(alloc, column, place, row.runs)?;
     Ok(Row {
         line: place,
         row: number,
@@ -103,7 +102,7 @@ fn line_row(
             rest: 0,
             sentence_end,
         },
-        cells,
+        cells: CellList::One(cell),
     })
 }
 

@@ -4,6 +4,7 @@ ghost use Rattle.spec_pages.specs.Pages.{begins_heading};
 ghost use Rattle.sp_measure.specs.RowRuns.{row_runs};
 ghost use Rattle.sp_columns.specs.Contents.{is_fixed, is_number, runs_in};
 
+use crate::cells::CellList;
 use sp_measure::RowRuns;
 use spec_pages::{RowKind, Shape};
 use spec_script::Run;
@@ -127,15 +128,16 @@ pub struct Row {
     pub mark: u8,
     pub shape: Shape,
     /// In order of their columns.
-    pub cells: Vec<Cell>,
+    pub cells: CellList,
 }
 
 impl Model for Row {
     ghost use Rattle.spec_pages.specs.Rows.{Row as RowValue};
+    ghost use Rattle.sp_columns.specs.CellLists.{cells_in};
 
     ghost Value = { RowValue };
 
-    ghost view = { λ r. record { line = r.line; row = r.row; mark = r.mark; shape = r.shape; cells = r.cells.items } };
+    ghost view = { λ r. record { line = r.line; row = r.row; mark = r.mark; shape = r.shape; cells = cells_in r.cells } };
 }
 
 /// Whether a heading begins with this row.

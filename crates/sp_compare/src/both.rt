@@ -9,7 +9,7 @@ ghost use Rattle.sp_compare.specs.OldElements.{AreOtherRows, old_body, HasFewRow
 use crate::cells::same_cells;
 use crate::old_rows::{OldRows, OtherRows, RunPlaces, row_at, rows_of_others};
 use crate::shapes::{same_key, same_shape};
-use sp_layout::Body;
+use sp_layout::{Body, Cell, Row};
 use sp_text::{Lines, OldLines};
 use std::marker::Model;
 
@@ -39,6 +39,13 @@ impl<'a> Model for BothTexts<'a> {
     ghost invariant = { λ b. AreLaid b.old b.olds × AreLaid b.new.now.lines (keyed_elements b.news.now)
         × AreSameAround b.old b.olds.elements b.new.now.lines b.news.now.elements
         b.same_to b.old_from b.new_from b.others_from b.others_to };
+}
+
+/// The cells of a row.
+fn cells_of(row: &Row) -> &[Cell]
+    ensures { result.now ≡ row.now.cells }
+{
+    row.cells.as_slice()
 }
 
 impl<'a> BothTexts<'a> {
@@ -116,7 +123,12 @@ impl<'a> BothTexts<'a> {
             return false;
         }
         same_cells(
-            &self.old, one.first, &was.cells, self.new, it.first, &now.cells,
+            &self.old,
+            one.first,
+            cells_of(was),
+            self.new,
+            it.first,
+            cells_of(now),
         )
     }
 

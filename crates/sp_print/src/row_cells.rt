@@ -112,7 +112,7 @@ pub(crate) fn row_cells<'a>(
     RowCells {
         lines,
         first,
-        cells: &row.cells,
+        cells: row.cells.as_slice(),
         unnumbered,
     }
 }

@@ -25,6 +25,6 @@ returns c =
     let t = c.is_continued-goes_on.result in
     let row = λ (cells : List ShownCell). let r : ShownRow = record { cells = cells; star = false } in r in
     let is = repeated texts first c.args.row.now c.last_cue.result.now c.args.others.now t c.requires.cue c.last_cue.ensures (sym c.is_continued-goes_on.ensures) in
-    let own = c.deref.ensures.value ∙ ap (λ (r : Row). r.cells) c.row.view_is in
+    let own = c.as_slice.ensures ∙ ap (λ (r : Row). r.cells) c.row.view_is in
     let end = c.cue_end.ensures.cells ∙ ap (λ cs. cond t [] (fixed_cell (cells_end (map (shown_cell texts) (map (shifted_cell first) cs)) + 1) continued ∷ [])) own in
     ap₂ (λ (cs ls : List ShownCell). row (cs ++ ls)) c.row_cells.ensures end ∙ ap row (sym is)
