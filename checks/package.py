@@ -129,7 +129,13 @@ def copyright_of(package):
         if "Copyright" not in part or set(part["License"].split("\n")[0].split(" and ")) - told:
             yield f"copyright doesn't tell of {part['Files']} who has it, or under which terms"
     used = re.search(r"The program uses (.*?) of the toolchain's crates", (TOP / "README.md").read_text(), re.S)[1]
-    for crate in re.findall(r"`(\w+)`", used):
+    named = set(re.findall(r"`(\w+)`", used))
+    needs = dict(re.findall(r"^(\w+):(.*)", (TOP / "crates.txt").read_text(), re.M))
+    listed = {crate for crates in needs.values() for crate in crates.split()} - set(needs)
+    for crate in sorted(listed - named):
+        if not crate.startswith("ucd_"):
+            yield f"README.md doesn't tell of {crate}"
+    for crate in sorted(named | listed):
         if not re.search(rf"\b{crate}\b", text):
             yield f"copyright doesn't tell of {crate}"
 

@@ -11,7 +11,8 @@ use Rattle.sp_run.specs.declared.form.View.{View}
 use Rattle.sp_run.specs.declared.status.Status.{Status}
 use Rattle.sp_run.specs.declared.status.Status.TheVariants as statuses
 use Rattle.sp_run.specs.Asking.{AsksOne, AsksTwo, BesideAsks, BesideStatusAsks, CollatedAsks, CollationAsks, OpeningAsks, OriginAsks, ScriptAsks, StatusAsks, WholeAsks}
-use Rattle.sp_run.specs.Collating.{NoSheets}
+use Rattle.sp_run.specs.Collating.{sheets_limit}
+use Rattle.sp_run.specs.Fetching.{NotFetched}
 use Rattle.sp_run.specs.Forms.{OriginOf, from_source, from_file}
 use Rattle.sp_run.specs.Opening.{HadNone, HasScript, NotBeside}
 use Rattle.sp_run.specs.Records.{records_name}
@@ -236,7 +237,7 @@ collated-err one other old new status (Ok value) is it = absurd is
 collated-err one other old new status (Err had) is it = subst (CollationAsks one other old new) (sym is) it
 
 -- The old file wasn't had.
-pub first-asks : (one other : List ℕ) (old new : ShelfState) (status : Status) → NoSheets old new one status → AsksOne one old new → CollationAsks one other old new status
+pub first-asks : (one other : List ℕ) (old new : ShelfState) (status : Status) → NotFetched sheets_limit old new one status → AsksOne one old new → CollationAsks one other old new status
 first-asks one other old new statuses.Done none asks = absurd none
 first-asks one other old new statuses.Usage none asks = absurd none
 first-asks one other old new (statuses.NoFile given) none asks = inl asks

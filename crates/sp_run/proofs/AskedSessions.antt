@@ -82,25 +82,25 @@ asked-more name old before after same tries has = record {
       (subst (λ (n : List ℕ). Asks before.shelf.calls after.shelf.calls (calls_tried n (records_name n) tries.tried)) has.named tries.asks));
 }
 
-session-asked : (way : Way) (streams others : Streams) (begun after : AtShelf way.It) (end : SessionEnd) → SessionEnds way.answers way.stops streams others begun after end
-    → HasAsked (way.desk begun.it).name begun.shelf (desk_seen way after)
+session-asked : (way : Way) (streams others : Streams) (begun after : AtShelf way.how.It) (end : SessionEnd) → SessionEnds way.how.answers way.how.stops streams others begun after end
+    → HasAsked (way.how.desk begun.it).name begun.shelf (desk_seen way after)
 session-asked way streams others begun after end ends =
-    let name = (way.desk begun.it).name in
+    let name = (way.how.desk begun.it).name in
     let start : HasAsked name begun.shelf (desk_seen way begun) = record { named = refl; saves = []; asks = asks-none begun.shelf.calls } in
-    ends-keep way.answers way.stops (λ (it : AtShelf way.It). HasAsked name begun.shelf (desk_seen way it))
+    ends-keep way.how.answers way.how.stops (λ (it : AtShelf way.how.It). HasAsked name begun.shelf (desk_seen way it))
     (λ one line other reply answers.
     let it = way.touches one line other reply answers in
-    asked-more name begun.shelf (desk_seen way one) (desk_seen way other) it.named (touches-tries (way.saves line) (desk_seen way one) (desk_seen way other) reply it.stored))
+    asked-more name begun.shelf (desk_seen way one) (desk_seen way other) it.named (touches-tries (way.how.saves line) (desk_seen way one) (desk_seen way other) reply it.stored))
     (λ one line other stops.
     let it = way.halts one line other stops in
-    asked-more name begun.shelf (desk_seen way one) (desk_seen way other) it.named (leaves-tries (way.saves line) (desk_seen way one) (desk_seen way other) it.leaves))
+    asked-more name begun.shelf (desk_seen way one) (desk_seen way other) it.named (leaves-tries (way.how.saves line) (desk_seen way one) (desk_seen way other) it.leaves))
     streams others begun after end ends start
 
 -- ---- a session behind its opening
 
 -- The session of a script that was opened.
-pub opened-asks : (way : Way) (name : List ℕ) (old : ShelfState) (streams others : Streams) (begun after : AtShelf way.It) (end : SessionEnd) → (way.desk begun.it).name ≡ name
-    → SessionEnds way.answers way.stops streams others begun after end → AsksTwo name (records_name name) old begun.shelf → SessionAsks name old after.shelf
+pub opened-asks : (way : Way) (name : List ℕ) (old : ShelfState) (streams others : Streams) (begun after : AtShelf way.how.It) (end : SessionEnd) → (way.how.desk begun.it).name ≡ name
+    → SessionEnds way.how.answers way.how.stops streams others begun after end → AsksTwo name (records_name name) old begun.shelf → SessionAsks name old after.shelf
 opened-asks way name old streams others begun after end named ends opened =
     let has = session-asked way streams others begun after end ends in
     record {

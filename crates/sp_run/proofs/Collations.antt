@@ -16,7 +16,8 @@ use Rattle.sp_run.specs.declared.status.Status.{Status}
 use Rattle.sp_run.specs.declared.status.Status.TheVariants as statuses
 use Rattle.sp_run.specs.Statuses.{status_of_sheets}
 use Rattle.sp_run.specs.Opening.{SameShelf}
-use Rattle.sp_run.specs.Collating.{sheets_limit, Fate, lacks, passes_limit, spoils, gives, fate_by, second_fate, fate_of, Comes, FetchedSheets, NoSheets, NotCollated, TookNothing, CollateEnds, AnswersFate}
+use Rattle.sp_run.specs.Fetching.{FetchedFile, NotFetched}
+use Rattle.sp_run.specs.Collating.{sheets_limit, Fate, lacks, passes_limit, spoils, gives, fate_by, second_fate, fate_of, Comes, NotCollated, TookNothing, CollateEnds, AnswersFate}
 use Rattle.sp_run.proofs.Held.{not-risen}
 
 -- What stands under a name, as far as it is known.
@@ -59,7 +60,7 @@ within bytes one other low = ap (λ b. cond b one other) (le-ltb sheets_limit (l
 
 module _ (old new : List ℕ) where
   -- The first fetch failed.
-  pub first-refused : (shelf after : ShelfState) (status : Status) → NoSheets shelf after old status → NotCollated old new shelf after status
+  pub first-refused : (shelf after : ShelfState) (status : Status) → NotFetched sheets_limit shelf after old status → NotCollated old new shelf after status
   first-refused shelf after (statuses.NoFile given) (is, finds) = record {
     first = None;
     second = held_in shelf.files new;
@@ -82,7 +83,7 @@ module _ (old new : List ℕ) where
   first-refused shelf after (statuses.BadText (faults.LineFull place)) it = absurd it
   first-refused shelf after (statuses.BadText faults.NoMemory) it = absurd it
   first-refused shelf after statuses.ShelfFault it = it
-  first-refused shelf after statuses.NoMemory it = it
+  first-refused shelf after statuses.NoMemory it = record { files = it.0; faults = it.1 }
   first-refused shelf after statuses.Done it = absurd it
   first-refused shelf after statuses.Usage it = absurd it
   first-refused shelf after statuses.ReadFault it = absurd it
@@ -97,11 +98,11 @@ module _ (old new : List ℕ) where
   both-same : (shelf between after : ShelfState) → SameShelf shelf between → SameShelf between after → SameShelf shelf after
   both-same shelf between after one other = record { files = other.files ∙ one.files; faults = other.faults ∙ one.faults }
 
-  first-same : (shelf between : ShelfState) (bytes : List ℕ) → FetchedSheets shelf between old bytes → SameShelf shelf between
+  first-same : (shelf between : ShelfState) (bytes : List ℕ) → FetchedFile sheets_limit shelf between old bytes → SameShelf shelf between
   first-same shelf between bytes it = record { files = (it.finds).same; faults = (it.finds).kept }
 
   -- The second fetch failed.
-  pub second-refused : (shelf between after : ShelfState) (bytes : List ℕ) (status : Status) → FetchedSheets shelf between old bytes → NoSheets between after new status → NotCollated old new shelf after status
+  pub second-refused : (shelf between after : ShelfState) (bytes : List ℕ) (status : Status) → FetchedFile sheets_limit shelf between old bytes → NotFetched sheets_limit between after new status → NotCollated old new shelf after status
   second-refused shelf between after bytes (statuses.NoFile given) first (is, finds) = record {
     first = Some bytes;
     second = None;
@@ -125,7 +126,7 @@ module _ (old new : List ℕ) where
   second-refused shelf between after bytes (statuses.BadText faults.NoMemory) first it = absurd it
   second-refused shelf between after bytes statuses.ShelfFault first (rose, same) =
       (subst (λ (n : ℕ). Rose n after.faults) (first.finds).kept rose, same ∙ (first.finds).same)
-  second-refused shelf between after bytes statuses.NoMemory first it = both-same shelf between after (first-same shelf between bytes first) it
+  second-refused shelf between after bytes statuses.NoMemory first it = both-same shelf between after (first-same shelf between bytes first) (record { files = it.0; faults = it.1 })
   second-refused shelf between after bytes statuses.Done first it = absurd it
   second-refused shelf between after bytes statuses.Usage first it = absurd it
   second-refused shelf between after bytes statuses.ReadFault first it = absurd it
@@ -137,7 +138,7 @@ module _ (old new : List ℕ) where
   second-refused shelf between after bytes statuses.NotLocked first it = absurd it
 
   -- Both were fetched, and these views of them were collated.
-  pub both-come : (shelf between after : ShelfState) (one other seen beside : List ℕ) (fate : Collating) → FetchedSheets shelf between old one → FetchedSheets between after new other
+  pub both-come : (shelf between after : ShelfState) (one other seen beside : List ℕ) (fate : Collating) → FetchedFile sheets_limit shelf between old one → FetchedFile sheets_limit between after new other
       → seen ≡ one → beside ≡ other → collating seen beside ≡ fate → Comes old new shelf after (fate_by fate)
   both-come shelf between after one other seen beside fate first second sees views is = record {
     first = Some one;
@@ -149,7 +150,7 @@ module _ (old new : List ℕ) where
     same = both-same shelf between after (first-same shelf between one first) (record { files = (second.finds).same; faults = (second.finds).kept });
   }
 
-  pub collation-refused : (shelf between after : ShelfState) (one other seen beside : List ℕ) (fault : CollateFault) → FetchedSheets shelf between old one → FetchedSheets between after new other
+  pub collation-refused : (shelf between after : ShelfState) (one other seen beside : List ℕ) (fault : CollateFault) → FetchedFile sheets_limit shelf between old one → FetchedFile sheets_limit between after new other
       → seen ≡ one → beside ≡ other → IsNotCollated (collating seen beside) fault → NotCollated old new shelf after (status_of_sheets fault)
   collation-refused shelf between after one other seen beside (sheets_faults.BadSheets file sheet) first second sees views is =
       both-come shelf between after one other seen beside (bad_sheets file sheet) first second sees views is

@@ -19,7 +19,7 @@ use Rattle.sp_run.specs.DeskLines.{AnswersLine, StopsAtLine, desk_at}
 use Rattle.sp_run.specs.Records.{records_name, RefusesRecords}
 use Rattle.sp_run.specs.Opening.{HasState}
 use Rattle.sp_run.specs.Unopened.{Outside}
-use Rattle.sp_run.specs.DeskEnding.{HeldSession, Opens, AnswersDesk, CommandsEnd}
+use Rattle.sp_run.specs.DeskEnding.{Answerer, Held, Opens, AnswersDesk, CommandsEnd, begun_at}
 use Rattle.sp_run.specs.Statuses.{status_of_end}
 use Rattle.sp_run.proofs.Held.{held, held-both, held-none, held-one, not-risen}
 
@@ -38,11 +38,12 @@ pub session-answers : (name : List ℕ) (old : Outside) (end : SessionEnd) (stat
 session-answers name old end state has input settles files is =
     held-both name has.script has.records old.shelf.files files Opens (λ o r. AnswersDesk name o r input (status_of_end end)) (settles-input name input end settles) has.has has.beside is (state, has.opens)
 
-pub desk-settles : (name : List ℕ) (old new : Outside) (from to : Counts) → FailedNothing (streams old.source old.sink) (streams new.source new.sink) → (files : Files) → old.shelf.files ≡ Some files → (input : List ℕ)
-    → old.source.unread ≡ Some input → (end : SessionEnd) → HeldSession name old new from to end → AnswersDesk name (files.held name) (files.held (records_name name)) input (status_of_end end)
-desk-settles name old new from to calm files is input told end held =
+-- A session ends as the command lines ask for, by whatever answers them.
+pub held-settles : (how : Answerer) (name : List ℕ) (old new : Outside) (from to : Counts) → FailedNothing (streams old.source old.sink) (streams new.source new.sink) → (files : Files) → old.shelf.files ≡ Some files
+    → (input : List ℕ) → old.source.unread ≡ Some input → (end : SessionEnd) → Held how name old new from to end → AnswersDesk name (files.held name) (files.held (records_name name)) input (status_of_end end)
+held-settles how name old new from to calm files is input told end held =
     session-answers name old end held.state held.has input
-    (ends-settle AnswersLine StopsAtLine (streams old.source old.sink) (streams new.source new.sink) (desk_at name (opened_memory held.state) (telling old.shelf held.calls) held.opened) held.after end held.ends calm input told) files is
+    (ends-settle how.answers how.stops (streams old.source old.sink) (streams new.source new.sink) (begun_at how name held.state (telling old.shelf held.calls) held.opened) held.after end held.ends calm input told) files is
 
 long-found : (name : List ℕ) (found records : Option (List ℕ)) → IsSomeAnd found (λ script. printing_of script ≡ too_long) → (input : List ℕ) → AnswersDesk name found records input (statuses.BadText faults.TextFull)
 long-found name None records long input = absurd long

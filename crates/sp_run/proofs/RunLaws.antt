@@ -26,10 +26,10 @@ use Rattle.sp_run.specs.Saving.{Changes, KeepsAllBut}
 use Rattle.sp_run.specs.Unopened.{Outside, ReadFailed, FetchFailed, ReadsUpTo}
 use Rattle.sp_run.specs.Showing.{Shown, PartShown, Answers, AnswersFile}
 use Rattle.sp_run.specs.ShowCounted.{ShowCounts}
-use Rattle.sp_run.specs.DeskEnding.{AnsweredAll, AnsweredCalmly, AnswersDesk, HeldSession}
+use Rattle.sp_run.specs.DeskEnding.{AnsweredAll, AnsweredCalmly, AnswersDesk, HeldSession, the_desk}
 use Rattle.sp_run.specs.DeskLines.{desk_at, desk_itself, memories_of}
 use Rattle.sp_run.specs.RoomLines.{AnswersRoomLine, desk_in, room_at}
-use Rattle.sp_run.specs.RoomEnding.{HeldRoom, RoomAnsweredAll, RoomAnsweredCalmly}
+use Rattle.sp_run.specs.RoomEnding.{HeldRoom, RoomAnsweredAll, RoomAnsweredCalmly, the_room}
 use Rattle.sp_run.specs.Answering.{AnswersWords, asked_in}
 use Rattle.sp_run.specs.Asking.{AsksOne, CollationAsks, CommandsAsk, SaysMissing, StatusAsks, telling}
 use Rattle.sp_run.specs.Collating.{AnswersFate, Collated, fate_of}
@@ -41,11 +41,12 @@ use Rattle.sp_run.proofs.Asked.{missing-alone, no-script}
 use Rattle.sp_run.proofs.Missing.{commands-missing, show-missing}
 use Rattle.sp_run.proofs.Held.{not-risen}
 use Rattle.sp_run.proofs.ShownStatus.{answers-ends, answers-file}
-use Rattle.sp_run.proofs.DeskAnswers.{commands-answer, desk-settles}
-use Rattle.sp_run.proofs.DeskSessions.{answered-calmly, held-answered}
+use Rattle.sp_run.proofs.DeskAnswers.{commands-answer, held-settles}
+use Rattle.sp_run.proofs.DeskSessions.{answered-calmly, by_desk}
+use Rattle.sp_run.proofs.HeldSessions.{held-answered}
 use Rattle.sp_run.proofs.Reached.{desk-leads, room-leads, runs-few}
 use Rattle.sp_run.proofs.Reopened.{saved-reopened}
-use Rattle.sp_run.proofs.RoomSessions.{room-answered, room-calmly, room-settles}
+use Rattle.sp_run.proofs.RoomSessions.{by_room, room-calmly}
 use Rattle.sp_run.proofs.Collations.{answers-fate}
 use Rattle.sp_run.proofs.SampleRooms.{asked-few}
 
@@ -170,7 +171,7 @@ module _ {I O F S : Type 0} {words : List (String Global)} {old new : World I O 
   -- It answered all its lines.
   pub run-answered : (name : List ℕ) → asked_in words ≡ Some (desk name) → status ≡ statuses.Done
       → AnsweredAll name old.told new.told old.counts new.counts
-  run-answered name is done = held-answered name old.told new.told old.counts new.counts (ended-as (desk name) statuses.Done is done)
+  run-answered name is done = held-answered by_desk name old.told new.told old.counts new.counts (ended-as (desk name) statuses.Done is done)
 
   -- It opened the state that an earlier session saved, where that stands on the shelf.
   pub run-reopened : (name : List ℕ) (saved : State) (is : asked_in words ≡ Some (desk name)) (done : status ≡ statuses.Done) → IsWhole saved
@@ -223,14 +224,14 @@ module _ {I O F S : Type 0} {words : List (String Global)} {old new : World I O 
   run-answers-desk name is calm fetches low files has input told =
       commands-answer (HeldSession name old.told new.told old.counts new.counts) name old.told new.told old.counts new.counts status
       (run-ends (desk name) is) fetches low files has input
-      (desk-settles name old.told new.told old.counts new.counts calm files has input told)
+      (held-settles the_desk name old.told new.told old.counts new.counts calm files has input told)
 
   -- ---- a room
 
   -- It answers by the rules of rooms, and each edit that it takes takes away or changes just lines that its seat saw.
   pub run-seats-answered : (name : List ℕ) → asked_in words ≡ Some (room name) → status ≡ statuses.Done
       → RoomAnsweredAll name old.told new.told old.counts new.counts
-  run-seats-answered name is done = room-answered name old.told new.told old.counts new.counts (ended-as (room name) statuses.Done is done)
+  run-seats-answered name is done = held-answered by_room name old.told new.told old.counts new.counts (ended-as (room name) statuses.Done is done)
 
   -- It opened the state that an earlier session saved, where that stands on the shelf.
   pub run-seats-reopened : (name : List ℕ) (saved : State) (is : asked_in words ≡ Some (room name)) (done : status ≡ statuses.Done) → IsWhole saved
@@ -283,7 +284,7 @@ module _ {I O F S : Type 0} {words : List (String Global)} {old new : World I O 
   run-answers-room name is calm fetches low files has input told =
       commands-answer (HeldRoom name old.told new.told old.counts new.counts) name old.told new.told old.counts new.counts status
       (run-ends (room name) is) fetches low files has input
-      (room-settles name old.told new.told old.counts new.counts calm files has input told)
+      (held-settles the_room name old.told new.told old.counts new.counts calm files has input told)
 
   -- ---- a sample
 

@@ -43,32 +43,32 @@ stays false before after bytes none (inr not) = absurd (let asks = not.saves in 
 stays true before after bytes none it = absurd (let bad : ⊥ = cc in bad)
 
 -- Lines that ask for no save leave the shelf as it was.
-unsaved-stay : (way : Way) (before : AtShelf way.It) (lines : List (List ℕ)) (steps : List (Answered (AtShelf way.It))) → Runs way.answers before lines steps
-    → ((m : ℕ) (line : List ℕ) → slice_get lines m ≡ Some line → way.saves line ≡ false) → (left_by before steps).shelf ≡ before.shelf
+unsaved-stay : (way : Way) (before : AtShelf way.how.It) (lines : List (List ℕ)) (steps : List (Answered (AtShelf way.how.It))) → Runs way.how.answers before lines steps
+    → ((m : ℕ) (line : List ℕ) → slice_get lines m ≡ Some line → way.how.saves line ≡ false) → (left_by before steps).shelf ≡ before.shelf
 unsaved-stay way before [] [] runs none = refl
 unsaved-stay way before [] (step ∷ steps) runs none = absurd runs
 unsaved-stay way before (line ∷ lines) [] runs none = absurd runs
 unsaved-stay way before (line ∷ lines) (step ∷ steps) runs none =
     unsaved-stay way step.after lines steps runs.1 (λ m later is. none (suc m) later is)
-    ∙ stays (way.saves line) (desk_seen way before) (desk_seen way step.after) step.reply (none 0 line refl) (way.touches before line step.after step.reply runs.0).stored
+    ∙ stays (way.how.saves line) (desk_seen way before) (desk_seen way step.after) step.reply (none 0 line refl) (way.touches before line step.after step.reply runs.0).stored
 
 same-step : {R : Type 0} (one other : Answered R) → Some one ≡ Some other → one ≡ other
 same-step one other same = let is : one ≡ other = cc in is
 
 -- So they leave it as the last save left it.
-saved-stay : (way : Way) (before : AtShelf way.It) (lines : List (List ℕ)) (steps : List (Answered (AtShelf way.It))) → Runs way.answers before lines steps
-    → (k : ℕ) (step : Answered (AtShelf way.It)) → slice_get steps k ≡ Some step
-    → ((m : ℕ) (line : List ℕ) → k < m → slice_get lines m ≡ Some line → way.saves line ≡ false) → (left_by before steps).shelf ≡ step.after.shelf
+saved-stay : (way : Way) (before : AtShelf way.how.It) (lines : List (List ℕ)) (steps : List (Answered (AtShelf way.how.It))) → Runs way.how.answers before lines steps
+    → (k : ℕ) (step : Answered (AtShelf way.how.It)) → slice_get steps k ≡ Some step
+    → ((m : ℕ) (line : List ℕ) → k < m → slice_get lines m ≡ Some line → way.how.saves line ≡ false) → (left_by before steps).shelf ≡ step.after.shelf
 saved-stay way before [] [] runs k step there none = absurd (let bad : ⊥ = cc in bad)
 saved-stay way before [] (one ∷ steps) runs k step there none = absurd runs
 saved-stay way before (line ∷ lines) [] runs k step there none = absurd runs
 saved-stay way before (line ∷ lines) (one ∷ steps) runs zero step there none =
-    unsaved-stay way one.after lines steps runs.1 (λ m later is. none (suc m) later (omega arith) is) ∙ ap (λ (it : Answered (AtShelf way.It)). it.after.shelf) (same-step one step there)
+    unsaved-stay way one.after lines steps runs.1 (λ m later is. none (suc m) later (omega arith) is) ∙ ap (λ (it : Answered (AtShelf way.how.It)). it.after.shelf) (same-step one step there)
 saved-stay way before (line ∷ lines) (one ∷ steps) runs (suc k) step there none =
     saved-stay way one.after lines steps runs.1 k step there (λ m later less is. none (suc m) later (omega (arith, less)) is)
 
-keeps-name : (way : Way) (before : AtShelf way.It) (lines : List (List ℕ)) (steps : List (Answered (AtShelf way.It))) → Runs way.answers before lines steps
-    → (way.desk (left_by before steps).it).name ≡ (way.desk before.it).name
+keeps-name : (way : Way) (before : AtShelf way.how.It) (lines : List (List ℕ)) (steps : List (Answered (AtShelf way.how.It))) → Runs way.how.answers before lines steps
+    → (way.how.desk (left_by before steps).it).name ≡ (way.how.desk before.it).name
 keeps-name way before [] [] runs = refl
 keeps-name way before [] (step ∷ steps) runs = absurd runs
 keeps-name way before (line ∷ lines) [] runs = absurd runs
@@ -76,56 +76,56 @@ keeps-name way before (line ∷ lines) (step ∷ steps) runs =
     keeps-name way step.after lines steps runs.1 ∙ (way.touches before line step.after step.reply runs.0).named
 
 -- The shelf that a session leaves is that behind its last line, or want of memory ended it in a save.
-ends-left : (way : Way) (old new : Streams) (before after : AtShelf way.It) (course : Course (AtShelf way.It)) (end : SessionEnd) → EndsAs way.stops old new before after course end
+ends-left : (way : Way) (old new : Streams) (before after : AtShelf way.how.It) (course : Course (AtShelf way.how.It)) (end : SessionEnd) → EndsAs way.how.stops old new before after course end
     → (after.shelf ≡ (left_by before course.steps).shelf)
-    ⊎ EndsInSave (way.desk (left_by before course.steps).it).name (way.desk (left_by before course.steps).it).memory.state (left_by before course.steps).shelf after.shelf end
-ends-left way old new before after course endings.Done ends = inl (ap (λ (it : AtShelf way.It). it.shelf) ends.replied.left)
-ends-left way old new before after course endings.ReadFault ends = inl (ap (λ (it : AtShelf way.It). it.shelf) ends.replied.left)
+    ⊎ EndsInSave (way.how.desk (left_by before course.steps).it).name (way.how.desk (left_by before course.steps).it).memory.state (left_by before course.steps).shelf after.shelf end
+ends-left way old new before after course endings.Done ends = inl (ap (λ (it : AtShelf way.how.It). it.shelf) ends.replied.left)
+ends-left way old new before after course endings.ReadFault ends = inl (ap (λ (it : AtShelf way.how.It). it.shelf) ends.replied.left)
 ends-left way old new before after course endings.WriteFault ends =
-    inl (ap (λ (it : AtShelf way.It). it.shelf) (ends.left ∙ sym (left_by-push before ends.done ends.last) ∙ ap (left_by before) (sym ends.split)))
+    inl (ap (λ (it : AtShelf way.how.It). it.shelf) (ends.left ∙ sym (left_by-push before ends.done ends.last) ∙ ap (left_by before) (sym ends.split)))
 ends-left way old new before after course endings.NoMemory ends = by ends.ran_out
   where
-    last : AtShelf way.It
+    last : AtShelf way.how.It
     last = left_by before course.steps
 
     halted : (asks : Bool) → Leaves asks (desk_seen way last) (desk_seen way after)
-        → (after.shelf ≡ last.shelf) ⊎ EndsInSave (way.desk last.it).name (way.desk last.it).memory.state last.shelf after.shelf endings.NoMemory
+        → (after.shelf ≡ last.shelf) ⊎ EndsInSave (way.how.desk last.it).name (way.how.desk last.it).memory.state last.shelf after.shelf endings.NoMemory
     halted true leaves = inr (record { ends = refl; left = leaves })
     halted false leaves = inl leaves
 
-    by : RanOut way.stops new.source.unread before after course
-        → (after.shelf ≡ last.shelf) ⊎ EndsInSave (way.desk last.it).name (way.desk last.it).memory.state last.shelf after.shelf endings.NoMemory
-    by (inl left) = inl (ap (λ (it : AtShelf way.It). it.shelf) left)
-    by (inr (line, first, stops)) = halted (way.saves line) (way.halts last line after stops).leaves
-ends-left way old new before after course (endings.CommandLong number) ends = inl (ap (λ (it : AtShelf way.It). it.shelf) ends.replied.left)
-ends-left way old new before after course endings.InputFull ends = inl (ap (λ (it : AtShelf way.It). it.shelf) ends.replied.left)
+    by : RanOut way.how.stops new.source.unread before after course
+        → (after.shelf ≡ last.shelf) ⊎ EndsInSave (way.how.desk last.it).name (way.how.desk last.it).memory.state last.shelf after.shelf endings.NoMemory
+    by (inl left) = inl (ap (λ (it : AtShelf way.how.It). it.shelf) left)
+    by (inr (line, first, stops)) = halted (way.how.saves line) (way.halts last line after stops).leaves
+ends-left way old new before after course (endings.CommandLong number) ends = inl (ap (λ (it : AtShelf way.how.It). it.shelf) ends.replied.left)
+ends-left way old new before after course endings.InputFull ends = inl (ap (λ (it : AtShelf way.how.It). it.shelf) ends.replied.left)
 
 -- What the last save of a session stored stands when it ended, or want of memory ended it in a further save.
-session-saved : (way : Way) (old new : Streams) (begun after : AtShelf way.It) (left : ShelfState) (end : SessionEnd) (ends : SessionEnds way.answers way.stops old new begun after end) → left ≡ after.shelf
-    → (k : ℕ) (step : Answered (AtShelf way.It)) (state : State) → slice_get ends.course.steps k ≡ Some step → HasSaved step.after.shelf (way.desk begun.it).name state
-    → ((m : ℕ) (line : List ℕ) → k < m → slice_get ends.course.lines m ≡ Some line → way.saves line ≡ false)
-    → HasSaved left (way.desk begun.it).name state ⊎ ((last : State) × EndsInSave (way.desk begun.it).name last step.after.shelf left end)
+session-saved : (way : Way) (old new : Streams) (begun after : AtShelf way.how.It) (left : ShelfState) (end : SessionEnd) (ends : SessionEnds way.how.answers way.how.stops old new begun after end) → left ≡ after.shelf
+    → (k : ℕ) (step : Answered (AtShelf way.how.It)) (state : State) → slice_get ends.course.steps k ≡ Some step → HasSaved step.after.shelf (way.how.desk begun.it).name state
+    → ((m : ℕ) (line : List ℕ) → k < m → slice_get ends.course.lines m ≡ Some line → way.how.saves line ≡ false)
+    → HasSaved left (way.how.desk begun.it).name state ⊎ ((last : State) × EndsInSave (way.how.desk begun.it).name last step.after.shelf left end)
 session-saved way old new begun after left end ends same k step state there saved none = by (ends-left way old new begun after ends.course end ends.ends)
   where
     name : List ℕ
-    name = (way.desk begun.it).name
+    name = (way.how.desk begun.it).name
 
-    last : AtShelf way.It
+    last : AtShelf way.how.It
     last = left_by begun ends.course.steps
 
     behind : last.shelf ≡ step.after.shelf
     behind = saved-stay way begun ends.course.lines ends.course.steps ends.went.runs k step there none
 
-    by : (after.shelf ≡ last.shelf) ⊎ EndsInSave (way.desk last.it).name (way.desk last.it).memory.state last.shelf after.shelf end
+    by : (after.shelf ≡ last.shelf) ⊎ EndsInSave (way.how.desk last.it).name (way.how.desk last.it).memory.state last.shelf after.shelf end
         → HasSaved left name state ⊎ ((other : State) × EndsInSave name other step.after.shelf left end)
     by (inl stayed) = inl (subst (λ (shelf : ShelfState). HasSaved shelf name state) (sym (same ∙ stayed ∙ behind)) saved)
     by (inr halted) =
-        let named : EndsInSave name (way.desk last.it).memory.state last.shelf after.shelf end =
-        subst (λ (n : List ℕ). EndsInSave n (way.desk last.it).memory.state last.shelf after.shelf end) (keeps-name way begun ends.course.lines ends.course.steps ends.went.runs) halted in
+        let named : EndsInSave name (way.how.desk last.it).memory.state last.shelf after.shelf end =
+        subst (λ (n : List ℕ). EndsInSave n (way.how.desk last.it).memory.state last.shelf after.shelf end) (keeps-name way begun ends.course.lines ends.course.steps ends.went.runs) halted in
         inr (
-          (way.desk last.it).memory.state,
-          subst (λ (shelf : ShelfState). EndsInSave name (way.desk last.it).memory.state step.after.shelf shelf end) (sym same)
-              (subst (λ (shelf : ShelfState). EndsInSave name (way.desk last.it).memory.state shelf after.shelf end) behind named),
+          (way.how.desk last.it).memory.state,
+          subst (λ (shelf : ShelfState). EndsInSave name (way.how.desk last.it).memory.state step.after.shelf shelf end) (sym same)
+              (subst (λ (shelf : ShelfState). EndsInSave name (way.how.desk last.it).memory.state shelf after.shelf end) behind named),
         )
 
 -- ---- a save of a desk and of a room

@@ -5,22 +5,23 @@ use Rattle.std.specs.Str.{bytes_eq}
 use Rattle.std.proofs.lemmas.Slice.Eq.{bytes_eq-Decides}
 use Rattle.json.proofs.OnLiterals.{json_on_literals}
 use Rattle.serde_json.proofs.OnLiterals.{serde_json_on_literals}
-use Rattle.spec_session.specs.Runs.{Answered, AtShelf, at_shelf, Runs, left_by}
+use Rattle.spec_session.specs.Runs.{Answered, AtShelf, Counts, at_shelf, Runs, left_by}
 use Rattle.spec_session.specs.Sessions.{Course, EndsAs, SessionEnds, Streams}
 use Rattle.spec_session.specs.declared.SessionEnd.{SessionEnd}
 use Rattle.spec_session.proofs.KeepLaws.{ends-keep, ends_as-keep}
 use Rattle.spec_wire.specs.Replies as replies
 use Rattle.spec_wire.specs.Replies.{refused, reply_line}
-use Rattle.spec_machine.specs.Machine.{Memory}
+use Rattle.spec_machine.specs.Machine.{Memory, opened_memory}
 use Rattle.spec_machine.specs.KeptMemories.{IsWholeMemory}
 use Rattle.spec_locked_pages.specs.Chains.{AreLinked}
 use Rattle.spec_state.specs.State.{State}
+use Rattle.spec_state.specs.Keeping.{IsWhole}
 use Rattle.sp_kit.specs.Files.{Files, ShelfState, HasOldOrNew}
 use Rattle.sp_run.specs.Records.{records_name}
 use Rattle.sp_run.specs.Saving.{Changes, KeepsAllBut, KeepsOrPuts, LeftFirst, PutBoth, StoreFailed, TwoFiles, files_of}
 use Rattle.sp_run.specs.DeskLines.{NamedDesk, Stores, Leaves, memories_of, shelf_behind, unsaved_count}
 use Rattle.sp_run.specs.Promises.{ArePromised, Follows, KeepsPromises}
-use Rattle.sp_run.specs.DeskEnding.{CountsUnsaved, HasOldOrOne, IsAmong, KeepsOrSaves, KeepsSaved}
+use Rattle.sp_run.specs.DeskEnding.{Answerer, begun_at, CountsUnsaved, HasOldOrOne, IsAmong, KeepsOrSaves, KeepsSaved}
 use Rattle.sp_run.proofs.PromiseLaws.{follows-itself, follows-on, follows-promised}
 use Rattle.sp_run.proofs.Stores.{changes-both, changes-map, changes-none, changes-on, failed-others, keeps-itself, left-others, names-differ, put-others}
 
@@ -50,20 +51,21 @@ pub record Halts (asks : Bool) (before after : AtShelf NamedDesk) : Type 0 where
   pub memory : after.it.memory ≡ before.it.memory
   pub leaves : Leaves asks before after
 
--- A way to answer lines: the desk that it has, which lines it takes as saves, how it answers, and how want of memory leaves it.
+-- A way to answer lines: what an answer does to the desk and the shelf, what want of memory does to them, the desk that it begins with,
+-- and that what is said of its seats holds.
 pub record Way : Type 1 where
-  pub It : Type 0
-  pub desk : It → NamedDesk
-  pub saves : List ℕ → Bool
-  pub answers : AtShelf It → List ℕ → AtShelf It → List ℕ → Type 0
-  pub stops : AtShelf It → List ℕ → AtShelf It → Type 0
-  pub touches : (before : AtShelf It) (line : List ℕ) (after : AtShelf It) (bytes : List ℕ) → answers before line after bytes
-      → Touches (saves line) (at_shelf (desk before.it) before.shelf before.counts) (at_shelf (desk after.it) after.shelf after.counts) bytes
-  pub halts : (before : AtShelf It) (line : List ℕ) (after : AtShelf It) → stops before line after → Halts (saves line) (at_shelf (desk before.it) before.shelf before.counts) (at_shelf (desk after.it) after.shelf after.counts)
+  pub how : Answerer
+  pub touches : (before : AtShelf how.It) (line : List ℕ) (after : AtShelf how.It) (bytes : List ℕ) → how.answers before line after bytes
+      → Touches (how.saves line) (at_shelf (how.desk before.it) before.shelf before.counts) (at_shelf (how.desk after.it) after.shelf after.counts) bytes
+  pub halts : (before : AtShelf how.It) (line : List ℕ) (after : AtShelf how.It) → how.stops before line after
+      → Halts (how.saves line) (at_shelf (how.desk before.it) before.shelf before.counts) (at_shelf (how.desk after.it) after.shelf after.counts)
+  pub begins : (name : List ℕ) (memory : Memory) → how.desk (how.begins name memory) ≡ record { name = name; memory = memory }
+  pub sees : (name : List ℕ) (state : State) (shelf : ShelfState) (counts : Counts) (lines : List (List ℕ)) (steps : List (Answered (AtShelf how.It))) → IsWhole state
+      → Runs how.answers (begun_at how name state shelf counts) lines steps → how.seen (how.begins name (opened_memory state)) lines steps
 
 -- The desk of what answers, with the shelf.
-abbrev pub desk_seen : (way : Way) → AtShelf way.It → AtShelf NamedDesk
-desk_seen way at = at_shelf (way.desk at.it) at.shelf at.counts
+abbrev pub desk_seen : (way : Way) → AtShelf way.how.It → AtShelf NamedDesk
+desk_seen way at = at_shelf (way.how.desk at.it) at.shelf at.counts
 
 -- ---- how many stores failed
 
@@ -76,13 +78,13 @@ touches-later asks before after bytes (inl done) = by asks done.stores
     by false stores = let same : after.shelf.faults ≡ before.shelf.faults = ap (λ (it : ShelfState). it.faults) stores in omega (arith, same)
 touches-later asks before after bytes (inr not) = not.failed.later
 
-runs-later : (way : Way) (before : AtShelf way.It) (lines : List (List ℕ)) (steps : List (Answered (AtShelf way.It))) → Runs way.answers before lines steps
+runs-later : (way : Way) (before : AtShelf way.how.It) (lines : List (List ℕ)) (steps : List (Answered (AtShelf way.how.It))) → Runs way.how.answers before lines steps
     → before.shelf.faults ≤ (left_by before steps).shelf.faults
 runs-later way before [] [] runs = omega arith
 runs-later way before [] (step ∷ steps) runs = absurd runs
 runs-later way before (line ∷ lines) [] runs = absurd runs
 runs-later way before (line ∷ lines) (step ∷ steps) runs =
-    let first = touches-later (way.saves line) (desk_seen way before) (desk_seen way step.after) step.reply (way.touches before line step.after step.reply runs.0).stored in
+    let first = touches-later (way.how.saves line) (desk_seen way before) (desk_seen way step.after) step.reply (way.touches before line step.after step.reply runs.0).stored in
     let later = runs-later way step.after lines steps runs.1 in omega (arith, first, later)
 
 -- What is left at the end of a session has no lower count than the last answer left.
@@ -90,12 +92,12 @@ stops-later : (before : AtShelf NamedDesk) (asks : Bool) (after : AtShelf NamedD
 stops-later before true after leaves = let same = leaves.kept in omega (arith, same)
 stops-later before false after leaves = let same : after.shelf.faults ≡ before.shelf.faults = ap (λ (it : ShelfState). it.faults) leaves in omega (arith, same)
 
-ends-later : (way : Way) (old new : Streams) (before after : AtShelf way.It) (course : Course (AtShelf way.It)) (end : SessionEnd) → EndsAs way.stops old new before after course end
+ends-later : (way : Way) (old new : Streams) (before after : AtShelf way.how.It) (course : Course (AtShelf way.how.It)) (end : SessionEnd) → EndsAs way.how.stops old new before after course end
     → (left_by before course.steps).shelf.faults ≤ after.shelf.faults
 ends-later way old new before after course end ends =
     let least = (left_by before course.steps).shelf.faults in
-    ends_as-keep way.stops (λ (it : AtShelf way.It). least ≤ it.shelf.faults)
-    (λ one line other stops low. let later = stops-later (desk_seen way one) (way.saves line) (desk_seen way other) (way.halts one line other stops).leaves in omega (arith, low, later))
+    ends_as-keep way.how.stops (λ (it : AtShelf way.how.It). least ≤ it.shelf.faults)
+    (λ one line other stops low. let later = stops-later (desk_seen way one) (way.how.saves line) (desk_seen way other) (way.halts one line other stops).leaves in omega (arith, low, later))
     old new before after course end ends (omega arith)
 
 -- A reply that is told otherwise isn't that of a save that failed: their lines differ in a letter.
@@ -130,8 +132,8 @@ told-rises asks before after bytes (inr not) below = most (asks && bytes_eq byte
     most true = omega (arith, rose)
     most false = omega (arith, rose)
 
-runs-counted : (way : Way) (before : AtShelf way.It) (lines : List (List ℕ)) (steps : List (Answered (AtShelf way.It))) → Runs way.answers before lines steps
-    → (left_by before steps).shelf.faults < 2 ^ 64 - 1 → before.shelf.faults + unsaved_count way.saves lines steps ≤ (left_by before steps).shelf.faults
+runs-counted : (way : Way) (before : AtShelf way.how.It) (lines : List (List ℕ)) (steps : List (Answered (AtShelf way.how.It))) → Runs way.how.answers before lines steps
+    → (left_by before steps).shelf.faults < 2 ^ 64 - 1 → before.shelf.faults + unsaved_count way.how.saves lines steps ≤ (left_by before steps).shelf.faults
 runs-counted way before [] [] runs below = omega arith
 runs-counted way before [] (step ∷ steps) runs below = absurd runs
 runs-counted way before (line ∷ lines) [] runs below = absurd runs
@@ -139,12 +141,12 @@ runs-counted way before (line ∷ lines) (step ∷ steps) runs below =
     let later = runs-later way step.after lines steps runs.1 in
     let low : step.after.shelf.faults < 2 ^ 64 - 1 = omega (arith, later, below) in
     let rest = runs-counted way step.after lines steps runs.1 below in
-    let first = told-rises (way.saves line) (desk_seen way before) (desk_seen way step.after) step.reply (way.touches before line step.after step.reply runs.0).stored low in
+    let first = told-rises (way.how.saves line) (desk_seen way before) (desk_seen way step.after) step.reply (way.touches before line step.after step.reply runs.0).stored low in
     omega (arith, rest, first)
 
 -- Each save of a session that failed raised the count.
-pub session-counted : (way : Way) (streams others : Streams) (begun : AtShelf way.It) (left : ShelfState) (after : AtShelf way.It) (end : SessionEnd)
-    → (ends : SessionEnds way.answers way.stops streams others begun after end) → left ≡ after.shelf → CountsUnsaved way.saves begun.shelf left ends.course.lines ends.course.steps
+pub session-counted : (way : Way) (streams others : Streams) (begun : AtShelf way.how.It) (left : ShelfState) (after : AtShelf way.how.It) (end : SessionEnd)
+    → (ends : SessionEnds way.how.answers way.how.stops streams others begun after end) → left ≡ after.shelf → CountsUnsaved way.how.saves begun.shelf left ends.course.lines ends.course.steps
 session-counted way streams others begun left after end ends same low =
     let below : after.shelf.faults < 2 ^ 64 - 1 = subst (λ (it : ShelfState). it.faults < 2 ^ 64 - 1) same low in
     let later = ends-later way streams others begun after ends.course end ends.ends in
@@ -154,8 +156,8 @@ session-counted way streams others begun left after end ends same low =
 
 -- ---- what is promised of all memories
 
-abbrev seen : (way : Way) → AtShelf way.It → Memory
-seen way at = (way.desk at.it).memory
+abbrev seen : (way : Way) → AtShelf way.how.It → Memory
+seen way at = (way.how.desk at.it).memory
 
 some-is : (one other : Memory) → Some one ≡ Some other → one ≡ other
 some-is one other same = let is : one ≡ other = cc in is
@@ -164,8 +166,8 @@ none-some : (memory : Memory) → None ≡ Some memory → ⊥
 none-some memory same = let bad : ⊥ = cc in bad
 
 -- From a memory on, each later one follows it.
-runs-follow : (way : Way) (earlier : Memory) (before : AtShelf way.It) (lines : List (List ℕ)) (steps : List (Answered (AtShelf way.It))) → Runs way.answers before lines steps → Follows earlier (seen way before)
-    → (j : ℕ) (now : Memory) → slice_get (memories_of way.desk (seen way before) steps) j ≡ Some now → Follows earlier now
+runs-follow : (way : Way) (earlier : Memory) (before : AtShelf way.how.It) (lines : List (List ℕ)) (steps : List (Answered (AtShelf way.how.It))) → Runs way.how.answers before lines steps → Follows earlier (seen way before)
+    → (j : ℕ) (now : Memory) → slice_get (memories_of way.how.desk (seen way before) steps) j ≡ Some now → Follows earlier now
 runs-follow way earlier before lines steps runs follows zero now is = subst (Follows earlier) (some-is (seen way before) now is) follows
 runs-follow way earlier before [] [] runs follows (suc j) now is = absurd (none-some now is)
 runs-follow way earlier before [] (step ∷ steps) runs follows (suc j) now is = absurd runs
@@ -174,12 +176,12 @@ runs-follow way earlier before (line ∷ lines) (step ∷ steps) runs follows (s
     runs-follow way earlier step.after lines steps runs.1
     (follows-on earlier (seen way before) (seen way step.after) follows (way.touches before line step.after step.reply runs.0).follows) j now is
 
-pub runs-promised : (way : Way) (before : AtShelf way.It) (lines : List (List ℕ)) (steps : List (Answered (AtShelf way.It))) → Runs way.answers before lines steps → IsWholeMemory (seen way before)
-    → AreLinked (seen way before) → ArePromised (memories_of way.desk (seen way before) steps)
+pub runs-promised : (way : Way) (before : AtShelf way.how.It) (lines : List (List ℕ)) (steps : List (Answered (AtShelf way.how.It))) → Runs way.how.answers before lines steps → IsWholeMemory (seen way before)
+    → AreLinked (seen way before) → ArePromised (memories_of way.how.desk (seen way before) steps)
 runs-promised way before lines steps runs whole linked = record { kept = λ i j. by before lines steps runs whole linked i j }
   where
-    by : (from : AtShelf way.It) (those : List (List ℕ)) (course : List (Answered (AtShelf way.It))) → Runs way.answers from those course → IsWholeMemory (seen way from) → AreLinked (seen way from)
-        → (i j : ℕ) (earlier now : Memory) → i ≤ j → slice_get (memories_of way.desk (seen way from) course) i ≡ Some earlier → slice_get (memories_of way.desk (seen way from) course) j ≡ Some now
+    by : (from : AtShelf way.how.It) (those : List (List ℕ)) (course : List (Answered (AtShelf way.how.It))) → Runs way.how.answers from those course → IsWholeMemory (seen way from) → AreLinked (seen way from)
+        → (i j : ℕ) (earlier now : Memory) → i ≤ j → slice_get (memories_of way.how.desk (seen way from) course) i ≡ Some earlier → slice_get (memories_of way.how.desk (seen way from) course) j ≡ Some now
         → KeepsPromises earlier now
     by from those course goes is_whole are_linked zero j earlier now up first second =
         subst (λ (it : Memory). KeepsPromises it now) (some-is (seen way from) earlier first)
@@ -204,14 +206,14 @@ other-kept asks before after bytes (inl done) = by asks done.stores
 other-kept asks before after bytes (inr not) = ap (λ (saves : Bool). if saves then after.shelf else before.shelf) not.saves
 
 -- Lines that were answered leave the shelf as the last save of them did.
-pub runs-last : (way : Way) (before : AtShelf way.It) (lines : List (List ℕ)) (steps : List (Answered (AtShelf way.It))) → Runs way.answers before lines steps
-    → shelf_behind way.saves before.shelf lines steps ≡ (left_by before steps).shelf
+pub runs-last : (way : Way) (before : AtShelf way.how.It) (lines : List (List ℕ)) (steps : List (Answered (AtShelf way.how.It))) → Runs way.how.answers before lines steps
+    → shelf_behind way.how.saves before.shelf lines steps ≡ (left_by before steps).shelf
 runs-last way before [] [] runs = refl
 runs-last way before [] (step ∷ steps) runs = absurd runs
 runs-last way before (line ∷ lines) [] runs = absurd runs
 runs-last way before (line ∷ lines) (step ∷ steps) runs =
-    ap (λ (files : ShelfState). shelf_behind way.saves files lines steps)
-    (other-kept (way.saves line) (desk_seen way before) (desk_seen way step.after) step.reply (way.touches before line step.after step.reply runs.0).stored)
+    ap (λ (files : ShelfState). shelf_behind way.how.saves files lines steps)
+    (other-kept (way.how.saves line) (desk_seen way before) (desk_seen way step.after) step.reply (way.touches before line step.after step.reply runs.0).stored)
     ∙ runs-last way step.after lines steps runs.1
 
 -- ---- where no store failed
@@ -222,11 +224,11 @@ pub record Calm (one two three : ℕ) : Type 0 where
   pub later : three ≡ two
   pub low : two < 2 ^ 64 - 1
 
-pub runs-calm : (way : Way) (before : AtShelf way.It) (line : List ℕ) (lines : List (List ℕ)) (step : Answered (AtShelf way.It)) (steps : List (Answered (AtShelf way.It)))
-    → Runs way.answers before (line ∷ lines) (step ∷ steps) → (left_by step.after steps).shelf.faults ≡ before.shelf.faults → before.shelf.faults < 2 ^ 64 - 1
+pub runs-calm : (way : Way) (before : AtShelf way.how.It) (line : List ℕ) (lines : List (List ℕ)) (step : Answered (AtShelf way.how.It)) (steps : List (Answered (AtShelf way.how.It)))
+    → Runs way.how.answers before (line ∷ lines) (step ∷ steps) → (left_by step.after steps).shelf.faults ≡ before.shelf.faults → before.shelf.faults < 2 ^ 64 - 1
     → Calm before.shelf.faults step.after.shelf.faults (left_by step.after steps).shelf.faults
 runs-calm way before line lines step steps runs same low =
-    let up = touches-later (way.saves line) (desk_seen way before) (desk_seen way step.after) step.reply (way.touches before line step.after step.reply runs.0).stored in
+    let up = touches-later (way.how.saves line) (desk_seen way before) (desk_seen way step.after) step.reply (way.touches before line step.after step.reply runs.0).stored in
     let later = runs-later way step.after lines steps runs.1 in
     record { first = omega (arith, up, later, same); later = omega (arith, up, later, same); low = omega (arith, up, later, same, low) }
 
@@ -274,18 +276,18 @@ keeps-more name old before after same others keeps = record {
       (subst (λ (n : List ℕ). Changes before.shelf.files after.shelf.files (λ one other. KeepsAllBut one other n (records_name n))) keeps.named others);
 }
 
-pub session-others : (way : Way) (streams others : Streams) (begun after : AtShelf way.It) (end : SessionEnd) → SessionEnds way.answers way.stops streams others begun after end
-    → Changes begun.shelf.files after.shelf.files (λ one other. KeepsAllBut one other (way.desk begun.it).name (records_name (way.desk begun.it).name))
+pub session-others : (way : Way) (streams others : Streams) (begun after : AtShelf way.how.It) (end : SessionEnd) → SessionEnds way.how.answers way.how.stops streams others begun after end
+    → Changes begun.shelf.files after.shelf.files (λ one other. KeepsAllBut one other (way.how.desk begun.it).name (records_name (way.how.desk begun.it).name))
 session-others way streams others begun after end ends =
-    let name = (way.desk begun.it).name in
+    let name = (way.how.desk begun.it).name in
     let start : KeepsTo name begun.shelf (desk_seen way begun) = record { named = refl; others = same-others (desk_seen way begun) (desk_seen way begun) refl } in
-    (ends-keep way.answers way.stops (λ (it : AtShelf way.It). KeepsTo name begun.shelf (desk_seen way it))
+    (ends-keep way.how.answers way.how.stops (λ (it : AtShelf way.how.It). KeepsTo name begun.shelf (desk_seen way it))
     (λ one line other reply answers.
     let it = way.touches one line other reply answers in
-    keeps-more name begun.shelf (desk_seen way one) (desk_seen way other) it.named (touches-others (way.saves line) (desk_seen way one) (desk_seen way other) reply it.stored))
+    keeps-more name begun.shelf (desk_seen way one) (desk_seen way other) it.named (touches-others (way.how.saves line) (desk_seen way one) (desk_seen way other) reply it.stored))
     (λ one line other stops.
     let it = way.halts one line other stops in
-    keeps-more name begun.shelf (desk_seen way one) (desk_seen way other) it.named (leaves-others (way.saves line) (desk_seen way one) (desk_seen way other) it.leaves))
+    keeps-more name begun.shelf (desk_seen way one) (desk_seen way other) it.named (leaves-others (way.how.saves line) (desk_seen way one) (desk_seen way other) it.leaves))
     streams others begun after end ends start).others
 
 -- ---- what is left of both files, where they are atomic
@@ -379,8 +381,8 @@ keeps-saves name memories old before after same among both keeps = record {
       (subst (λ (n : List ℕ). Changes before.shelf.files after.shelf.files (Puts (files_of n before.it.memory.state))) keeps.named both);
 }
 
-runs-saves : (way : Way) (name : List ℕ) (memories : List Memory) (old : ShelfState) (before : AtShelf way.It) (lines : List (List ℕ)) (steps : List (Answered (AtShelf way.It))) → Runs way.answers before lines steps
-    → ((memory : Memory) → IsAmong (memories_of way.desk (seen way before) steps) memory → IsAmong memories memory) → KeepsSaves name memories old (desk_seen way before)
+runs-saves : (way : Way) (name : List ℕ) (memories : List Memory) (old : ShelfState) (before : AtShelf way.how.It) (lines : List (List ℕ)) (steps : List (Answered (AtShelf way.how.It))) → Runs way.how.answers before lines steps
+    → ((memory : Memory) → IsAmong (memories_of way.how.desk (seen way before) steps) memory → IsAmong memories memory) → KeepsSaves name memories old (desk_seen way before)
     → KeepsSaves name memories old (desk_seen way (left_by before steps))
 runs-saves way name memories old before [] [] runs among keeps = keeps
 runs-saves way name memories old before [] (step ∷ steps) runs among keeps = absurd runs
@@ -389,23 +391,23 @@ runs-saves way name memories old before (line ∷ lines) (step ∷ steps) runs a
     let it = way.touches before line step.after step.reply runs.0 in
     runs-saves way name memories old step.after lines steps runs.1 (λ memory is. among memory (suc is.0, is.1))
     (keeps-saves name memories old (desk_seen way before) (desk_seen way step.after) it.named (among (seen way step.after) (1, refl))
-    (touches-both (way.saves line) (desk_seen way before) (desk_seen way step.after) step.reply it.stored) keeps)
+    (touches-both (way.how.saves line) (desk_seen way before) (desk_seen way step.after) step.reply it.stored) keeps)
 
-pub session-saves : (way : Way) (streams others : Streams) (begun : AtShelf way.It) (left : ShelfState) (after : AtShelf way.It) (end : SessionEnd)
-    → (ends : SessionEnds way.answers way.stops streams others begun after end) → left ≡ after.shelf
-    → KeepsSaved (way.desk begun.it).name (memories_of way.desk (seen way begun) ends.course.steps) begun.shelf left
+pub session-saves : (way : Way) (streams others : Streams) (begun : AtShelf way.how.It) (left : ShelfState) (after : AtShelf way.how.It) (end : SessionEnd)
+    → (ends : SessionEnds way.how.answers way.how.stops streams others begun after end) → left ≡ after.shelf
+    → KeepsSaved (way.how.desk begun.it).name (memories_of way.how.desk (seen way begun) ends.course.steps) begun.shelf left
 session-saves way streams others begun left after end ends same =
-    let name = (way.desk begun.it).name in
-    let memories = memories_of way.desk (seen way begun) ends.course.steps in
+    let name = (way.how.desk begun.it).name in
+    let memories = memories_of way.how.desk (seen way begun) ends.course.steps in
     let none : (files : Files) → HasSaves name memories files files = λ files. record { atomic = refl; files = λ is. record { text = inl refl; records = inl refl } } in
     let start : KeepsSaves name memories begun.shelf (desk_seen way begun) =
     record { named = refl; among = (0, refl); files = changes-none begun.shelf.files begun.shelf.files (HasSaves name memories) none refl } in
     let behind = runs-saves way name memories begun.shelf begun ends.course.lines ends.course.steps ends.went.runs (λ memory is. is) start in
-    let end_keeps = ends_as-keep way.stops (λ (it : AtShelf way.It). KeepsSaves name memories begun.shelf (desk_seen way it))
+    let end_keeps = ends_as-keep way.how.stops (λ (it : AtShelf way.how.It). KeepsSaves name memories begun.shelf (desk_seen way it))
     (λ one line other stops keeps.
     let it = way.halts one line other stops in
     keeps-saves name memories begun.shelf (desk_seen way one) (desk_seen way other) it.named (subst (IsAmong memories) (sym it.memory) keeps.among)
-    (leaves-both (way.saves line) (desk_seen way one) (desk_seen way other) it.leaves) keeps)
+    (leaves-both (way.how.saves line) (desk_seen way one) (desk_seen way other) it.leaves) keeps)
     streams others begun after ends.course end ends.ends behind in
     subst (KeepsSaved name memories begun.shelf) (sym same)
     (changes-map begun.shelf.files after.shelf.files (HasSaves name memories) (λ before now. IsTrue before.atomic → KeepsOrSaves name memories before now) (λ before now it. it.files) end_keeps.files)

@@ -9,7 +9,6 @@ use Rattle.sp_kit.specs.Outside.{SinkState}
 use Rattle.sp_text.specs.declared.fault.TextFault.TheVariants as faults
 use Rattle.sp_run.specs.declared.status.Status.{Status}
 use Rattle.sp_run.specs.declared.status.Status.TheVariants as statuses
-use Rattle.sp_run.specs.Fetching.{FetchFinds}
 use Rattle.sp_run.specs.Opening.{Holds, SameShelf}
 use Rattle.sp_run.specs.Written.{WroteAll, WrotePart}
 
@@ -47,23 +46,6 @@ pub record Comes (old new : List ℕ) (shelf after : ShelfState) (fate : Fate) :
   pub has_second : Holds shelf new second
   pub is : fate_of old new first second ≡ fate
   pub same : SameShelf shelf after
-
--- ---- one fetch
-
--- The shelf has these bytes under the name, and they keep the limit.
-pub record FetchedSheets (shelf after : ShelfState) (name bytes : List ℕ) : Type 0 where
-  pub finds : FetchFinds shelf after name (λ found. found ≡ Some bytes)
-  pub low : length bytes ≤ sheets_limit
-
--- Why no file was fetched: there is none under the name, it is too long, the shelf failed, or there was no memory.
-abbrev pub NoSheets : ShelfState → ShelfState → List ℕ → Status → Type 0
-NoSheets shelf after name (statuses.NoFile given) = (string_bytes given ≡ name) × FetchFinds shelf after name (λ found. found ≡ None)
-NoSheets shelf after name (statuses.BadText faults.TextFull) = FetchFinds shelf after name (λ found. IsSomeAnd found (λ bytes. sheets_limit < length bytes))
-NoSheets shelf after name statuses.ShelfFault = Rose shelf.faults after.faults × (after.files ≡ shelf.files)
-NoSheets shelf after name statuses.NoMemory = SameShelf shelf after
-NoSheets shelf after name _ = ⊥
-
--- ---- both
 
 -- Why two files weren't collated.
 abbrev pub NotCollated : List ℕ → List ℕ → ShelfState → ShelfState → Status → Type 0

@@ -4,7 +4,7 @@ use Rattle.std.specs.Io.KnownBytes.{Appends, Consumes, IsAtEnd}
 use Rattle.spec_state.specs.State.{State}
 use Rattle.spec_machine.specs.Machine.{Memory, opened_memory}
 use Rattle.spec_session.specs.CommandLines.{KeepsLimits, IsFirstLong, IsFull, command_lines}
-use Rattle.spec_session.specs.Runs.{Answered, AtShelf, Counts, Runs, left_by, output_of}
+use Rattle.spec_session.specs.Runs.{Answered, AtShelf, Counts, Runs, at_shelf, left_by, output_of}
 use Rattle.spec_session.specs.Sessions.{SessionEnds, streams}
 use Rattle.spec_session.specs.declared.SessionEnd.{SessionEnd}
 use Rattle.spec_session.specs.declared.SessionEnd.TheVariants as endings
@@ -19,7 +19,7 @@ use Rattle.spec_machine.specs.KeptMemories.{IsWholeMemory}
 use Rattle.spec_locked_pages.specs.Chains.{AreLinked}
 use Rattle.sp_run.specs.CountedLines.{LackingCounts}
 use Rattle.sp_run.specs.Counted.{OpeningCounts}
-use Rattle.sp_run.specs.DeskLines.{AnswersLine, NamedDesk, StopsAtLine, answered_lines, desk_at, desk_itself, memories_of, saves, shelf_behind, unsaved_count}
+use Rattle.sp_run.specs.DeskLines.{AnswersLine, NamedDesk, StopsAtLine, answered_lines, desk_itself, memories_of, saves, shelf_behind, unsaved_count}
 use Rattle.sp_run.specs.Promises.{ArePromised}
 use Rattle.sp_run.specs.Opening.{SameShelf, HasState}
 use Rattle.sp_run.specs.Records.{OpensAs, RefusesRecords, records_name}
@@ -47,23 +47,86 @@ pub record KeepsOrSaves (name : List ℕ) (memories : List Memory) (old new : Fi
 abbrev pub KeepsSaved : List ℕ → List Memory → ShelfState → ShelfState → Type 0
 KeepsSaved name memories old new = Changes old.files new.files (λ before now. IsTrue before.atomic → KeepsOrSaves name memories before now)
 
+-- What answers the lines of a session, which is a desk or has one: what it is where the desk was just opened, the desk, which lines it
+-- takes as saves, how it answers a line, how want of memory leaves it, and what is said of the lines that its seats saw.
+pub record Answerer : Type 1 where
+  pub It : Type 0
+  pub begins : List ℕ → Memory → It
+  pub desk : It → NamedDesk
+  pub saves : List ℕ → Bool
+  pub answers : AtShelf It → List ℕ → AtShelf It → List ℕ → Type 0
+  pub stops : AtShelf It → List ℕ → AtShelf It → Type 0
+  pub seen : It → List (List ℕ) → List (Answered (AtShelf It)) → Type 0
+
+-- It begins with the script of this name in this state.
+abbrev pub begun_at : (how : Answerer) → List ℕ → State → ShelfState → Counts → AtShelf how.It
+begun_at how name state shelf counts = at_shelf (how.begins name (opened_memory state)) shelf counts
+
 -- The shelf has a script under the name; it was opened as a desk with what stands beside it, for which the shelf was asked both files
 -- and nothing else, and so its session ended, which left the shelf and the counts as they are now. All memories that the desk had keep
 -- what is promised.
-pub record HeldSession (name : List ℕ) (old new : Outside) (from to : Counts) (end : SessionEnd) : Type 0 where
+pub record Held (how : Answerer) (name : List ℕ) (old new : Outside) (from to : Counts) (end : SessionEnd) : Type 0 where
   pub state : State
   pub has : HasState old.shelf name state
   pub calls : Option (List CallOf)
   pub asks : AsksTwo name (records_name name) old.shelf (telling old.shelf calls)
   pub opened : Counts
   pub opening : OpeningCounts state from opened
-  pub after : AtShelf NamedDesk
-  pub ends : SessionEnds AnswersLine StopsAtLine (streams old.source old.sink) (streams new.source new.sink) (desk_at name (opened_memory state) (telling old.shelf calls) opened) after end
+  pub after : AtShelf how.It
+  pub ends : SessionEnds how.answers how.stops (streams old.source old.sink) (streams new.source new.sink) (begun_at how name state (telling old.shelf calls) opened) after end
   pub left : new.shelf ≡ after.shelf
   pub counts : to ≡ after.counts
-  pub promised : ArePromised (memories_of desk_itself (opened_memory state) ends.course.steps)
-  pub counted : CountsUnsaved saves old.shelf new.shelf ends.course.lines ends.course.steps
-  pub kept : KeepsSaved name (memories_of desk_itself (opened_memory state) ends.course.steps) old.shelf new.shelf
+  pub promised : ArePromised (memories_of how.desk (opened_memory state) ends.course.steps)
+  pub seen : how.seen (how.begins name (opened_memory state)) ends.course.lines ends.course.steps
+  pub counted : CountsUnsaved how.saves old.shelf new.shelf ends.course.lines ends.course.steps
+  pub kept : KeepsSaved name (memories_of how.desk (opened_memory state) ends.course.steps) old.shelf new.shelf
+
+-- Such a session answered all command lines of the input, in order, and what was written are the replies.
+pub record AnsweredBy (how : Answerer) (name : List ℕ) (old new : Outside) (from to : Counts) : Type 0 where
+  pub state : State
+  pub has : HasState old.shelf name state
+  pub calls : Option (List CallOf)
+  pub asks : AsksTwo name (records_name name) old.shelf (telling old.shelf calls)
+  pub opened : Counts
+  pub opening : OpeningCounts state from opened
+  pub input : List ℕ
+  pub gave : Consumes old.source.unread new.source.unread input
+  pub at_end : IsAtEnd new.source.unread
+  pub steps : List (Answered (AtShelf how.It))
+  pub runs : Runs how.answers (begun_at how name state (telling old.shelf calls) opened) (command_lines input) steps
+  pub counts : to ≡ (left_by (begun_at how name state (telling old.shelf calls) opened) steps).counts
+  pub wrote : Appends old.sink.taken new.sink.taken (output_of steps)
+  pub left : new.shelf ≡ shelf_behind how.saves (telling old.shelf calls) (command_lines input) steps
+  pub promised : ArePromised (memories_of how.desk (opened_memory state) steps)
+  pub seen : how.seen (how.begins name (opened_memory state)) (command_lines input) steps
+  pub counted : CountsUnsaved how.saves old.shelf new.shelf (command_lines input) steps
+  pub kept : KeepsSaved name (memories_of how.desk (opened_memory state) steps) old.shelf new.shelf
+
+-- All command lines of the input were answered, these are the replies to them, and each save was done.
+pub record AnsweredCalmlyBy (replies : State → List (List ℕ) → List ℕ) (name : List ℕ) (old new : Outside) : Type 0 where
+  pub state : State
+  pub has : HasState old.shelf name state
+  pub input : List ℕ
+  pub gave : Consumes old.source.unread new.source.unread input
+  pub at_end : IsAtEnd new.source.unread
+  pub wrote : Appends old.sink.taken new.sink.taken (replies state (command_lines input))
+
+-- ---- a desk
+
+abbrev pub the_desk : Answerer
+the_desk = record {
+  It = NamedDesk;
+  begins = λ name memory. record { name = name; memory = memory };
+  desk = desk_itself;
+  saves = saves;
+  answers = AnswersLine;
+  stops = StopsAtLine;
+  seen = λ it lines steps. Unit {0};
+}
+
+-- A session of a desk ended so.
+abbrev pub HeldSession : List ℕ → Outside → Outside → Counts → Counts → SessionEnd → Type 0
+HeldSession name old new from to end = Held the_desk name old new from to end
 
 -- The shelf has a script under the name and was left as it was, and this is the memory of its desk.
 pub record OpensDesk (shelf after : ShelfState) (name : List ℕ) (memory : Memory) : Type 0 where
@@ -101,33 +164,12 @@ DeskEnds name old new from to status = CommandsEnd (HeldSession name old new fro
 
 -- All command lines of the input were answered by a desk of the script, in order, what was written are the replies, and all
 -- memories that the desk had keep what is promised.
-pub record AnsweredAll (name : List ℕ) (old new : Outside) (from to : Counts) : Type 0 where
-  pub state : State
-  pub has : HasState old.shelf name state
-  pub calls : Option (List CallOf)
-  pub asks : AsksTwo name (records_name name) old.shelf (telling old.shelf calls)
-  pub opened : Counts
-  pub opening : OpeningCounts state from opened
-  pub input : List ℕ
-  pub gave : Consumes old.source.unread new.source.unread input
-  pub at_end : IsAtEnd new.source.unread
-  pub steps : List (Answered (AtShelf NamedDesk))
-  pub runs : Runs AnswersLine (desk_at name (opened_memory state) (telling old.shelf calls) opened) (command_lines input) steps
-  pub counts : to ≡ (left_by (desk_at name (opened_memory state) (telling old.shelf calls) opened) steps).counts
-  pub wrote : Appends old.sink.taken new.sink.taken (output_of steps)
-  pub left : new.shelf ≡ shelf_behind saves (telling old.shelf calls) (command_lines input) steps
-  pub promised : ArePromised (memories_of desk_itself (opened_memory state) steps)
-  pub counted : CountsUnsaved saves old.shelf new.shelf (command_lines input) steps
-  pub kept : KeepsSaved name (memories_of desk_itself (opened_memory state) steps) old.shelf new.shelf
+abbrev pub AnsweredAll : List ℕ → Outside → Outside → Counts → Counts → Type 0
+AnsweredAll name old new from to = AnsweredBy the_desk name old new from to
 
 -- All command lines of the input were answered by a desk of the script, and each save was done.
-pub record AnsweredCalmly (name : List ℕ) (old new : Outside) : Type 0 where
-  pub state : State
-  pub has : HasState old.shelf name state
-  pub input : List ℕ
-  pub gave : Consumes old.source.unread new.source.unread input
-  pub at_end : IsAtEnd new.source.unread
-  pub wrote : Appends old.sink.taken new.sink.taken (output_of (answered_lines (opened_memory state) (command_lines input)))
+abbrev pub AnsweredCalmly : List ℕ → Outside → Outside → Type 0
+AnsweredCalmly name old new = AnsweredCalmlyBy (λ state lines. output_of (answered_lines (opened_memory state) lines)) name old new
 
 -- A script opens with what stands beside it.
 abbrev pub Opens : List ℕ → Option (List ℕ) → Type 0

@@ -77,10 +77,14 @@ line_step memory line = line_step_by memory (command_of_line line)
 abbrev pub answered_line : Memory → List ℕ → Answered Memory
 answered_line memory line = record { after = (line_step memory line).after; reply = reply_line (line_step memory line).reply }
 
+-- Lines answered one after another, each by what the answer before it left.
+abbrev pub answered_in_order : {M : Type 0} → (M → List ℕ → Answered M) → M → List (List ℕ) → List (Answered M)
+answered_in_order answer before [] = []
+answered_in_order answer before (line ∷ lines) = answer before line ∷ answered_in_order answer (answer before line).after lines
+
 -- Lines answered in order, where no store fails.
 abbrev pub answered_lines : Memory → List (List ℕ) → List (Answered Memory)
-answered_lines memory [] = []
-answered_lines memory (line ∷ lines) = answered_line memory line ∷ answered_lines (answered_line memory line).after lines
+answered_lines memory lines = answered_in_order answered_line memory lines
 
 -- ---- how a line is answered
 

@@ -10,7 +10,7 @@ use Rattle.spec_session.specs.Runs.{Answered, AtShelf, Counts, at_shelf}
 use Rattle.spec_room.specs.Rooms.{RoomState, RoomStep, room_step_to, room_step_of}
 use Rattle.sp_kit.specs.Files.{ShelfState}
 use Rattle.sp_run.specs.SeatCounted.{SeatCounts, SeatCountsAtMost}
-use Rattle.sp_run.specs.DeskLines.{NamedDesk, Leaves, Stores, asks_save, is_packet, is_save, packet_reply}
+use Rattle.sp_run.specs.DeskLines.{NamedDesk, Leaves, Stores, answered_in_order, asks_save, is_packet, is_save, packet_reply}
 use Rattle.sp_run.specs.Promises.{Follows}
 use Rattle.sp_run.specs.Saving.{StoreFailed, files_of}
 
@@ -68,8 +68,7 @@ abbrev pub answered_room_line : RoomState → List ℕ → Answered RoomState
 answered_room_line room line = record { after = (room_line_step room line).after; reply = step_line (room_line_step room line) }
 
 abbrev pub answered_room_lines : RoomState → List (List ℕ) → List (Answered RoomState)
-answered_room_lines room [] = []
-answered_room_lines room (line ∷ lines) = answered_room_line room line ∷ answered_room_lines (answered_room_line room line).after lines
+answered_room_lines room lines = answered_in_order answered_room_line room lines
 
 -- ---- how a line is answered
 

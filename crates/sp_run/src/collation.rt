@@ -1,32 +1,16 @@
 //! The collation of two files of printed sheets (docs/RULES.md, "The program" and "Collation").
 ghost use Rattle.std.specs.Prelude.{◌≡◌, IfOk, IfErr};
-ghost use Rattle.sp_run.specs.Asking.{AsksOne, CollatedAsks, CollationAsks};
-ghost use Rattle.sp_run.specs.Collating.{FetchedSheets, NoSheets, Comes, NotCollated, CollateEnds, gives};
+ghost use Rattle.sp_run.specs.Asking.{CollatedAsks, CollationAsks};
+ghost use Rattle.sp_run.specs.Collating.{Comes, NotCollated, CollateEnds, gives};
 
 use crate::Status;
-use sp_kit::{Fetched, Shelf, ShelfFault, Sink, write_whole};
+use crate::fetching::fetch_file;
+use sp_kit::{Shelf, Sink, write_whole};
 use sp_packet::collate;
-use sp_text::TextFault;
 use std::alloc::Global;
 
 /// The most bytes of a file of sheets.
 const SHEETS_LIMIT: usize = 268_435_456;
-
-/// Fetches the file under a name.
-fn fetch_sheets<F: Shelf>(alloc: Global, name: &str, shelf: &mut F) -> Result<Vec<u8>, Status>
-    ensures given { IfOk result (λ bytes. FetchedSheets (F.state shelf.old) (F.state shelf.new) name.now bytes.items) }
-    ensures refused { IfErr result (NoSheets (F.state shelf.old) (F.state shelf.new) name.now) }
-    ensures files_kept { (F.state shelf.new).files ≡ (F.state shelf.old).files }
-    ensures asks { AsksOne name.now (F.state shelf.old) (F.state shelf.new) }
-{
-    match shelf.fetch(name, SHEETS_LIMIT) {
-        Ok(Fetched::Bytes(bytes)) => Ok(bytes),
-        Ok(Fetched::Absent) => Err(Status::NoFile(String::from_str(alloc, name)?)),
-        Ok(Fetched::Longer) => Err(Status::BadText(TextFault::TextFull)),
-        Err(ShelfFault::Failed) => Err(Status::ShelfFault),
-        Err(ShelfFault::NoMemory) => Err(Status::NoMemory),
-    }
-}
 
 /// The collation of the files under two names, both fetched first.
 fn collated<F: Shelf>(alloc: Global, old: &str, new: &str, shelf: &mut F) -> Result<Vec<u8>, Status>
@@ -36,8 +20,8 @@ fn collated<F: Shelf>(alloc: Global, old: &str, new: &str, shelf: &mut F) -> Res
     ensures files_kept { (F.state shelf.new).files ≡ (F.state shelf.old).files }
     ensures asks { CollatedAsks old.now new.now (F.state shelf.old) (F.state shelf.new) result }
 {
-    let first = fetch_sheets(alloc, old, shelf)?;
-    let second = fetch_sheets(alloc, new, shelf)?;
+    let first = fetch_file(alloc, old, SHEETS_LIMIT, shelf)?;
+    let second = fetch_file(alloc, new, SHEETS_LIMIT, shelf)?;
     Ok(collate(alloc, &first, &second)?)
 }
 

@@ -11,7 +11,8 @@ use Rattle.sp_run.specs.DeskEnding.{DeskEnds, HeldSession}
 use Rattle.sp_run.specs.Unopened.{outside}
 use Rattle.sp_run.specs.Asking.{CommandsAsk}
 use Rattle.sp_run.proofs.AskedSessions.{ended-asks, opened-asks, unopened-asks}
-use Rattle.sp_run.proofs.DeskSessions.{by_desk, session-held, held-ends, held-others, unopened-ends}
+use Rattle.sp_run.proofs.DeskSessions.{by_desk}
+use Rattle.sp_run.proofs.HeldSessions.{session-held, held-ends, held-others, unopened-ends}
 use Rattle.sp_run.proofs.Stores.{changes-none, keeps-itself}
 use Rattle.sp_run.proofs.desk_session.hold_session.Goals as goal
 
@@ -39,7 +40,7 @@ returns-clause-ends g c =
     let after = at_shelf c.session-ended.new.responder (g.F.Shelf.state c.session-ended.new.shelf) to in
     let ends = subst (λ (source : SourceState). SessionEnds AnswersLine StopsAtLine (streams source old.sink) (streams new.source new.sink) (desk_at c.args.name.now c.in-Ok.desk between opened) after c.session-ended.result)
     (ap g.I.Source.state c.open_desk.ensures.source_kept) c.session-ended.ensures.ends in
-    let held = session-held c.args.name.now old new from opened to between c.in-Ok.desk after c.session-ended.result c.in-Ok.ensures.opened c.in-Ok.ensures.counts ends refl refl in
+    let held = session-held by_desk c.args.name.now old new from opened to between c.in-Ok.desk after c.session-ended.result c.in-Ok.ensures.opened c.in-Ok.ensures.counts ends refl refl in
     subst (DeskEnds c.args.name.now old new from to) (sym c.from.ensures) (held-ends (HeldSession c.args.name.now old new from to) c.args.name.now old new from to c.session-ended.result held)
 
 pub returns-clause-others : goal.returns-clause-others
@@ -53,7 +54,7 @@ returns-clause-others g c =
     let after = at_shelf c.session-ended.new.responder (g.F.Shelf.state c.session-ended.new.shelf) to in
     let name = c.args.name.now in
     subst (λ (files : Option Files). Changes files after.shelf.files (λ (one other : Files). KeepsAllBut one other name (records_name name))) c.open_desk.ensures.files_kept
-    (held-others name c.in-Ok.desk between opened old new after c.session-ended.result c.session-ended.ensures.ends)
+    (held-others by_desk name c.in-Ok.desk between opened old new after c.session-ended.result c.session-ended.ensures.ends)
 
 pub returns-in-Err-clause-asks : goal.returns-in-Err-clause-asks
 returns-in-Err-clause-asks g c =

@@ -12,8 +12,8 @@ use Rattle.sp_run.specs.RoomEnding.{RoomEnds, HeldRoom}
 use Rattle.sp_run.specs.Unopened.{outside}
 use Rattle.sp_run.specs.Asking.{CommandsAsk}
 use Rattle.sp_run.proofs.AskedSessions.{ended-asks, opened-asks, unopened-asks}
-use Rattle.sp_run.proofs.DeskSessions.{held-ends, unopened-ends}
-use Rattle.sp_run.proofs.RoomSessions.{by_room, room-held, room-others}
+use Rattle.sp_run.proofs.HeldSessions.{session-held, held-ends, held-others, unopened-ends}
+use Rattle.sp_run.proofs.RoomSessions.{by_room}
 use Rattle.sp_run.proofs.Stores.{changes-none, keeps-itself}
 use Rattle.sp_run.proofs.room_session.hold_room.Goals as goal
 
@@ -43,7 +43,7 @@ returns-clause-ends g c =
     c.open.ensures.room c.session-ended.ensures.ends in
     let ends = subst (λ (source : SourceState). SessionEnds AnswersRoomLine StopsAtRoomLine (streams source old.sink) (streams new.source new.sink) (room_at c.args.name.now (opened_room c.in-Ok.desk) between opened) after c.session-ended.result)
     (ap g.I.Source.state c.open_desk.ensures.source_kept) begun in
-    let held = room-held c.args.name.now old new from opened to between c.in-Ok.desk after c.session-ended.result c.in-Ok.ensures.opened c.in-Ok.ensures.counts ends refl refl in
+    let held = session-held by_room c.args.name.now old new from opened to between c.in-Ok.desk after c.session-ended.result c.in-Ok.ensures.opened c.in-Ok.ensures.counts ends refl refl in
     subst (RoomEnds c.args.name.now old new from to) (sym c.from.ensures) (held-ends (HeldRoom c.args.name.now old new from to) c.args.name.now old new from to c.session-ended.result held)
 
 pub returns-clause-others : goal.returns-clause-others
@@ -59,7 +59,7 @@ returns-clause-others g c =
     let ends = subst (λ (room : RoomState). SessionEnds AnswersRoomLine StopsAtRoomLine (streams old.source old.sink) (streams new.source new.sink) (room_at name room between opened) after c.session-ended.result)
     c.open.ensures.room c.session-ended.ensures.ends in
     subst (λ (files : Option Files). Changes files after.shelf.files (λ (one other : Files). KeepsAllBut one other name (records_name name))) c.open_desk.ensures.files_kept
-    (room-others name c.in-Ok.desk between opened old new after c.session-ended.result ends)
+    (held-others by_room name c.in-Ok.desk between opened old new after c.session-ended.result ends)
 
 pub returns-in-Err-clause-asks : goal.returns-in-Err-clause-asks
 returns-in-Err-clause-asks g c =
