@@ -14,6 +14,7 @@ pub mod MadeSheets
 mod PageRows
 pub mod SheetPlaces
 pub mod MadeLaws
+mod LaidLaws
 pub mod StopsMade
 pub mod LaidHeadings
 pub mod TitleLaws

@@ -1,6 +1,6 @@
 -- What is made of a state is what the rules say of it.
 use Rattle.std.proofs.Common.{◌≡◌, ℕ, ◌<◌, ◌≤◌, List, [], ◌++◌, length, Option, Some, None, Result, Ok, Err, refl, sym, ap, ◌∙◌, subst, arith}
-use Rattle.std.specs.Prelude.{All, IfSome, OnOk, option_map}
+use Rattle.std.specs.Prelude.{All, AllPairs, IfSome, OnOk, option_map}
 use Rattle.std.proofs.lemmas.List.{length-map}
 use Rattle.std.proofs.lemmas.List.Elements.{All-nil}
 use Rattle.spec_text.specs.Lines.{LineState, TextState, IsText, line_texts, read_lines}
@@ -18,11 +18,20 @@ use Rattle.spec_state.proofs.OpenedLaws.{opening-whole}
 use Rattle.spec_state.proofs.StateLaws.{state-AreKeptPages, state-ArePageRecords, state-AreStarts, state-ArePages, state-few, rising-few}
 use Rattle.sp_layout.specs.Bodies.{row_count, shapes_in}
 use Rattle.sp_sheets.proofs.FirstsLaws.{count-rows}
-use Rattle.sp_sheets.proofs.MadePages.{same-shapes, sheets-by}
+use Rattle.sp_sheets.proofs.MadePages.{marked_or_locked, same-shapes, sheets-by}
 use Rattle.sp_sheets.specs.Locked.{LockedSheets}
 use Rattle.sp_sheets.specs.Firsts.{key_starts}
-use Rattle.sp_sheets.specs.Made.{marked_or_locked}
-use Rattle.sp_sheets.specs.Pages.{AreFewPages, AskedOfPages}
+
+-- Page starts rise, are rows, and are few.
+pub record AreFewPages (rows : ℕ) (pages : List ℕ) : Type 0 where
+  pub rising : AllPairs (λ (one other : ℕ). one < other) pages
+  pub within : All (λ (page : ℕ). page < rows) pages
+  pub few : length pages ≤ 16777216
+
+-- What the sheets of elements on these pages ask for.
+pub record AskedOfPages {V : Type 0} (items : V → List PageRecordOf) (elements : List ElementOf) (records : Option V) (starts pages : List ℕ) : Type 0 where
+  pub are : AreFewPages (row_count elements) pages
+  pub locked : IfSome records (λ those. LockedSheets (row_count elements) (items those) starts pages)
 
 -- What was done makes something, and so what is equal to that.
 pub done-same : {V E X : Type 0} (result : Result V E) (it one other : X) → one ≡ other → OnOk result (it ≡ one) → OnOk result (it ≡ other)

@@ -1,5 +1,5 @@
 -- The pages and the sheets of what is made of a state, by its body.
-use Rattle.std.proofs.Common.{◌≡◌, ℕ, List, [], ◌++◌, length, map, Option, Some, None, Result, Ok, Err, refl, sym, ap, ◌∙◌}
+use Rattle.std.proofs.Common.{◌≡◌, ℕ, List, [], ◌++◌, length, map, Option, Some, None, Result, Ok, Err, refl, sym, ap, subst, ◌∙◌}
 use Rattle.std.specs.Prelude.{IfOk}
 use Rattle.spec_text.specs.Lines.{TextState, IsText, line_texts}
 use Rattle.spec_script.specs.Stanzas.{blocks_of}
@@ -7,7 +7,7 @@ use Rattle.spec_script.proofs.BlockPlaces.{FromPlace, blocks_of-lie}
 use Rattle.spec_pages.specs.declared.Shape.{Shape}
 use Rattle.spec_pages.specs.Pages.{page_starts, rows_on}
 use Rattle.spec_pages.specs.Rows.{ElementOf}
-use Rattle.spec_labels.specs.PageRecords.{PageRecordOf, record_starts, sheets_of_records}
+use Rattle.spec_labels.specs.PageRecords.{PageRecordOf, SheetOf, record_starts, sheets_of_records}
 use Rattle.spec_sheets.specs.Shown.{shape_of}
 use Rattle.spec_sheets.proofs.RowLaws.{IsText-texts}
 use Rattle.spec_sheets.proofs.ShownLaws.{shown_rows-shapes, shown_rows-marks}
@@ -15,16 +15,26 @@ use Rattle.spec_state.specs.State.{State}
 use Rattle.spec_state.specs.Headings.{heading_labels}
 use Rattle.spec_state.specs.StateSheets.{layout_in, rows_in, keys_in, locked_starts, numbered_sheets, sheets_in}
 use Rattle.spec_locked_pages.specs.Segments.{pages_of}
-use Rattle.sp_layout.specs.Bodies.{shapes_in, marks_in}
+use Rattle.sp_layout.specs.Bodies.{row_count, shapes_in, marks_in}
+use Rattle.sp_sheets.specs.Numbered.{marked_sheets}
 use Rattle.sp_sheets.proofs.MarkedLaws.{marked_sheets-numbered}
 use Rattle.sp_sheets.specs.Firsts.{key_starts}
-use Rattle.sp_sheets.specs.Made.{marked_or_locked}
 use Rattle.sp_sheets.proofs.FirstsLaws.{count-rows}
+
+-- The sheets of elements on these pages: those of page records, or numbered ones by the marks of rows.
+abbrev pub marked_or_locked : List ElementOf → Option (List PageRecordOf) → List ℕ → List ℕ → List SheetOf
+marked_or_locked elements None starts pages = marked_sheets (marks_in elements) 1 pages
+marked_or_locked elements (Some records) starts pages = sheets_of_records (row_count elements) records starts pages
 
 -- What a value shows is something, and so is what is equal to that.
 pub shows-same : {V E X : Type 0} (shows : V → X) (result : Result V E) (one other : X) → one ≡ other → IfOk result (λ it. shows it ≡ one) → IfOk result (λ it. shows it ≡ other)
 shows-same shows (Ok it) one other same is = is ∙ same
 shows-same shows (Err error) one other same is = tt
+
+-- What a value shows is something of which this holds.
+pub shows-such : {V E X : Type 0} (shows : V → X) (P : X → Type 0) (result : Result V E) (one : X) → P one → IfOk result (λ it. shows it ≡ one) → IfOk result (λ it. P (shows it))
+shows-such shows P (Ok it) one such is = subst P (sym is) such
+shows-such shows P (Err error) one such is = tt
 
 -- The blocks of a text lie in it, in order.
 pub blocks-lie : (text : TextState) → IsText text → FromPlace (line_texts text.lines) 0 (blocks_of (line_texts text.lines))

@@ -30,14 +30,14 @@ use Rattle.spec_machine.proofs.WholeStates.{lock_scenes-whole, lock_pages-whole,
 use Rattle.spec_machine.proofs.LabelLaw.{state-sheets}
 use Rattle.sp_layout.specs.Bodies.{row_count, shapes_in}
 use Rattle.sp_sheets.specs.Firsts.{key_starts}
-use Rattle.sp_sheets.specs.Made.{MadeOf, IsMadeOf, marked_or_locked}
+use Rattle.sp_sheets.specs.Made.{MadeOf, IsMadeOf}
 use Rattle.sp_labels.specs.declared.fault.LockFault.{LockFault}
 use Rattle.sp_labels.specs.declared.fault.LockFault.TheVariants as locks
 use Rattle.sp_locks.specs.Extension.{IsMade}
 use Rattle.sp_records.specs.OpeningFaults.{lock_fault_of}
 use Rattle.sp_sheets.specs.Openings.{ArePagesOpened, CanLockHeadings, IsFull, IsReason, pages_made}
 use Rattle.sp_sheets.proofs.FirstsLaws.{count-rows}
-use Rattle.sp_sheets.proofs.MadePages.{sheets-by}
+use Rattle.sp_sheets.proofs.MadePages.{marked_or_locked, sheets-by}
 use Rattle.sp_sheets.proofs.MadeSheets.{body-made, keys-made, made-lie}
 
 -- The headings of a text keep what is asked of headings.

@@ -5,6 +5,7 @@ use Rattle.spec_labels.specs.declared.RowKey.{RowKey}
 use Rattle.spec_labels.specs.PageRecords.{PageRecordOf, record_starts}
 use Rattle.spec_sheets.specs.Speakers.{text_elements}
 use Rattle.spec_state.specs.State.{State}
+use Rattle.spec_state.specs.Keeping.{IsWhole}
 use Rattle.spec_state.specs.StateSheets.{keys_in}
 use Rattle.sp_layout.specs.LaidOut.{LayoutOf, keyed}
 
@@ -23,3 +24,9 @@ key_starts lines keys (Some records) = record_starts lines keys records
 -- The first rows of the page records of a state; none where pages aren't locked.
 abbrev pub first_rows : State → List ℕ
 first_rows state = key_starts state.lines (keys_in state) state.pages
+
+-- A state keeps the rules of a state, and these are the layout of its text and the first rows of its page records.
+pub record IsLaidWith (state : State) (layout : LayoutOf) (starts : List ℕ) : Type 0 where
+  pub whole : IsWhole state
+  pub laid : IsLaidOf state layout
+  pub firsts : starts ≡ first_rows state

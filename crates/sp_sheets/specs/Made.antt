@@ -1,14 +1,11 @@
 -- What is made of a state.
-use Rattle.std.specs.Prelude.{◌≡◌, ℕ, List, Option, Some, None}
-use Rattle.spec_pages.specs.Rows.{ElementOf}
+use Rattle.std.specs.Prelude.{◌≡◌, ℕ, List, Option}
 use Rattle.spec_labels.specs.Labels.{LabelOf}
-use Rattle.spec_labels.specs.PageRecords.{PageRecordOf, SheetOf, sheets_of_records}
+use Rattle.spec_labels.specs.PageRecords.{SheetOf}
 use Rattle.spec_state.specs.State.{State}
 use Rattle.spec_state.specs.Headings.{heading_labels}
 use Rattle.spec_state.specs.StateSheets.{title_starts, body_sheets}
-use Rattle.sp_layout.specs.Bodies.{row_count, marks_in}
 use Rattle.sp_layout.specs.LaidOut.{LayoutOf}
-use Rattle.sp_sheets.specs.Numbered.{marked_sheets}
 use Rattle.sp_sheets.specs.Firsts.{IsLaidOf}
 
 -- The labels of its headings, the first rows of its title sheets, and its other sheets.
@@ -31,8 +28,3 @@ pub record IsNumberedOf (state : State) (it : NumberedOf) : Type 0 where
 pub record IsMadeOf (state : State) (it : MadeOf) : Type 0 where
   pub layout : IsLaidOf state it.layout
   pub numbered : IsNumberedOf state it.numbered
-
--- The sheets of elements on these pages: those of page records, or numbered ones by the marks of rows.
-abbrev pub marked_or_locked : List ElementOf → Option (List PageRecordOf) → List ℕ → List ℕ → List SheetOf
-marked_or_locked elements None starts pages = marked_sheets (marks_in elements) 1 pages
-marked_or_locked elements (Some records) starts pages = sheets_of_records (row_count elements) records starts pages

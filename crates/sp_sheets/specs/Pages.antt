@@ -1,8 +1,8 @@
--- Pages that are asked for of a state: its stops in order, and what sheets ask of page starts.
-use Rattle.std.specs.Prelude.{◌≡◌, ℕ, ◌<◌, ◌≤◌, All, AllPairs, IsPermutation, IfSome, List, length, Option, None}
+-- Pages that are asked for of a state: its stops in order, and how many are filled; and the sheets that stood on pages.
+use Rattle.std.specs.Prelude.{◌≡◌, ℕ, IsPermutation, IfSome, List, length, Option, None}
 use Rattle.spec_pages.specs.Rows.{ElementOf}
 use Rattle.spec_labels.specs.Labels.{LabelOf}
-use Rattle.spec_labels.specs.PageRecords.{PageRecordOf, SheetOf}
+use Rattle.spec_labels.specs.PageRecords.{SheetOf}
 use Rattle.spec_records.specs.Kept.{RecordsOf}
 use Rattle.spec_state.specs.State.{State}
 use Rattle.spec_state.specs.Headings.{heading_labels}
@@ -11,22 +11,11 @@ use Rattle.spec_locked_pages.specs.Segments.{pages_of}
 use Rattle.spec_edit.specs.PageWindows.{AreStops}
 use Rattle.spec_refill.specs.Exchanges.{stops_in}
 use Rattle.sp_text.specs.Gap.{LinesState}
-use Rattle.sp_layout.specs.Bodies.{marks_in, row_count}
+use Rattle.sp_layout.specs.Bodies.{marks_in}
 use Rattle.sp_reflow.specs.Starts.{many_more}
 use Rattle.sp_reflow.specs.Filling.{FilledAtMost}
-use Rattle.sp_sheets.specs.Locked.{AreSheetsBefore, LockedSheets}
+use Rattle.sp_sheets.specs.Locked.{AreSheetsBefore}
 use Rattle.sp_sheets.specs.Numbered.{AreUnmarked, marked_sheets}
-
--- Page starts rise, are rows, and are few.
-pub record AreFewPages (rows : ℕ) (pages : List ℕ) : Type 0 where
-  pub rising : AllPairs (λ (one other : ℕ). one < other) pages
-  pub within : All (λ (page : ℕ). page < rows) pages
-  pub few : length pages ≤ 16777216
-
--- What the sheets of elements on these pages ask for.
-pub record AskedOfPages {V : Type 0} (items : V → List PageRecordOf) (elements : List ElementOf) (records : Option V) (starts pages : List ℕ) : Type 0 where
-  pub are : AreFewPages (row_count elements) pages
-  pub locked : IfSome records (λ those. LockedSheets (row_count elements) (items those) starts pages)
 
 -- Stops of a state, in order: its page breaks and the first rows of its page records.
 pub record AreStopsOf (state : State) (stops : List ℕ) : Type 0 where

@@ -1,45 +1,38 @@
 //! Locks and rounds: what they make of the records of a state, and of what is made of it. They read no stanza and fill no
 //! page.
-ghost use Rattle.std.specs.Prelude.{◌≡◌, ◌<◌, ◌≤◌, [], false, is_some, true, length, option_map, All, IfErr, IfOk, IfSome, OnOk};
-ghost use Rattle.spec_text.specs.Lines.{IsText, line_texts};
-ghost use Rattle.spec_script.specs.Stanzas.{stanzas_of};
+ghost use Rattle.std.specs.Prelude.{◌≡◌, ◌<◌, ◌≤◌, [], false, is_some, true, length, option_map, vec_items, All, IfErr, IfOk, IfSome, OnOk};
 ghost use Rattle.spec_labels.specs.Scenes.{AreHeadings, AreSceneRecords, extended_records, locked_labels, locked_records, scene_record_limit};
 ghost use Rattle.spec_labels.specs.PageRecords.{AreSheets, SheetOf, extended_page_records};
 ghost use Rattle.spec_state.specs.Headings.{headings_of};
-ghost use Rattle.spec_state.specs.Keeping.{IsWhole, state_of};
+ghost use Rattle.spec_state.specs.Keeping.{IsWhole};
 ghost use Rattle.spec_state.specs.Openings.{pages_locked, round_begun, scenes_extended, scenes_locked};
 ghost use Rattle.spec_state.specs.SoundStates.{AreLocked};
 ghost use Rattle.spec_machine.specs.Machine.{FewScenes};
 ghost use Rattle.spec_machine.specs.Refusals.{are_more, pages_refusal, round_refusal, scenes_refusal};
 ghost use Rattle.sp_locks.specs.Extension.{IsMade};
-ghost use Rattle.sp_text.specs.Gap.{text_of};
 ghost use Rattle.sp_sheets.specs.Made.{IsMadeOf};
 ghost use Rattle.sp_sheets.specs.Openings.{ArePagesOpened, CanLockHeadings, IsFull, IsOpening, IsReason, headings_refusal};
+ghost use Rattle.sp_sheets.specs.States.{state_with};
 
 use crate::{Made, headings_among};
+use sp_exchange::Text;
 use sp_labels::{Label, LockFault};
 use sp_locks::{PageRecord, extend};
 use sp_records::{OpeningFault, Records};
-use sp_reread::{Stanzas, placed_blocks};
+use sp_reread::placed_blocks;
 use sp_scenes::{HeadingAt, SceneRecord, extend_scenes, lock_scenes, numbers};
-use sp_text::Lines;
 use std::alloc::{AllocError, Global};
 
 /// The greatest round.
 const ROUND_LIMIT: u8 = 99;
 
-/// The headings of a text, by its stanzas.
-fn headings_by(
-    alloc: Global,
-    lines: &Lines,
-    stanzas: &Stanzas,
-) -> Result<Vec<HeadingAt>, AllocError>
-    requires text { IsText (text_of lines.now) }
-    requires stanzas { stanzas.now.stanzas ≡ stanzas_of (line_texts lines.now.lines) }
-    ensures { IfOk result (λ headings. headings.items ≡ headings_of lines.now.lines) }
+/// The headings of a text.
+fn headings_by(alloc: Global, text: &Text) -> Result<Vec<HeadingAt>, AllocError>
+    ensures headings { IfOk result (λ headings. headings.items ≡ headings_of text.now.lines.lines) }
+    ensures are { IfOk result (λ headings. AreHeadings headings.items) }
 {
-    let blocks = placed_blocks(alloc, stanzas)?;
-    headings_among(alloc, lines, &blocks)
+    let blocks = placed_blocks(alloc, text.stanzas())?;
+    headings_among(alloc, text.lines(), &blocks)
 }
 
 /// The records of all headings, and their labels by these.
@@ -62,28 +55,25 @@ fn first_scenes(
     Ok((scenes, labels))
 }
 
-/// Locks the scenes of the state of these lines and records: each heading gets a record of the label that it has without
-/// records (docs/RULES.md, "Scene numbers"). Takes the stanzas of the lines and what is made of the state, and leaves what is
-/// made of the locked one, which has other labels of headings and is else the same. The first of ScenesLocked, SceneForm,
-/// SceneOrder and RecordsFull that holds refuses it (docs/RULES.md, "The desk"); NoMemory may come in place of any answer. On a
-/// fault nothing is changed.
+/// Locks the scenes of the state of this text and these records: each heading gets a record of the label that it has without
+/// records (docs/RULES.md, "Scene numbers"). Takes what is made of the state, and leaves what is made of the locked one, which
+/// has other labels of headings and is else the same. The first of ScenesLocked, SceneForm, SceneOrder and RecordsFull that
+/// holds refuses it (docs/RULES.md, "The desk"); NoMemory may come in place of any answer. On a fault nothing is changed.
 pub fn lock_scenes_made(
     alloc: Global,
-    lines: &Lines,
-    stanzas: &Stanzas,
+    text: &Text,
     records: &mut Records,
     made: &mut Made,
 ) -> Result<(), OpeningFault>
-    requires whole { IsWhole (state_of (text_of lines.now) records.old) }
-    requires stanzas { stanzas.now.stanzas ≡ stanzas_of (line_texts lines.now.lines) }
-    requires made { IsMadeOf (state_of (text_of lines.now) records.old) made.old }
-    ensures opening { IsOpening (scenes_refusal (state_of (text_of lines.now) records.old))
-        (scenes_locked (state_of (text_of lines.now) records.old)) (state_of (text_of lines.now) records.old)
-        (state_of (text_of lines.now) records.new) result }
-    ensures whole { IsWhole (state_of (text_of lines.now) records.new) }
-    ensures made { IsMadeOf (state_of (text_of lines.now) records.new) made.new }
+    requires whole { IsWhole (state_with text.now records.old) }
+    requires made { IsMadeOf (state_with text.now records.old) made.old }
+    ensures opening { IsOpening (scenes_refusal (state_with text.now records.old))
+        (scenes_locked (state_with text.now records.old)) (state_with text.now records.old)
+        (state_with text.now records.new) result }
+    ensures whole { IsWhole (state_with text.now records.new) }
+    ensures made { IsMadeOf (state_with text.now records.new) made.new }
 {
-    let headings = headings_by(alloc, lines, stanzas)?;
+    let headings = headings_by(alloc, text)?;
     let (scenes, labels) = first_scenes(alloc, &records.scenes, &headings)?;
     let numbered = &mut made.numbered;
     records.scenes = Some(scenes);
@@ -125,24 +115,21 @@ fn extended(
 /// The scene records with one for every heading, where scenes are locked, in a list of its own.
 fn extended_scenes(
     alloc: Global,
-    lines: &Lines,
+    text: &Text,
     records: &Option<Vec<SceneRecord>>,
-    stanzas: &Stanzas,
 ) -> Result<Option<Vec<SceneRecord>>, LockFault>
-    requires text { IsText (text_of lines.now) }
     requires records { IfSome records.now (λ those. AreSceneRecords those.items) }
-    requires stanzas { stanzas.now.stanzas ≡ stanzas_of (line_texts lines.now.lines) }
     ensures few { OnOk result
-        (FewScenes (scenes_extended (headings_of lines.now.lines) (option_map (λ those. those.items) records.now))) }
-    ensures records { IfOk result (λ all. option_map (λ those. those.items) all
-        ≡ scenes_extended (headings_of lines.now.lines) (option_map (λ those. those.items) records.now)) }
+        (FewScenes (scenes_extended (headings_of text.now.lines.lines) (option_map vec_items records.now))) }
+    ensures records { IfOk result (λ all. option_map vec_items all
+        ≡ scenes_extended (headings_of text.now.lines.lines) (option_map vec_items records.now)) }
     ensures full { IfErr result (IsFull (are_more scene_record_limit
-        (scenes_extended (headings_of lines.now.lines) (option_map (λ those. those.items) records.now)) ≡ true)) }
+        (scenes_extended (headings_of text.now.lines.lines) (option_map vec_items records.now)) ≡ true)) }
 {
     match records {
         None => Ok(None),
         Some(records) => {
-            let headings = headings_by(alloc, lines, stanzas)?;
+            let headings = headings_by(alloc, text)?;
             Ok(Some(extended(alloc, records, &headings)?))
         }
     }
@@ -183,26 +170,25 @@ fn extend_pages(
     }
 }
 
-/// Locks the pages of the state of these lines and records: each page gets a record, and each heading that has none
-/// (docs/RULES.md, "Page records" and "Scene numbers"). Takes the stanzas of the lines and what is made of the state; that is
+/// Locks the pages of the state of this text and these records: each page gets a record, and each heading that has none
+/// (docs/RULES.md, "Page records" and "Scene numbers"), and the text its index of ids. Takes what is made of the state; that is
 /// what is made of the locked one too, since labels and sheets stay. The first of ScenesNotLocked, PagesLocked, NoPages and
 /// RecordsFull that holds refuses it (docs/RULES.md, "The desk"); NoMemory may come in place of any answer. On a fault nothing
-/// is changed.
+/// is changed, and no index made.
 pub fn lock_pages_made(
     alloc: Global,
-    lines: &Lines,
-    stanzas: &Stanzas,
+    text: &mut Text,
     records: &mut Records,
     made: &Made,
 ) -> Result<(), OpeningFault>
-    requires whole { IsWhole (state_of (text_of lines.now) records.old) }
-    requires stanzas { stanzas.now.stanzas ≡ stanzas_of (line_texts lines.now.lines) }
-    requires made { IsMadeOf (state_of (text_of lines.now) records.old) made.now }
-    ensures opening { IsOpening (pages_refusal (state_of (text_of lines.now) records.old))
-        (pages_locked (state_of (text_of lines.now) records.old)) (state_of (text_of lines.now) records.old)
-        (state_of (text_of lines.now) records.new) result }
-    ensures whole { IsWhole (state_of (text_of lines.now) records.new) }
-    ensures made { IsMadeOf (state_of (text_of lines.now) records.new) made.now }
+    requires whole { IsWhole (state_with text.old records.old) }
+    requires made { IsMadeOf (state_with text.old records.old) made.now }
+    ensures text { text.new ≡ text.old }
+    ensures opening { IsOpening (pages_refusal (state_with text.old records.old))
+        (pages_locked (state_with text.old records.old)) (state_with text.old records.old)
+        (state_with text.old records.new) result }
+    ensures whole { IsWhole (state_with text.old records.new) }
+    ensures made { IsMadeOf (state_with text.old records.new) made.now }
 {
     if records.scenes.is_none() {
         return Err(OpeningFault::ScenesNotLocked);
@@ -214,38 +200,36 @@ pub fn lock_pages_made(
     if layout.body.rows() == 0 {
         return Err(OpeningFault::NoPages);
     }
-    let scenes = extended_scenes(alloc, lines, &records.scenes, stanzas)?;
+    let scenes = extended_scenes(alloc, text, &records.scenes)?;
     let pages = first_pages(alloc, made)?;
+    text.make_index()?;
     records.scenes = scenes;
     records.pages = Some(pages);
     Ok(())
 }
 
-/// Begins the next round of the state of these lines and records: where scenes are locked each heading that has no record gets
-/// one, and where pages are locked each page (docs/RULES.md, "Scene numbers" and "Page records"). Takes the stanzas of the lines
-/// and what is made of the state; that is what is made of the new state too, since labels and sheets stay. The first of
-/// RoundsFull and RecordsFull that holds refuses it (docs/RULES.md, "The desk"); NoMemory may come in place of any answer. On a
-/// fault nothing is changed.
+/// Begins the next round of the state of this text and these records: where scenes are locked each heading that has no record
+/// gets one, and where pages are locked each page (docs/RULES.md, "Scene numbers" and "Page records"). Takes what is made of the
+/// state; that is what is made of the new state too, since labels and sheets stay. The first of RoundsFull and RecordsFull that
+/// holds refuses it (docs/RULES.md, "The desk"); NoMemory may come in place of any answer. On a fault nothing is changed.
 pub fn next_round_made(
     alloc: Global,
-    lines: &Lines,
-    stanzas: &Stanzas,
+    text: &Text,
     records: &mut Records,
     made: &Made,
 ) -> Result<(), OpeningFault>
-    requires whole { IsWhole (state_of (text_of lines.now) records.old) }
-    requires stanzas { stanzas.now.stanzas ≡ stanzas_of (line_texts lines.now.lines) }
-    requires made { IsMadeOf (state_of (text_of lines.now) records.old) made.now }
-    ensures opening { IsOpening (round_refusal (state_of (text_of lines.now) records.old))
-        (round_begun (state_of (text_of lines.now) records.old)) (state_of (text_of lines.now) records.old)
-        (state_of (text_of lines.now) records.new) result }
-    ensures whole { IsWhole (state_of (text_of lines.now) records.new) }
-    ensures made { IsMadeOf (state_of (text_of lines.now) records.new) made.now }
+    requires whole { IsWhole (state_with text.now records.old) }
+    requires made { IsMadeOf (state_with text.now records.old) made.now }
+    ensures opening { IsOpening (round_refusal (state_with text.now records.old))
+        (round_begun (state_with text.now records.old)) (state_with text.now records.old)
+        (state_with text.now records.new) result }
+    ensures whole { IsWhole (state_with text.now records.new) }
+    ensures made { IsMadeOf (state_with text.now records.new) made.now }
 {
     if records.round >= ROUND_LIMIT {
         return Err(OpeningFault::RoundsFull);
     }
-    let scenes = extended_scenes(alloc, lines, &records.scenes, stanzas)?;
+    let scenes = extended_scenes(alloc, text, &records.scenes)?;
     extend_pages(alloc, &mut records.pages, made)?;
     records.scenes = scenes;
     records.round += 1;

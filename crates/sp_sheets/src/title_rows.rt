@@ -2,19 +2,15 @@
 ghost use Rattle.std.specs.Prelude.{◌≡◌, ◌↔◌, [], All, IfNone, IfOk, IfSome, IsTrue};
 ghost use Rattle.spec_pages.specs.Pages.{page_starts, rows_on};
 ghost use Rattle.spec_pages.specs.Rows.{title_shape};
-ghost use Rattle.spec_state.specs.Keeping.{IsWhole};
 ghost use Rattle.spec_state.specs.StateSheets.{title_starts};
 ghost use Rattle.sp_layout.specs.Bodies.{shapes_in};
 ghost use Rattle.sp_layout.specs.Kept.{laid_of};
-ghost use Rattle.sp_sheets.specs.Firsts.{IsLaidOf};
 ghost use Rattle.sp_sheets.specs.Titles.{LeavesTitles};
-ghost use Rattle.sp_sheets.specs.States.{state_in};
 
+use crate::LaidState;
 use crate::made::rows_on;
 use sp_fill::title_starts;
-use sp_layout::{Body, KeptLayout, LayoutChange};
-use sp_records::Records;
-use sp_text::Lines;
+use sp_layout::{Body, LayoutChange};
 use spec_pages::Paper;
 use std::alloc::{AllocError, Global};
 
@@ -44,36 +40,26 @@ fn starts_on(alloc: Global, titles: &Body, paper: Paper) -> Result<Vec<usize>, A
 }
 
 /// The first rows of the title sheets of a state whose text is laid out. `AllocError` comes for want of memory alone.
-pub(crate) fn made_titles(
-    alloc: Global,
-    lines: &Lines,
-    records: &Records,
-    layout: &KeptLayout,
-) -> Result<Vec<usize>, AllocError>
-    requires whole { IsWhole (state_in lines.now records.now) }
-    requires laid { IsLaidOf (state_in lines.now records.now) (laid_of layout.now) }
-    ensures { IfOk result (λ starts. starts.items ≡ title_starts (state_in lines.now records.now)) }
+pub(crate) fn made_titles(alloc: Global, laid: &LaidState<'_>) -> Result<Vec<usize>, AllocError>
+    ensures { IfOk result (λ starts. starts.items ≡ title_starts laid.now) }
 {
+    let layout = laid.layout();
+    let records = laid.records();
     starts_on(alloc, &layout.titles, records.paper)
 }
 
 /// None where the first rows of title sheets that there are may be kept, else those of a state whose text is laid out.
 pub(crate) fn changed_titles(
     alloc: Global,
-    lines: &Lines,
-    records: &Records,
-    layout: &KeptLayout,
+    laid: &LaidState<'_>,
     keeps: bool,
 ) -> Result<Option<Vec<usize>>, AllocError>
-    requires whole { IsWhole (state_in lines.now records.now) }
-    requires laid { IsLaidOf (state_in lines.now records.now) (laid_of layout.now) }
-    ensures made { IfOk result (λ changed. IfSome changed (λ starts.
-        starts.items ≡ title_starts (state_in lines.now records.now))) }
+    ensures made { IfOk result (λ changed. IfSome changed (λ starts. starts.items ≡ title_starts laid.now)) }
     ensures kept { IfOk result (λ changed. IfNone changed (IsTrue keeps)) }
 {
     if keeps {
         return Ok(None);
     }
-    let titles = made_titles(alloc, lines, records, layout)?;
+    let titles = made_titles(alloc, laid)?;
     Ok(Some(titles))
 }

@@ -4,14 +4,15 @@ ghost use Rattle.spec_text.specs.Lines.{line_texts};
 ghost use Rattle.spec_script.specs.Stanzas.{stanzas_of};
 ghost use Rattle.spec_sheets.specs.Shown.{shape_of};
 ghost use Rattle.spec_state.specs.State.{text_of as state_text};
-ghost use Rattle.spec_state.specs.Keeping.{IsWhole, records_of, state_of};
+ghost use Rattle.spec_state.specs.Keeping.{IsWhole, records_of};
 ghost use Rattle.spec_state.specs.StateSheets.{body_sheets, rows_in};
 ghost use Rattle.sp_text.specs.Gap.{text_of};
 ghost use Rattle.sp_layout.specs.Bodies.{shapes_in};
 ghost use Rattle.sp_sheets.specs.Made.{IsMadeOf};
-ghost use Rattle.sp_sheets.specs.States.{state_in};
+ghost use Rattle.sp_sheets.specs.States.{state_with};
 
 use crate::parts::Made;
+use sp_exchange::Text;
 use sp_gap::GapList;
 use sp_locks::Sheet;
 use sp_records::Records;
@@ -20,31 +21,27 @@ use sp_text::Lines;
 use spec_pages::Shape;
 use std::marker::Model;
 
-/// The lines of a state, their stanzas, its records, and what is made of it, lent (docs/RULES.md, "The desk" and "Sheets"). Contracts
-/// see the state alone.
+/// The text of a state, its records, and what is made of it, lent (docs/RULES.md, "The desk" and "Sheets"). Contracts see the
+/// state alone.
 #[derive(Drop)]
 pub struct StateView<'a> {
-    lines: &'a Lines,
-    stanzas: &'a Stanzas,
+    text: &'a Text,
     records: &'a Records,
     made: &'a Made,
 }
 
 impl<'a> Model for StateView<'a> {
-    ghost use Rattle.std.specs.Prelude.{◌≡◌};
-    ghost use Rattle.sp_text.specs.Gap.{text_of};
-    ghost use Rattle.spec_text.specs.Lines.{line_texts};
-    ghost use Rattle.spec_script.specs.Stanzas.{stanzas_of};
     ghost use Rattle.spec_state.specs.State.{State};
-    ghost use Rattle.spec_state.specs.Keeping.{IsWhole, state_of};
+    ghost use Rattle.spec_state.specs.Keeping.{IsWhole};
     ghost use Rattle.sp_sheets.specs.Made.{IsMadeOf};
+    ghost use Rattle.sp_sheets.specs.States.{state_with};
 
     ghost Value = { State };
 
-    ghost view = { λ v. state_of (text_of v.lines.now) v.records.now };
+    ghost view = { λ v. state_with v.text.now v.records.now };
 
-    ghost invariant = { λ v. IsWhole (state_of (text_of v.lines.now) v.records.now) × IsMadeOf (state_of (text_of v.lines.now) v.records.now) v.made.now
-        × (v.stanzas.now.stanzas ≡ stanzas_of (line_texts v.lines.now.lines)) };
+    ghost invariant = { λ v. IsWhole (state_with v.text.now v.records.now)
+        × IsMadeOf (state_with v.text.now v.records.now) v.made.now };
 }
 
 /// What page ends see of each row of the body.
@@ -56,21 +53,14 @@ fn body_shapes(made: &Made) -> &GapList<Shape>
 }
 
 impl<'a> StateView<'a> {
-    /// The state of these lines and records, lent with the stanzas of its text and what is made of it. Takes no memory.
-    pub fn new(
-        lines: &'a Lines,
-        stanzas: &'a Stanzas,
-        records: &'a Records,
-        made: &'a Made,
-    ) -> StateView<'a>
-        requires whole { IsWhole (state_in lines.now records.now) }
-        requires stanzas { stanzas.now.stanzas ≡ stanzas_of (line_texts lines.now.lines) }
-        requires made { IsMadeOf (state_in lines.now records.now) made.now }
-        ensures { result ≡ state_in lines.now records.now }
+    /// The state of this text and these records, lent with what is made of it. Takes no memory.
+    pub fn new(text: &'a Text, records: &'a Records, made: &'a Made) -> StateView<'a>
+        requires whole { IsWhole (state_with text.now records.now) }
+        requires made { IsMadeOf (state_with text.now records.now) made.now }
+        ensures { result ≡ state_with text.now records.now }
     {
         StateView {
-            lines,
-            stanzas,
+            text,
             records,
             made,
         }
@@ -80,7 +70,8 @@ impl<'a> StateView<'a> {
     pub fn lines(&self) -> &'a Lines
         ensures { text_of result.now ≡ state_text self.now }
     {
-        self.lines
+        let text = self.text;
+        text.lines()
     }
 
     /// Lends its round, its settings and its records.
@@ -94,7 +85,8 @@ impl<'a> StateView<'a> {
     pub fn stanzas(&self) -> &'a Stanzas
         ensures { result.now.stanzas ≡ stanzas_of (line_texts self.now.lines) }
     {
-        self.stanzas
+        let text = self.text;
+        text.stanzas()
     }
 
     /// Lends what page ends see of each row of its body (docs/RULES.md, "Pages").

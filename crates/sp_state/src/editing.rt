@@ -11,11 +11,11 @@ ghost use Rattle.sp_layout.specs.Changes.{CanChange, HasChangeRoom, with_change}
 ghost use Rattle.sp_layout.specs.Kept.{laid_of};
 ghost use Rattle.sp_sheets.specs.Firsts.{IsLaidOf, first_rows};
 ghost use Rattle.sp_sheets.specs.Made.{IsMadeOf, IsNumberedOf};
-ghost use Rattle.sp_text_entry.specs.TextEntries.{CanTurnText, HasTextRoom, IsTextTurned, edited_by, turned_text, state_with};
+ghost use Rattle.sp_text_entry.specs.TextEntries.{CanTurnText, HasTextRoom, IsTextTurned, edited_by, turned_text};
 ghost use Rattle.sp_state.specs.Entries.{CanTurn, HoldsFew, HoldsWindow, IsSameEntry, Leads, done_range, turned_range, turned_state};
 ghost use Rattle.sp_text_entry.specs.Reads.{ReadsEdit, ReadsEditAtMost};
 ghost use Rattle.sp_state.specs.Fills.{FillsEdit, FillsEditAtMost};
-ghost use Rattle.sp_sheets.specs.States.{state_in};
+ghost use Rattle.sp_sheets.specs.States.{state_in, state_with};
 ghost use Rattle.sp_sheets.specs.Pages.{FillsAll, FillsAtMostAll};
 
 use crate::entry::{Entry, Unturned};
@@ -25,7 +25,9 @@ use sp_kit::Steps;
 use sp_layout::{KeptLayout, LayoutChange};
 use sp_records::Records;
 use sp_reflow::Pages;
-use sp_sheets::{Made, Numbered, keeps_headings, laid_firsts, lay, leaves_titles, make, number};
+use sp_sheets::{
+    LaidState, Made, Numbered, keeps_headings, laid_firsts, lay, leaves_titles, make, number,
+};
 use sp_text::{Edit, EditFault, Lines};
 use sp_text_entry::{EditedText, TextEntry, UnturnedText, change_in_room, edit_entry, turn_entry};
 use spec_pages::Paper;
@@ -50,16 +52,8 @@ fn numbered_by(
     let none: &[usize] = &[];
     let firsts = laid_firsts(alloc, text.lines(), records, layout, none)?;
     let titles = Vec::from_slice(alloc, titles)?;
-    number(
-        alloc,
-        text.lines(),
-        text.stanzas(),
-        records,
-        layout,
-        &firsts,
-        pages,
-        titles,
-    )
+    let laid = LaidState::new(text, records, layout, &firsts);
+    number(alloc, &laid, pages, titles)
 }
 
 /// What is made of a state, with the first rows of its pages and of its title sheets.
@@ -75,7 +69,7 @@ fn remade(
     requires titles { titles.now ≡ title_starts (state_with text.now records.now) }
     ensures { IfOk result (IsMadeOf (state_with text.now records.now)) }
 {
-    let layout = lay(alloc, text.lines(), text.stanzas(), records)?;
+    let layout = lay(alloc, text, records)?;
     let numbered = numbered_by(alloc, text, records, &layout, pages, titles)?;
     Ok(Made { layout, numbered })
 }
@@ -138,7 +132,7 @@ pub(crate) fn made_on<S: Steps>(
     ensures reads { S.reads steps.new ≡ S.reads steps.old }
 {
     let before = mem::replace(&mut records.paper, paper);
-    match make(alloc, text.lines(), text.stanzas(), records, steps) {
+    match make(alloc, text, records, steps) {
         Ok(it) => Ok(it),
         Err(error) => {
             records.paper = before;

@@ -13,8 +13,7 @@ ghost use Rattle.sp_sheets.specs.Firsts.{IsLaidOf, first_rows};
 ghost use Rattle.sp_sheets.specs.Made.{IsNumberedOf};
 ghost use Rattle.sp_sheets.specs.Pages.{labels_in, WerePageSheets, WereUnmarkedSheets};
 ghost use Rattle.sp_sheets.specs.Titles.{laid_titles};
-ghost use Rattle.sp_sheets.specs.States.{state_in};
-ghost use Rattle.sp_text_entry.specs.TextEntries.{state_with};
+ghost use Rattle.sp_sheets.specs.States.{state_in, state_with};
 ghost use Rattle.sp_state.specs.Fills.{exchange_of, AreStartsBefore, RefillsWindow, RefillsAtMost};
 ghost use Rattle.sp_state.specs.Entries.{LeadToSame};
 
@@ -24,8 +23,8 @@ use sp_layout::{KeptLayout, LayoutChange, UnchangedLayout};
 use sp_records::Records;
 use sp_reflow::{Pages, SwappedPages, UnswappedPages};
 use sp_sheets::{
-    Numbered, firsts_stay, keeps_headings, laid_firsts, laid_stops, leaves_titles, renumber,
-    rows_on,
+    Keeps, LaidState, Numbered, firsts_stay, keeps_headings, laid_firsts, laid_stops,
+    leaves_titles, renumber, rows_on,
 };
 use sp_text::Lines;
 use sp_text_entry::change_in_room;
@@ -138,25 +137,16 @@ pub(crate) fn refilled<S: Steps>(
     ensures same { OnErr result (pages.new.starts ≡ pages.old.starts) }
 {
     let lines = text.lines();
-    let stanzas = text.stanzas();
     let swapped = update_pages(
         alloc, lines, records, layout, firsts, pages, first, old, new, steps,
     )?;
-    let keeps_pages = pages_stay(keeps_firsts, pages, &swapped);
-    match renumber(
-        alloc,
-        lines,
-        stanzas,
-        records,
-        layout,
-        firsts,
-        pages,
-        &swapped,
-        keeps_labels,
-        keeps_titles,
-        keeps_pages,
-        numbered,
-    ) {
+    let keeps = Keeps {
+        labels: keeps_labels,
+        titles: keeps_titles,
+        pages: pages_stay(keeps_firsts, pages, &swapped),
+    };
+    let laid = LaidState::new(text, records, layout, firsts);
+    match renumber(alloc, &laid, pages, &swapped, keeps, numbered) {
         Ok(()) => Ok(swapped),
         Err(error) => {
             let _other = put_back_in_room(pages, swapped);
@@ -208,33 +198,23 @@ fn turned_pages(
     ensures same { OnErr result (pages.new.starts ≡ pages.old.starts) }
     ensures handed_back { IfErr result (λ error. taken_of error.back ≡ taken_of back) }
 {
-    let lines = text.lines();
-    let stanzas = text.stanzas();
     let none: &[usize] = &[];
     let near = match known {
         Some(firsts) => firsts.as_slice(),
         None => none,
     };
-    let Ok(firsts) = laid_firsts(alloc, lines, records, layout, near) else {
+    let Ok(firsts) = laid_firsts(alloc, text.lines(), records, layout, near) else {
         return Err(UnswappedPages { back });
     };
     let other = pages.put_back(back)?;
     let keeps_firsts = firsts_stay(known, &firsts);
-    let keeps_pages = pages_stay(keeps_firsts, pages, &other);
-    match renumber(
-        alloc,
-        lines,
-        stanzas,
-        records,
-        layout,
-        &firsts,
-        pages,
-        &other,
-        keeps_labels,
-        keeps_titles,
-        keeps_pages,
-        numbered,
-    ) {
+    let keeps = Keeps {
+        labels: keeps_labels,
+        titles: keeps_titles,
+        pages: pages_stay(keeps_firsts, pages, &other),
+    };
+    let laid = LaidState::new(text, records, layout, &firsts);
+    match renumber(alloc, &laid, pages, &other, keeps, numbered) {
         Ok(()) => Ok(TurnedPages {
             pages: other,
             firsts,

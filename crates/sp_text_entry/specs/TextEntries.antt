@@ -5,14 +5,12 @@ use Rattle.spec_text.specs.Edits.{Displacement, Refusal, refusal_of, replacement
 use Rattle.spec_text.specs.Ranges.{RangeOf}
 use Rattle.spec_labels.specs.declared.Moved.{Moved}
 use Rattle.spec_labels.specs.PageRecords.{PageRecordOf, put_back_records, taken_back}
-use Rattle.spec_records.specs.Kept.{RecordsOf}
 use Rattle.spec_state.specs.State.{State, text_of}
 use Rattle.spec_state.specs.Changes.{edited_state}
 use Rattle.sp_text.specs.declared.edit.Edit.{Edit}
 use Rattle.sp_text.specs.Changing.{edit_of}
 use Rattle.sp_text.specs.DisplacedLines.{DisplacedState, displaced_of}
 use Rattle.sp_reread.specs.Cache.{SwappedState}
-use Rattle.sp_sheets.specs.States.{state_in}
 use Rattle.sp_exchange.specs.Restoring.{CanRestoreText, HasRoomFor, IsSameText, IsTurned, TextOf}
 
 -- What an edit displaced, or what was displaced when that was put back: lines, stanzas, and the anchors and rounds of page records in two
@@ -80,10 +78,6 @@ pub record IsSameTextEntry (one other : TextEntryState) : Type 0 where
   pub text : IsSameText one.lines one.stanzas other.lines other.stanzas
   pub first : one.first ≡ other.first
   pub second : one.second ≡ other.second
-
--- The state of a text with these records.
-abbrev pub state_with : TextOf → RecordsOf → State
-state_with text records = state_in text.lines records
 
 -- The state after an edit.
 abbrev pub edited_by : State → Edit → State

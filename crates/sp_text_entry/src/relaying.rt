@@ -8,7 +8,7 @@ ghost use Rattle.sp_layout.specs.Kept.{laid_of};
 ghost use Rattle.sp_sheets.specs.Firsts.{IsLaidOf, first_rows};
 ghost use Rattle.sp_text_entry.specs.Raised.{AreCarried, FitPages, put_back_in, old_text, old_state, carried_state, raised_by, LeadRecordsBack};
 ghost use Rattle.sp_text_entry.specs.Relaid.{IsSomeEditOf, ExchangesRowsOf};
-ghost use Rattle.sp_text_entry.specs.TextEntries.{state_with};
+ghost use Rattle.sp_sheets.specs.States.{state_with};
 
 use crate::carrying::{Carried, carry_and_raise};
 use sp_exchange::Text;

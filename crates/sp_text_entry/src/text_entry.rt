@@ -5,11 +5,12 @@ ghost use Rattle.sp_text.specs.Changing.{Refuses};
 ghost use Rattle.sp_text.specs.Gap.{text_of};
 ghost use Rattle.sp_exchange.specs.Reads.{IsRefused};
 ghost use Rattle.sp_exchange.specs.Restoring.{CanRestoreText, DisplacesStanzas, HasRoomFor, text_before, stanzas_in, replacement_in, range_in, refusal_in};
-ghost use Rattle.sp_text_entry.specs.TextEntries.{CanTurnText, HasTextRoom, IsSameTextEntry, IsTextTurned, LeadsText, done_lines, edited_by, turned_lines, turned_text, state_with};
+ghost use Rattle.sp_text_entry.specs.TextEntries.{CanTurnText, HasTextRoom, IsSameTextEntry, IsTextTurned, LeadsText, done_lines, edited_by, turned_lines, turned_text};
 ghost use Rattle.sp_layout.specs.Changes.{CanChange, HasChangeRoom, with_change};
 ghost use Rattle.sp_layout.specs.Edited.{KeepsToWindow};
 ghost use Rattle.sp_layout.specs.Kept.{laid_of};
 ghost use Rattle.sp_sheets.specs.Firsts.{IsLaidOf, first_rows};
+ghost use Rattle.sp_sheets.specs.States.{state_with};
 ghost use Rattle.sp_text_entry.specs.Relaid.{IsExchangeOf};
 ghost use Rattle.sp_text_entry.specs.Reads.{ReadsEdit, ReadsEditAtMost};
 

@@ -1,9 +1,7 @@
 use Rattle.std.proofs.Common.{sym, subst, ◌∙◌}
 use Rattle.spec_labels.specs.Scenes.{AreHeadings}
-use Rattle.sp_text.specs.Gap.{text_of}
-use Rattle.sp_sheets.proofs.OpeningMade.{lines-headings}
 use Rattle.sp_sheets.proofs.locking.extended_scenes.Goals as goal
 
 pub extended-requires-clause-headings : goal.extended-requires-clause-headings
 extended-requires-clause-headings c =
-    subst AreHeadings (sym (c.deref-in-Some.ensures.value ∙ c.in_ok-headings-in-Some.ensures)) (lines-headings (text_of c.args.lines.now) c.requires.text)
+    subst AreHeadings (sym c.deref-in-Some.ensures.value) c.in_ok-headings-in-Some.ensures.are

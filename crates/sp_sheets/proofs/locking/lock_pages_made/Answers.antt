@@ -14,7 +14,7 @@ use Rattle.sp_sheets.proofs.locking.lock_pages_made.Goals as goal
 
 pub returns-then-rows-eq0-clause-opening : goal.returns-then-rows-eq0-clause-opening
 returns-then-rows-eq0-clause-opening c =
-    let text = text_of c.args.lines.now in
+    let text = text_of c.args.text.now.lines in
     let old = c.args.records.now in
     let it = c.args.made.now in
     let kept : RecordsOf = record {
@@ -35,7 +35,7 @@ returns-then-rows-eq0-clause-opening c =
 
 pub returns-in_err-scenes-clause-opening : goal.returns-in_err-scenes-clause-opening
 returns-in_err-scenes-clause-opening c =
-    let text = text_of c.args.lines.now in
+    let text = text_of c.args.text.now.lines in
     let old = c.args.records.now in
     let it = c.args.made.now in
     let kept : RecordsOf = record {
@@ -58,14 +58,14 @@ returns-in_err-scenes-clause-opening c =
     rw (p.1, p.2) (reason, refl)
 
 pub first_pages-requires-clause-sheets : goal.first_pages-requires-clause-sheets
-first_pages-requires-clause-sheets c = made-AreSheets (state_of (text_of c.args.lines.now) c.args.records.now) c.args.made.now c.requires.whole c.requires.made
+first_pages-requires-clause-sheets c = made-AreSheets (state_of (text_of c.args.text.now.lines) c.args.records.now) c.args.made.now c.requires.whole c.requires.made
 
 pub first_pages-requires-clause-within : goal.first_pages-requires-clause-within
-first_pages-requires-clause-within c = made-within (state_of (text_of c.args.lines.now) c.args.records.now) c.args.made.now c.requires.whole c.requires.made
+first_pages-requires-clause-within c = made-within (state_of (text_of c.args.text.now.lines) c.args.records.now) c.args.made.now c.requires.whole c.requires.made
 
 pub returns-in_err-pages-clause-opening : goal.returns-in_err-pages-clause-opening
 returns-in_err-pages-clause-opening c =
-    let text = text_of c.args.lines.now in
+    let text = text_of c.args.text.now.lines in
     let old = c.args.records.now in
     let it = c.args.made.now in
     let kept : RecordsOf = record {
@@ -89,7 +89,7 @@ returns-in_err-pages-clause-opening c =
 
 pub returns-clause-opening : goal.returns-clause-opening
 returns-clause-opening c =
-    let text = text_of c.args.lines.now in
+    let text = text_of c.args.text.now.lines in
     let old = c.args.records.now in
     let it = c.args.made.now in
     let kept : RecordsOf = record {
@@ -111,7 +111,7 @@ returns-clause-opening c =
 
 pub returns-clause-whole : goal.returns-clause-whole
 returns-clause-whole c =
-    let text = text_of c.args.lines.now in
+    let text = text_of c.args.text.now.lines in
     let old = c.args.records.now in
     let it = c.args.made.now in
     let kept : RecordsOf = record {
@@ -133,7 +133,7 @@ returns-clause-whole c =
 
 pub returns-clause-made : goal.returns-clause-made
 returns-clause-made c =
-    let text = text_of c.args.lines.now in
+    let text = text_of c.args.text.now.lines in
     let old = c.args.records.now in
     let it = c.args.made.now in
     let kept : RecordsOf = record {

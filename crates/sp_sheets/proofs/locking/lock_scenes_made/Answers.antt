@@ -6,16 +6,16 @@ use Rattle.spec_state.specs.Headings.{headings_of}
 use Rattle.sp_text.specs.Gap.{text_of}
 use Rattle.sp_layout.specs.Kept.{laid_of}
 use Rattle.sp_sheets.specs.Made.{MadeOf, NumberedOf}
-use Rattle.sp_sheets.proofs.OpeningMade.{headings-can, lines-headings, scenes-answer, some-map}
+use Rattle.sp_sheets.proofs.OpeningMade.{headings-can, scenes-answer, some-map}
 use Rattle.sp_sheets.proofs.locking.lock_scenes_made.Goals as goal
 
 pub first_scenes-requires : goal.first_scenes-requires
 first_scenes-requires c =
-    record { headings = subst AreHeadings (sym (c.deref.ensures.value ∙ c.in_ok-headings.ensures)) (lines-headings (text_of c.args.lines.now) (c.requires.whole).text) }
+    record { headings = subst AreHeadings (sym c.deref.ensures.value) c.in_ok-headings.ensures.are }
 
 pub returns-clause-whole : goal.returns-clause-whole
 returns-clause-whole c =
-    let text = text_of c.args.lines.now in
+    let text = text_of c.args.text.now.lines in
     let kept : RecordsOf = record {
       round = c.records.inside.round;
       speakers = c.records.inside.speakers;
@@ -30,7 +30,7 @@ returns-clause-whole c =
     } in
     let it : MadeOf = record { layout = laid_of c.made.inside.layout; numbered = numbered } in
     let same = ap (λ (n : NumberedOf). let those : MadeOf = record { layout = laid_of c.made.inside.layout; numbered = n } in those) c.numbered.view_is ∙ c.made.view_is in
-    let headings : c.deref.result.now ≡ headings_of c.args.lines.now.lines = c.deref.ensures.value ∙ c.in_ok-headings.ensures in
+    let headings : c.deref.result.now ≡ headings_of c.args.text.now.lines.lines = c.deref.ensures.value ∙ c.in_ok-headings.ensures.headings in
     let locked = some-map (λ those. those.items) c.records.inside.scenes ∙ ap (λ (r : RecordsOf). is_some r.scenes) c.records.view_is in
     (scenes-answer text kept c.args.records.now it c.args.made.now c.in_ok-scenes.scenes.items c.in_ok-scenes.labels.items c.records.view_is same c.requires.whole c.requires.made
     (headings-can text c.args.records.now (is_some c.records.inside.scenes) c.deref.result.now locked headings c.in_ok-scenes.ensures.can)
@@ -38,7 +38,7 @@ returns-clause-whole c =
 
 pub returns-clause-made : goal.returns-clause-made
 returns-clause-made c =
-    let text = text_of c.args.lines.now in
+    let text = text_of c.args.text.now.lines in
     let kept : RecordsOf = record {
       round = c.records.inside.round;
       speakers = c.records.inside.speakers;
@@ -53,7 +53,7 @@ returns-clause-made c =
     } in
     let it : MadeOf = record { layout = laid_of c.made.inside.layout; numbered = numbered } in
     let same = ap (λ (n : NumberedOf). let those : MadeOf = record { layout = laid_of c.made.inside.layout; numbered = n } in those) c.numbered.view_is ∙ c.made.view_is in
-    let headings : c.deref.result.now ≡ headings_of c.args.lines.now.lines = c.deref.ensures.value ∙ c.in_ok-headings.ensures in
+    let headings : c.deref.result.now ≡ headings_of c.args.text.now.lines.lines = c.deref.ensures.value ∙ c.in_ok-headings.ensures.headings in
     let locked = some-map (λ those. those.items) c.records.inside.scenes ∙ ap (λ (r : RecordsOf). is_some r.scenes) c.records.view_is in
     (scenes-answer text kept c.args.records.now it c.args.made.now c.in_ok-scenes.scenes.items c.in_ok-scenes.labels.items c.records.view_is same c.requires.whole c.requires.made
     (headings-can text c.args.records.now (is_some c.records.inside.scenes) c.deref.result.now locked headings c.in_ok-scenes.ensures.can)

@@ -8,14 +8,14 @@ use Rattle.sp_sheets.proofs.OpeningMade.{made-AreSheets, made-within, round-answ
 use Rattle.sp_sheets.proofs.locking.next_round_made.Goals as goal
 
 pub extend_pages-requires-clause-sheets : goal.extend_pages-requires-clause-sheets
-extend_pages-requires-clause-sheets c = made-AreSheets (state_of (text_of c.args.lines.now) c.args.records.now) c.args.made.now c.requires.whole c.requires.made
+extend_pages-requires-clause-sheets c = made-AreSheets (state_of (text_of c.args.text.now.lines) c.args.records.now) c.args.made.now c.requires.whole c.requires.made
 
 pub extend_pages-requires-clause-within : goal.extend_pages-requires-clause-within
-extend_pages-requires-clause-within c = made-within (state_of (text_of c.args.lines.now) c.args.records.now) c.args.made.now c.requires.whole c.requires.made
+extend_pages-requires-clause-within c = made-within (state_of (text_of c.args.text.now.lines) c.args.records.now) c.args.made.now c.requires.whole c.requires.made
 
 pub returns-in_err-extend_pages-clause-opening : goal.returns-in_err-extend_pages-clause-opening
 returns-in_err-extend_pages-clause-opening c =
-    let text = text_of c.args.lines.now in
+    let text = text_of c.args.text.now.lines in
     let old = c.args.records.now in
     let it = c.args.made.now in
     let kept : RecordsOf = record {
@@ -33,7 +33,7 @@ returns-in_err-extend_pages-clause-opening c =
 
 pub returns-clause-opening : goal.returns-clause-opening
 returns-clause-opening c =
-    let text = text_of c.args.lines.now in
+    let text = text_of c.args.text.now.lines in
     let old = c.args.records.now in
     let it = c.args.made.now in
     let kept : RecordsOf = record {
@@ -51,7 +51,7 @@ returns-clause-opening c =
 
 pub returns-clause-whole : goal.returns-clause-whole
 returns-clause-whole c =
-    let text = text_of c.args.lines.now in
+    let text = text_of c.args.text.now.lines in
     let old = c.args.records.now in
     let it = c.args.made.now in
     let kept : RecordsOf = record {
@@ -68,7 +68,7 @@ returns-clause-whole c =
 
 pub returns-clause-made : goal.returns-clause-made
 returns-clause-made c =
-    let text = text_of c.args.lines.now in
+    let text = text_of c.args.text.now.lines in
     let old = c.args.records.now in
     let it = c.args.made.now in
     let kept : RecordsOf = record {

@@ -34,7 +34,7 @@ returns-in-Ok-clause-fills g c =
       pages = option_map (λ those. those.items) c.records.inside.pages;
     } in
     subst (λ (r : RecordsOf). g.S.Steps.fills c.make.new.steps ≡ many_more (g.S.Steps.fills c.args.steps.now) (length (pages_of (state_of (text_of c.args.text.now.lines) r))))
-    (on-paper kept c.args.records.now c.replace-before.new.dest c.args.paper c.records.view_is c.replace-before.ensures.after) (rw c.lines.ensures.lines at c.in-Ok.ensures.fills)
+    (on-paper kept c.args.records.now c.replace-before.new.dest c.args.paper c.records.view_is c.replace-before.ensures.after) c.in-Ok.ensures.fills
 
 pub returns-in-Ok-clause-at_most : goal.returns-in-Ok-clause-at_most
 returns-in-Ok-clause-at_most g c =
@@ -46,7 +46,7 @@ returns-in-Ok-clause-at_most g c =
       pages = option_map (λ those. those.items) c.records.inside.pages;
     } in
     subst (λ (r : RecordsOf). FilledAtMost (g.S.Steps.fills c.args.steps.now) (g.S.Steps.fills c.make.new.steps) (length (pages_of (state_of (text_of c.args.text.now.lines) r))))
-    (on-paper kept c.args.records.now c.replace-before.new.dest c.args.paper c.records.view_is c.replace-before.ensures.after) (rw c.lines.ensures.lines at c.make.ensures.at_most)
+    (on-paper kept c.args.records.now c.replace-before.new.dest c.args.paper c.records.view_is c.replace-before.ensures.after) c.make.ensures.at_most
 
 pub returns-in-Err-clause-at_most : goal.returns-in-Err-clause-at_most
 returns-in-Err-clause-at_most g c =
@@ -58,4 +58,4 @@ returns-in-Err-clause-at_most g c =
       pages = option_map (λ those. those.items) c.records.inside.pages;
     } in
     subst (λ (r : RecordsOf). FilledAtMost (g.S.Steps.fills c.args.steps.now) (g.S.Steps.fills c.make.new.steps) (length (pages_of (state_of (text_of c.args.text.now.lines) r))))
-    (on-paper kept c.args.records.now c.replace-before.new.dest c.args.paper c.records.view_is c.replace-before.ensures.after) (rw c.lines.ensures.lines at c.make.ensures.at_most)
+    (on-paper kept c.args.records.now c.replace-before.new.dest c.args.paper c.records.view_is c.replace-before.ensures.after) c.make.ensures.at_most

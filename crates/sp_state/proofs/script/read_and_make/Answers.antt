@@ -24,7 +24,7 @@ returns-in_err-text g c =
 
 pub returns-in_err-made : goal.returns-in_err-made
 returns-in_err-made g c =
-    let lines = c.lines.ensures.lines ∙ c.in_ok-text.ensures.lines in
+    let lines = c.in_ok-text.ensures.lines in
     let p = err_from_is_err_and c.from_residual-in_err-made.result c.from_residual-in_err-made.ensures.1 in
     rw p.1 (record {
       lines = tt;
@@ -39,7 +39,7 @@ returns-in_err-made g c =
 
 pub returns : goal.returns
 returns g c =
-    let lines = c.lines.ensures.lines ∙ c.in_ok-text.ensures.lines in
+    let lines = c.in_ok-text.ensures.lines in
     let made = rw lines at c.in_ok-made.ensures in
     let state : State = state_of (text_of c.args.lines) c.args.records.now in
     record {

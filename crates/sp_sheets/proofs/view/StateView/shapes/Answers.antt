@@ -11,7 +11,7 @@ use Rattle.sp_sheets.proofs.view.StateView.shapes.Goals as goal
 
 pub returns : goal.returns
 returns c =
-    let state : State = state_of (text_of c.self.inside.lines.now) c.self.inside.records.now in
+    let state : State = state_of (text_of c.self.inside.text.now.lines) c.self.inside.records.now in
     c.body_shapes.ensures
     ∙ ap shapes_in (body-made state c.self.inside.made.now c.self.invariant.1)
     ∙ sym (same-shapes state)

@@ -11,10 +11,11 @@ use Rattle.sp_state.proofs.script.Script.lock_scenes.Goals as goal
 pub returns : goal.returns
 returns c =
     let new : State = state_of (text_of c.self.inside.text.lines) c.lock_scenes_made.new.records in
-    subst (λ (s : State). IsOpening (scenes_refusal s) (scenes_locked s) s new c.lock_scenes_made.result) c.self.view_is (rw c.lines-lines.ensures.lines at c.lock_scenes_made.ensures.opening)
+    subst (λ (s : State). IsOpening (scenes_refusal s) (scenes_locked s) s new c.lock_scenes_made.result) c.self.view_is c.lock_scenes_made.ensures.opening
 
 pub invariant_of-self : goal.invariant_of-self
 invariant_of-self c =
     let old : State = state_of (text_of c.self.inside.text.lines) c.self.inside.records in
     let new : State = state_of (text_of c.self.inside.text.lines) c.lock_scenes_made.new.records in
-    ((rw c.lines-lines.ensures.lines at c.lock_scenes_made.ensures.whole), (rw c.lines-lines.ensures.lines at c.lock_scenes_made.ensures.made), c.self.invariant.2 ∙ sym (scenes-stay old new c.lock_scenes_made.result (rw c.lines-lines.ensures.lines at c.lock_scenes_made.ensures.opening)), tt)
+    let done = c.lock_scenes_made.ensures in
+    (done.whole, done.made, c.self.invariant.2 ∙ sym (scenes-stay old new c.lock_scenes_made.result done.opening), tt)

@@ -3,22 +3,19 @@ use Rattle.spec_state.specs.State.{State}
 use Rattle.spec_state.specs.Keeping.{state_of}
 use Rattle.spec_state.specs.Openings.{round_begun}
 use Rattle.spec_machine.specs.Refusals.{round_refusal}
-use Rattle.sp_text.specs.Gap.{LinesState, text_of}
+use Rattle.sp_text.specs.Gap.{text_of}
 use Rattle.sp_sheets.specs.Openings.{IsOpening}
 use Rattle.sp_sheets.proofs.OpeningPages.{round-stay}
 use Rattle.sp_state.proofs.script.Script.next_round.Goals as goal
 
 pub returns : goal.returns
 returns c =
-    let P : LinesState → Type 0 = λ lines. let old : State = state_of (text_of lines) c.self.inside.records in IsOpening (round_refusal old) (round_begun old) old (state_of (text_of lines) c.next_round_made.new.records) c.next_round_made.result in
-    let opening = subst P c.lines-lines.ensures.lines c.next_round_made.ensures.opening in
     let new : State = state_of (text_of c.self.inside.text.lines) c.next_round_made.new.records in
-    subst (λ (s : State). IsOpening (round_refusal s) (round_begun s) s new c.next_round_made.result) c.self.view_is opening
+    subst (λ (s : State). IsOpening (round_refusal s) (round_begun s) s new c.next_round_made.result) c.self.view_is c.next_round_made.ensures.opening
 
 pub invariant_of-self : goal.invariant_of-self
 invariant_of-self c =
-    let P : LinesState → Type 0 = λ lines. let old : State = state_of (text_of lines) c.self.inside.records in IsOpening (round_refusal old) (round_begun old) old (state_of (text_of lines) c.next_round_made.new.records) c.next_round_made.result in
-    let opening = subst P c.lines-lines.ensures.lines c.next_round_made.ensures.opening in
     let old : State = state_of (text_of c.self.inside.text.lines) c.self.inside.records in
     let new : State = state_of (text_of c.self.inside.text.lines) c.next_round_made.new.records in
-    ((rw c.lines-lines.ensures.lines at c.next_round_made.ensures.whole), (rw c.lines-lines.ensures.lines at c.next_round_made.ensures.made), c.self.invariant.2 ∙ sym (round-stay old new c.next_round_made.result c.self.invariant.0 opening), tt)
+    let done = c.next_round_made.ensures in
+    (done.whole, done.made, c.self.invariant.2 ∙ sym (round-stay old new c.next_round_made.result c.self.invariant.0 done.opening), tt)
