@@ -21,7 +21,7 @@ pub invariant_of-self : goal.invariant_of-self
 invariant_of-self c =
     let inside = c.self.inside in
     let kept = c.self.invariant in
-    let P : TextOf → Type 0 = λ text. IsWhole (state_of (text_of text.lines) inside.records) × IsMadeOf (state_of (text_of text.lines) inside.records) inside.made × (inside.pages.starts ≡ pages_of (state_of (text_of text.lines) inside.records)) in
+    let P : TextOf → Type 0 = λ text. IsWhole (state_of (text_of text.lines) inside.records) × IsMadeOf (state_of (text_of text.lines) inside.records) inside.made × (inside.starts.pages.starts ≡ pages_of (state_of (text_of text.lines) inside.records)) in
     let (whole, made, pages) = subst P (sym c.make_index.ensures) (kept.0, kept.1, kept.2) in
     (whole, made, pages, tt)
 
@@ -32,6 +32,6 @@ invariant_of-self-2 c =
     let text = c.make_index.new.self in
     let old : State = state_of (text_of text.lines) inside.records in
     let new : State = state_of (text_of text.lines) c.lock_pages_made.new.records in
-    let P : TextOf → Type 0 = λ text. IsWhole (state_of (text_of text.lines) inside.records) × (inside.pages.starts ≡ pages_of (state_of (text_of text.lines) inside.records)) in
+    let P : TextOf → Type 0 = λ text. IsWhole (state_of (text_of text.lines) inside.records) × (inside.starts.pages.starts ≡ pages_of (state_of (text_of text.lines) inside.records)) in
     let (whole, pages) = subst P (sym c.make_index.ensures) (kept.0, kept.2) in
     ((rw c.lines-lines.ensures.lines at c.lock_pages_made.ensures.whole), (rw c.lines-lines.ensures.lines at c.lock_pages_made.ensures.made), pages ∙ sym (pages-stay old new c.lock_pages_made.result whole (rw c.lines-lines.ensures.lines at c.lock_pages_made.ensures.opening)), tt)
