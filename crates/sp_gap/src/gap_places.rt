@@ -183,40 +183,55 @@ fn none_moves(come: usize, go: usize, less: usize, more: usize) -> bool
     come == go && less == more
 }
 
+/// The places of a list from one to before another, which count from a base, and how much less and more the later ones are after
+/// their exchange.
+#[derive(Clone, Copy)]
+struct Run {
+    from: usize,
+    to: usize,
+    base: usize,
+    less: usize,
+    more: usize,
+}
+
 /// Exchanges places of a list round a gap. Where as many come as go and no later one is less or more, no other is moved; else the gap
 /// comes behind them.
 fn exchange_round(
     front: &mut Vec<usize>,
     back: &mut Vec<usize>,
     end: usize,
-    from: usize,
-    to: usize,
+    run: Run,
     items: &mut Vec<usize>,
     others_end: usize,
-    base: usize,
-    less: usize,
-    more: usize,
 )
-    requires order { from ≤ to }
-    requires within { to ≤ vec_len front.old + vec_len back.old }
+    requires order { run.from ≤ run.to }
+    requires within { run.to ≤ vec_len front.old + vec_len back.old }
     requires room { vec_len front.old + vec_len back.old + vec_len items.old ≤ vec_capacity front.old }
-    requires items_room { to - from ≤ vec_capacity items.old }
+    requires items_room { run.to - run.from ≤ vec_capacity items.old }
     requires front_low { All (λ place. place ≤ end) front.old.items }
     requires back_low { All (λ place. place ≤ end) back.old.items }
     requires items_low { All (λ place. place ≤ others_end) items.old.items }
-    requires can { CanExchangePlaces (round_gap front.old.items back.old.items end) end from to base less more
-        others_end }
-    ensures list { round_gap front.new.items back.new.items (end - less + more)
-        ≡ with_places (round_gap front.old.items back.old.items end) from to items.old.items base less more }
+    requires can { CanExchangePlaces (round_gap front.old.items back.old.items end) end run.from run.to run.base
+        run.less run.more others_end }
+    ensures list { round_gap front.new.items back.new.items (end - run.less + run.more)
+        ≡ with_places (round_gap front.old.items back.old.items end) run.from run.to items.old.items run.base
+        run.less run.more }
     ensures items { items.new.items
-        ≡ map (shifted base 0) (slice_range (round_gap front.old.items back.old.items end) from to) }
+        ≡ map (shifted run.base 0) (slice_range (round_gap front.old.items back.old.items end) run.from run.to) }
     ensures fits { vec_len front.new + vec_len back.new ≤ vec_capacity front.new }
-    ensures front_low { All (λ place. place ≤ end - less + more) front.new.items }
-    ensures back_low { All (λ place. place ≤ end - less + more) back.new.items }
-    ensures items_low { All (λ place. place ≤ less - base) items.new.items }
+    ensures front_low { All (λ place. place ≤ end - run.less + run.more) front.new.items }
+    ensures back_low { All (λ place. place ≤ end - run.less + run.more) back.new.items }
+    ensures items_low { All (λ place. place ≤ run.less - run.base) items.new.items }
     ensures room { vec_capacity front.new ≡ vec_capacity front.old }
     ensures items_room { vec_capacity items.new ≡ vec_capacity items.old }
 {
+    let Run {
+        from,
+        to,
+        base,
+        less,
+        more,
+    } = run;
     let ahead = front.len();
     let stays = none_moves(items.len(), to - from, less, more);
     if stays && ahead <= from {
@@ -340,17 +355,20 @@ impl GapPlaces {
         ensures other_room { other.new.room ≡ other.old.room }
     {
         close(&mut other.front, &mut other.back, other.end);
+        let run = Run {
+            from,
+            to,
+            base,
+            less,
+            more,
+        };
         exchange_round(
             &mut self.front,
             &mut self.back,
             self.end,
-            from,
-            to,
+            run,
             &mut other.front,
             other.end,
-            base,
-            less,
-            more,
         );
         self.end = self.end - less + more;
         other.end = less - base;

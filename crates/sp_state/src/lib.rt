@@ -4,6 +4,7 @@
 
 mod editing;
 mod entry;
+mod laid;
 mod script;
 mod turning;
 

@@ -24,6 +24,7 @@ ghost use Rattle.sp_text_entry.specs.TextEntries.{edited_by, refusal_at};
 
 use crate::editing::{edit_made, made_on, made_with_speakers, put_made, turn_made};
 use crate::entry::{Entry, Unturned};
+use crate::turning::PageStarts;
 use sp_exchange::Text;
 use sp_kit::Steps;
 use sp_locks::Sheet;
@@ -44,10 +45,8 @@ use std::marker::Model;
 pub struct Script {
     text: Text,
     records: Records,
-    pages: Pages,
     made: Made,
-    /// The first rows of its page records, where they are known.
-    firsts: Option<Vec<usize>>,
+    starts: PageStarts,
 }
 
 /// One call wherever it is dropped, so that no proof there follows each of its fields.
@@ -56,9 +55,8 @@ impl Drop for Script {
         let Script {
             text: _text,
             records: _records,
-            pages: _pages,
             made: _made,
-            firsts: _firsts,
+            starts: _starts,
         } = self;
     }
 }
@@ -67,7 +65,7 @@ impl Model for Script {
     ghost use Rattle.std.specs.Prelude.{◌≡◌, IfSome};
     ghost use Rattle.spec_state.specs.State.{State};
     ghost use Rattle.spec_state.specs.Keeping.{IsWhole};
-    ghost use Rattle.sp_sheets.specs.States.{state_with};
+    ghost use Rattle.sp_text_entry.specs.TextEntries.{state_with};
     ghost use Rattle.spec_locked_pages.specs.Segments.{pages_of};
     ghost use Rattle.sp_sheets.specs.Firsts.{first_rows};
     ghost use Rattle.sp_sheets.specs.Made.{IsMadeOf};
@@ -77,8 +75,8 @@ impl Model for Script {
     ghost view = { λ s. state_with s.text s.records };
 
     ghost invariant = { λ s. IsWhole (state_with s.text s.records) × IsMadeOf (state_with s.text s.records) s.made
-        × (s.pages.starts ≡ pages_of (state_with s.text s.records))
-        × IfSome s.firsts (λ those. those.items ≡ first_rows (state_with s.text s.records)) };
+        × (s.starts.pages.starts ≡ pages_of (state_with s.text s.records))
+        × IfSome s.starts.firsts (λ those. those.items ≡ first_rows (state_with s.text s.records)) };
 }
 
 /// Lines with their stanzas, and what is made of them with these records. Each stanza is read once, and each page filled once.
@@ -98,7 +96,7 @@ fn read_and_make<S: Steps>(
     ensures fills_at_most { FillsAtMostAll (state_in lines records.now) (S.fills steps.old) (S.fills steps.new) }
 {
     let text = Text::new(alloc, lines, steps)?;
-    let (made, pages) = make(alloc, &text, records, steps)?;
+    let (made, pages) = make(alloc, text.lines(), text.stanzas(), records, steps)?;
     Ok((text, made, pages))
 }
 
@@ -149,9 +147,11 @@ impl Script {
         Ok(Script {
             text,
             records,
-            pages,
             made,
-            firsts: None,
+            starts: PageStarts {
+                pages,
+                firsts: None,
+            },
         })
     }
 
@@ -159,7 +159,9 @@ impl Script {
     pub fn view(&self) -> StateView<'_>
         ensures { result ≡ self.now }
     {
-        StateView::new(&self.text, &self.records, &self.made)
+        let lines = self.text.lines();
+        let stanzas = self.text.stanzas();
+        StateView::new(lines, stanzas, &self.records, &self.made)
     }
 
     /// Lends its lines.
@@ -245,10 +247,8 @@ impl Script {
             alloc,
             &mut self.text,
             &mut self.records,
-            &mut self.made.layout,
-            &mut self.pages,
-            &mut self.made.numbered,
-            &mut self.firsts,
+            &mut self.made,
+            &mut self.starts,
             edit,
             steps,
         )?;
@@ -275,10 +275,8 @@ impl Script {
             alloc,
             &mut self.text,
             &mut self.records,
-            &mut self.made.layout,
-            &mut self.pages,
-            &mut self.made.numbered,
-            &mut self.firsts,
+            &mut self.made,
+            &mut self.starts,
             entry,
         )?;
         Ok(other)
@@ -294,11 +292,11 @@ impl Script {
             alloc,
             &self.text,
             &mut self.records,
-            &self.pages,
+            &self.starts.pages,
             &self.made.numbered.title_starts,
             on,
         )?;
-        put_made(&mut self.made, &mut self.firsts, made);
+        put_made(&mut self.made, &mut self.starts.firsts, made);
         Ok(())
     }
 
@@ -319,8 +317,8 @@ impl Script {
             (S.fills steps.old) (S.fills steps.new) }
     {
         let (made, pages) = made_on(alloc, &self.text, &mut self.records, paper, steps)?;
-        put_made(&mut self.made, &mut self.firsts, made);
-        self.pages = pages;
+        put_made(&mut self.made, &mut self.starts.firsts, made);
+        self.starts.pages = pages;
         Ok(())
     }
 
@@ -330,8 +328,10 @@ impl Script {
     pub fn lock_scenes(&mut self, alloc: Global) -> Result<(), OpeningFault>
         ensures { IsOpening (scenes_refusal self.old) (scenes_locked self.old) self.old self.new result }
     {
-        self.firsts = None;
-        lock_scenes_made(alloc, &self.text, &mut self.records, &mut self.made)
+        self.starts.firsts = None;
+        let lines = self.text.lines();
+        let stanzas = self.text.stanzas();
+        lock_scenes_made(alloc, lines, stanzas, &mut self.records, &mut self.made)
     }
 
     /// Locks pages: each page gets a record, and each heading that has none (docs/RULES.md, "Page records"). No stanza is
@@ -340,8 +340,11 @@ impl Script {
     pub fn lock_pages(&mut self, alloc: Global) -> Result<(), OpeningFault>
         ensures { IsOpening (pages_refusal self.old) (pages_locked self.old) self.old self.new result }
     {
-        self.firsts = None;
-        lock_pages_made(alloc, &mut self.text, &mut self.records, &self.made)
+        self.starts.firsts = None;
+        self.text.make_index()?;
+        let lines = self.text.lines();
+        let stanzas = self.text.stanzas();
+        lock_pages_made(alloc, lines, stanzas, &mut self.records, &self.made)
     }
 
     /// Begins the next round: where scenes are locked each heading that has no record gets one, and where pages are locked each
@@ -351,7 +354,9 @@ impl Script {
     pub fn next_round(&mut self, alloc: Global) -> Result<(), OpeningFault>
         ensures { IsOpening (round_refusal self.old) (round_begun self.old) self.old self.new result }
     {
-        self.firsts = None;
-        next_round_made(alloc, &self.text, &mut self.records, &self.made)
+        self.starts.firsts = None;
+        let lines = self.text.lines();
+        let stanzas = self.text.stanzas();
+        next_round_made(alloc, lines, stanzas, &mut self.records, &self.made)
     }
 }
