@@ -1,6 +1,7 @@
-use Rattle.std.proofs.Common.{◌≡◌, ◌<◌, List, get_or, ap, ap₂, sym, subst, ◌∙◌, eq-eqb}
+use Rattle.std.proofs.Common.{◌≡◌, ◌<◌, All, List, get_or, map, ap, ap₂, sym, subst, ◌∙◌, eq-eqb}
 use Rattle.spec_text.specs.Lines.{line_texts}
-use Rattle.spec_pages.specs.Rows.{Cell, Row, shifted_row}
+use Rattle.spec_pages.specs.Rows.{Cell, Row, shifted_cell, shifted_row}
+use Rattle.spec_sheets.specs.Cells.{RowShows, ShowsParts}
 use Rattle.spec_sheets.specs.Layout.{placed_in}
 use Rattle.spec_sheets.specs.Shown.{no_row}
 use Rattle.spec_state.specs.SameRows.{BareRow, same_row}
@@ -21,6 +22,14 @@ returns-then-not-same_key c =
     (bare-at it.old it.olds c.args.row c.row-one.result.first was c.row-one.result.key no_row c.self.invariant.0 (subst (λ (b : Both). c.args.row < row_count b.olds) (sym c.self.view_is) c.requires.row) (c.row-one.ensures.row no_row) c.row-one.ensures.key)
     (bare-at it.new.now.lines (keyed_elements it.news.now) c.args.other c.row_at-it.result.first now c.row_at-it.result.key no_row c.self.invariant.1 (subst (λ (b : Both). c.args.other < row_count b.news) (sym c.self.view_is) c.requires.other) (c.row_at-it.ensures.row no_row) c.row_at-it.ensures.key)
     ∙ other-key one other (sym c.same_key.ensures ∙ c.if-not-same_key.true))
+
+pub same_cells-requires-clause-olds : goal.same_cells-requires-clause-olds
+same_cells-requires-clause-olds c =
+    let it = c.self.inside in
+    let first = c.row-one.result.first in
+    let inside = subst (λ (b : Both). c.args.row < row_count b.olds) (sym c.self.view_is) c.requires.row in
+    let shows : RowShows (line_texts it.old) (shifted_row first c.row-one.result.row.now) = subst (RowShows (line_texts it.old)) (c.row-one.ensures.row no_row) (c.self.invariant.0.show c.args.row no_row inside) in
+    subst (λ (cells : List Cell). All (ShowsParts (line_texts it.old)) (map (shifted_cell first) cells)) (sym c.cells_of.ensures) shows.cells
 
 pub returns : goal.returns
 returns c =
