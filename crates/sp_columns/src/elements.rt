@@ -2,6 +2,7 @@
 ghost use Rattle.std.specs.Prelude.{◌≡◌, ◌≤◌, IfOk, OnOk};
 ghost use Rattle.spec_text.specs.Lines.{line_texts};
 ghost use Rattle.spec_script.specs.BlockParts.{BlockLies};
+ghost use Rattle.spec_script.specs.Elements.{PlacedLies};
 ghost use Rattle.spec_pages.specs.Rows.{block_alone, blocks_beside, dual_rows, is_title, number_cell, numbered_cells, single_rows, with_number};
 ghost use Rattle.sp_columns.specs.CellLists.{cells_in};
 
@@ -9,7 +10,7 @@ use crate::columns::{first_lead, has_rows};
 use crate::lines::block_rows;
 use crate::speakers::tell_speakers;
 use crate::{Cell, CellList, Row, join_rows, shape_rows, title_rows};
-use sp_blocks::{Block, plain_runs};
+use sp_blocks::{Block, PlacedBlock, plain_runs};
 use sp_text::Lines;
 use spec_pages::{NUMBER_BEFORE, NUMBER_BEHIND, Side};
 use spec_script::Kind;
@@ -102,50 +103,47 @@ pub fn single_rows(
 fn blocks_beside(
     alloc: Global,
     lines: &Lines,
-    first: usize,
-    block: &Block,
-    second_first: usize,
-    second: &Block,
+    left: &PlacedBlock<'_>,
+    right: &PlacedBlock<'_>,
 ) -> Result<Vec<Row>, AllocError>
-    requires left { BlockLies (line_texts lines.now.lines) first block.now }
-    requires right { BlockLies (line_texts lines.now.lines) second_first second.now }
-    requires order { first ≤ second_first }
-    ensures { IfOk result (λ rows. rows.items ≡ blocks_beside lines.now.lines first block.now second_first second.now) }
+    requires left { PlacedLies (line_texts lines.now.lines) left.now }
+    requires right { PlacedLies (line_texts lines.now.lines) right.now }
+    requires order { left.now.first ≤ right.now.first }
+    ensures { IfOk result (λ rows. rows.items
+        ≡ blocks_beside lines.now.lines left.now.first left.now.block right.now.first right.now.block) }
 {
-    let shift = (second_first - first) as u32;
-    let mut rows = block_rows(alloc, lines, first, 0, Side::Left, block)?;
-    let right = block_rows(alloc, lines, second_first, shift, Side::Right, second)?;
-    join_rows(alloc, &mut rows, right)?;
+    let shift = (right.first - left.first) as u32;
+    let mut rows = block_rows(alloc, lines, left.first, 0, Side::Left, left.block)?;
+    let others = block_rows(alloc, lines, right.first, shift, Side::Right, right.block)?;
+    join_rows(alloc, &mut rows, others)?;
     shape_rows(&mut rows, 1);
     Ok(rows)
 }
 
-/// The rows of two speeches as dual dialogue (docs/RULES.md, "Elements"), in order: the block of the stanza that begins
-/// at the line `first` on the left, from which the rows and cells count their lines, and `second` of the one that begins
-/// at `second_first`, no earlier line, on the right. Where a speech is continued, `(CONT'D)` stands behind its cue: behind
-/// the left one by `continued`, behind the right one by `second_continued`. Both blocks lie in the lines, as those that
-/// `read_stanza` gives there do. The error is want of memory alone.
+/// The rows of two speeches as dual dialogue (docs/RULES.md, "Elements"), in order: the left one, from the first line of
+/// whose stanza the rows and cells count their lines, and the right one of a stanza that begins no earlier. Where a
+/// speech is continued, `(CONT'D)` stands behind its cue: behind the left one by `continued`, behind the right one by
+/// `second_continued`. Both blocks lie in the lines, as those that `read_stanza` gives there do. The error is want of
+/// memory alone.
 pub fn dual_rows(
     alloc: Global,
     lines: &Lines,
-    first: usize,
-    block: &Block,
+    left: &PlacedBlock<'_>,
     continued: bool,
-    second_first: usize,
-    second: &Block,
+    right: &PlacedBlock<'_>,
     second_continued: bool,
 ) -> Result<Vec<Row>, AllocError>
-    requires left { BlockLies (line_texts lines.now.lines) first block.now }
-    requires right { BlockLies (line_texts lines.now.lines) second_first second.now }
-    requires order { first ≤ second_first }
-    ensures { IfOk result (λ rows.
-        rows.items ≡ dual_rows lines.now.lines first block.now continued second_first second.now second_continued) }
+    requires left { PlacedLies (line_texts lines.now.lines) left.now }
+    requires right { PlacedLies (line_texts lines.now.lines) right.now }
+    requires order { left.now.first ≤ right.now.first }
+    ensures { IfOk result (λ rows. rows.items ≡ dual_rows lines.now.lines left.now.first left.now.block continued
+        right.now.first right.now.block second_continued) }
 {
-    let mut rows = blocks_beside(alloc, lines, first, block, second_first, second)?;
+    let mut rows = blocks_beside(alloc, lines, left, right)?;
     tell_speakers(
         alloc,
         lines,
-        first,
+        left.first,
         &[continued, second_continued],
         &mut rows,
     )?;

@@ -93,16 +93,7 @@ fn add_pair(
     ensures { OnOk result (layout.new ≡ with_laid lines.now.lines layout.old
         (spoken_beside left.now continued right.now second_continued)) }
 {
-    let rows = dual_rows(
-        alloc,
-        lines,
-        left.first,
-        left.block,
-        continued,
-        right.first,
-        right.block,
-        second_continued,
-    )?;
+    let rows = dual_rows(alloc, lines, left, continued, right, second_continued)?;
     let element = Element {
         first: left.first as u64,
         rows,
