@@ -10,9 +10,9 @@ use Rattle.sp_kit.specs.Outside.{SourceState, SinkState}
 use Rattle.sp_run.specs.declared.form.View.{View}
 use Rattle.sp_run.specs.declared.status.Status.{Status}
 use Rattle.sp_run.specs.declared.status.Status.TheVariants as statuses
-use Rattle.sp_run.specs.Asking.{AsksOne, AsksTwo, BesideAsks, BesideStatusAsks, CollatedAsks, CollationAsks, OpeningAsks, OriginAsks, ScriptAsks, StatusAsks, WholeAsks}
+use Rattle.sp_run.specs.Asking.{AsksOne, AsksSheets, AsksTwo, BesideAsks, BesideStatusAsks, CollatedAsks, CollationAsks, OpeningAsks, OriginAsks, ScriptAsks, StatusAsks, WholeAsks}
 use Rattle.sp_run.specs.Collating.{sheets_limit}
-use Rattle.sp_run.specs.Fetching.{NotFetched}
+use Rattle.sp_run.specs.Fetching.{FetchedFile, NotFetched}
 use Rattle.sp_run.specs.Forms.{OriginOf, from_source, from_file}
 use Rattle.sp_run.specs.Opening.{HadNone, HasScript, NotBeside}
 use Rattle.sp_run.specs.Records.{records_name}
@@ -252,8 +252,13 @@ first-asks one other old new statuses.InputFull none asks = absurd none
 first-asks one other old new (statuses.BadSheets file sheet) none asks = absurd none
 first-asks one other old new statuses.NotLocked none asks = absurd none
 
+-- The new file was asked for where the old one was fetched.
+pub sheets-asked : (one other bytes : List ℕ) (old mid new : ShelfState) → FetchedFile sheets_limit old mid one bytes → AsksOne one old mid → AsksOne other mid new → AsksSheets one other old new
+unfolding two-asks
+sheets-asked one other bytes old mid new given first second = record { both = two-asks one other bytes old mid new given.finds.found first second; low = given.low }
+
 -- Both were asked for, whatever the status.
-pub both-ask : (one other : List ℕ) (old new : ShelfState) (status : Status) → AsksTwo one other old new → CollationAsks one other old new status
+pub both-ask : (one other : List ℕ) (old new : ShelfState) (status : Status) → AsksSheets one other old new → CollationAsks one other old new status
 both-ask one other old new statuses.Done both = both
 both-ask one other old new statuses.Usage both = inr both
 both-ask one other old new (statuses.NoFile given) both = inr both

@@ -1,9 +1,10 @@
 -- What a run asks a shelf, as far as that tells its calls (docs/RULES.md, "The program").
-use Rattle.std.specs.Prelude.{◌≡◌, ℕ, ◌⊎◌, List, [], ◌∷◌, flat_map, string_bytes, Option, Ok, Err}
+use Rattle.std.specs.Prelude.{◌≡◌, ℕ, ◌≤◌, ◌⊎◌, List, [], ◌∷◌, flat_map, length, string_bytes, Option, Ok, Err}
 use Rattle.std.specs.declared.result.Result.{Result}
 use Rattle.sp_kit.specs.Files.{Asks, CallOf, ShelfState, fetch}
 use Rattle.sp_run.specs.declared.status.Status.{Status}
 use Rattle.sp_run.specs.declared.status.Status.TheVariants as statuses
+use Rattle.sp_run.specs.Collating.{sheets_limit}
 use Rattle.sp_run.specs.Forms.{OriginOf, from_source, from_file}
 use Rattle.sp_run.specs.Opening.{HasScript}
 use Rattle.sp_run.specs.Records.{records_name}
@@ -97,14 +98,19 @@ SaysMissing name _ = ⊥
 
 -- ---- a collation
 
+-- Both files were asked for, one behind the other, the first of which is within the limit.
+pub record AsksSheets (one other : List ℕ) (old new : ShelfState) : Type 0 where
+  pub both : AsksTwo one other old new
+  pub low : length both.bytes ≤ sheets_limit
+
 -- By the status: the old file alone where that is missing or too long, and both where the new one was judged.
 abbrev pub CollationAsks : List ℕ → List ℕ → ShelfState → ShelfState → Status → Type 0
-CollationAsks one other old new statuses.Done = AsksTwo one other old new
-CollationAsks one other old new statuses.WriteFault = AsksTwo one other old new
-CollationAsks one other old new (statuses.BadSheets file sheet) = AsksTwo one other old new
-CollationAsks one other old new _ = AsksInOrder one other old new
+CollationAsks one other old new statuses.Done = AsksSheets one other old new
+CollationAsks one other old new statuses.WriteFault = AsksSheets one other old new
+CollationAsks one other old new (statuses.BadSheets file sheet) = AsksSheets one other old new
+CollationAsks one other old new _ = AsksOne one old new ⊎ AsksSheets one other old new
 
 -- The same by the answer, which is a status where it is an error.
 abbrev pub CollatedAsks : {T : Type 0} → List ℕ → List ℕ → ShelfState → ShelfState → Result T Status → Type 0
-CollatedAsks one other old new (Ok it) = AsksTwo one other old new
+CollatedAsks one other old new (Ok it) = AsksSheets one other old new
 CollatedAsks one other old new (Err status) = CollationAsks one other old new status

@@ -1,7 +1,7 @@
 use Rattle.spec_packet.specs.BytesCollated.{collated_bytes}
 use Rattle.sp_run.specs.Collating.{NotCollated}
 use Rattle.sp_run.specs.Statuses.{status_of_sheets}
-use Rattle.sp_run.proofs.Asked.{both-ask, collated-err, first-asks, two-asks}
+use Rattle.sp_run.proofs.Asked.{both-ask, collated-err, first-asks, sheets-asked}
 use Rattle.sp_run.proofs.OpenedStates.{err-is}
 use Rattle.sp_run.proofs.Collations.{both-come, collation-refused, first-refused, second-refused}
 use Rattle.sp_run.proofs.collation.collated.Goals as goal
@@ -55,7 +55,7 @@ returns-in_err-second-clause-asks g c =
     let between = g.F.Shelf.state c.fetch_file.new.shelf in
     let after = g.F.Shelf.state c.fetch_file-2.new.shelf in
     let status = c.in_err-second.field-0.0 in
-    let both = two-asks c.args.old.now c.args.new.now c.in_ok-first.first.items shelf between after (c.in_ok-first.ensures.given).finds.found c.fetch_file.ensures.asks c.fetch_file-2.ensures.asks in
+    let both = sheets-asked c.args.old.now c.args.new.now c.in_ok-first.first.items shelf between after c.in_ok-first.ensures.given c.fetch_file.ensures.asks c.fetch_file-2.ensures.asks in
     collated-err c.args.old.now c.args.new.now shelf after status c.from_residual-in_err-second.result c.from_residual-in_err-second.ensures.1 (both-ask c.args.old.now c.args.new.now shelf after status both)
 
 pub returns-in_err-collate-clause-asks : goal.returns-in_err-collate-clause-asks
@@ -64,10 +64,10 @@ returns-in_err-collate-clause-asks g c =
     let between = g.F.Shelf.state c.fetch_file.new.shelf in
     let after = g.F.Shelf.state c.fetch_file-2.new.shelf in
     let status = status_of_sheets c.in_err-collate.field-0.0 in
-    let both = two-asks c.args.old.now c.args.new.now c.in_ok-first.first.items shelf between after (c.in_ok-first.ensures.given).finds.found c.fetch_file.ensures.asks c.fetch_file-2.ensures.asks in
+    let both = sheets-asked c.args.old.now c.args.new.now c.in_ok-first.first.items shelf between after c.in_ok-first.ensures.given c.fetch_file.ensures.asks c.fetch_file-2.ensures.asks in
     collated-err c.args.old.now c.args.new.now shelf after status c.from_residual-in_err-collate.result c.from_residual-in_err-collate.ensures.1 (both-ask c.args.old.now c.args.new.now shelf after status both)
 
 pub returns-clause-asks : goal.returns-clause-asks
 returns-clause-asks g c =
-    two-asks c.args.old.now c.args.new.now c.in_ok-first.first.items (g.F.Shelf.state c.args.shelf.now) (g.F.Shelf.state c.fetch_file.new.shelf) (g.F.Shelf.state c.fetch_file-2.new.shelf)
-    (c.in_ok-first.ensures.given).finds.found c.fetch_file.ensures.asks c.fetch_file-2.ensures.asks
+    sheets-asked c.args.old.now c.args.new.now c.in_ok-first.first.items (g.F.Shelf.state c.args.shelf.now) (g.F.Shelf.state c.fetch_file.new.shelf) (g.F.Shelf.state c.fetch_file-2.new.shelf)
+    c.in_ok-first.ensures.given c.fetch_file.ensures.asks c.fetch_file-2.ensures.asks
