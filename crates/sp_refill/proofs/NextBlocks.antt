@@ -7,7 +7,7 @@ use Rattle.spec_script.specs.Stanzas.{PlacedBlock, blocks_from}
 use Rattle.spec_script.specs.Elements.{placed_at}
 use Rattle.spec_edit.specs.WindowBlocks.{WindowBlocks, is_nil, joined_by, last_block, first_block, joins, front_relaid}
 use Rattle.spec_edit.proofs.RelaidElements.{last-behind}
-use Rattle.sp_refill.specs.Neighbours.{is_pair, is_there, nearer, first_one, last_one, first_in, last_in, relays_front, parts_rest, relays_before}
+use Rattle.sp_refill.specs.Neighbours.{are_dual, is_there, nearer, first_one, last_one, first_in, last_in, relays_front, parts_rest, relays_before}
 
 abbrev pub block_by : Option PlacedBlock → Option BlockOf
 block_by o = option_map (λ (placed : PlacedBlock). placed.block) o
@@ -69,13 +69,13 @@ last-is n (s ∷ ss) =
 
 -- ---- pairs
 
-joined-pair : (a b : Option PlacedBlock) → joined_by a b ≡ is_pair (block_by a) (block_by b)
+joined-pair : (a b : Option PlacedBlock) → joined_by a b ≡ are_dual (block_by a) (block_by b)
 joined-pair None None = refl
 joined-pair None (Some y) = refl
 joined-pair (Some x) None = refl
 joined-pair (Some x) (Some y) = refl
 
-pub joins-pair : (xs ys : List PlacedBlock) → joins xs ys ≡ is_pair (block_by (last_block xs)) (block_by (first_block ys))
+pub joins-pair : (xs ys : List PlacedBlock) → joins xs ys ≡ are_dual (block_by (last_block xs)) (block_by (first_block ys))
 joins-pair xs ys = joined-pair (last_block xs) (first_block ys)
 
 there-nil : (xs : List PlacedBlock) → is_there (block_by (first_block xs)) ≡ not (is_nil xs)
@@ -88,11 +88,11 @@ neither true false c = refl
 neither false b c = refl
 
 module _ (w : WindowBlocks) where
-  front-pairs : (xs : List PlacedBlock) → joins w.front (xs ++ w.rest) ≡ is_pair (block_by (last_block w.front)) (nearer (block_by (first_block xs)) (block_by (first_block w.rest)))
-  front-pairs xs = joins-pair w.front (xs ++ w.rest) ∙ ap (is_pair (block_by (last_block w.front))) (first-append xs w.rest)
+  front-pairs : (xs : List PlacedBlock) → joins w.front (xs ++ w.rest) ≡ are_dual (block_by (last_block w.front)) (nearer (block_by (first_block xs)) (block_by (first_block w.rest)))
+  front-pairs xs = joins-pair w.front (xs ++ w.rest) ∙ ap (are_dual (block_by (last_block w.front))) (first-append xs w.rest)
 
-  rest-pairs : (xs : List PlacedBlock) → joins (w.front ++ xs) w.rest ≡ is_pair (nearer (block_by (last_block xs)) (block_by (last_block w.front))) (block_by (first_block w.rest))
-  rest-pairs xs = joins-pair (w.front ++ xs) w.rest ∙ ap (λ o. is_pair o (block_by (first_block w.rest))) (last-append w.front xs)
+  rest-pairs : (xs : List PlacedBlock) → joins (w.front ++ xs) w.rest ≡ are_dual (nearer (block_by (last_block xs)) (block_by (last_block w.front))) (block_by (first_block w.rest))
+  rest-pairs xs = joins-pair (w.front ++ xs) w.rest ∙ ap (λ o. are_dual o (block_by (first_block w.rest))) (last-append w.front xs)
 
   -- The last block before the window is relaid, by the blocks next to it.
   pub front-relaid : front_relaid w ≡ relays_front (block_by (last_block w.front)) (block_by (first_block w.gone)) (block_by (first_block w.come)) (block_by (first_block w.rest))

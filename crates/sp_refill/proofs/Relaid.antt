@@ -36,7 +36,7 @@ use Rattle.sp_refill.specs.Counts.{RowsBefore, RowsUpTo}
 use Rattle.sp_refill.proofs.NextBlocks.{block_by, last-there, last-append, joins-pair, rest_parted}
 use Rattle.sp_refill.proofs.Groups.{Begins, all-begin, PartedElements, parted-elements, first-element, joined-last}
 use Rattle.sp_refill.proofs.Bodies.{body_in, Low, High, counts-groups, rows-before, one-more}
-use Rattle.sp_refill.specs.Neighbours.{is_pair, nearer}
+use Rattle.sp_refill.specs.Neighbours.{are_dual, nearer}
 
 -- ---- lists
 
@@ -304,14 +304,14 @@ module _ (edit : EditBlocks) (w : WindowBlocks) (it : Around edit w) (olds news 
   -- The block before the first one behind the window is the same as among the relaid ones.
   same-last : IsSome w → (c : PlacedBlock) (r : List PlacedBlock) → w.rest ≡ c ∷ r → joins relaid_front (pushed w.new_end c ∷ []) ≡ joins (w.front ++ w.come) w.rest
   same-last is c r rest =
-      joins-pair relaid_front (pushed w.new_end c ∷ []) ∙ ap (λ o. is_pair o (Some c.block)) (last-append (front_half w) w.come)
+      joins-pair relaid_front (pushed w.new_end c ∷ []) ∙ ap (λ o. are_dual o (Some c.block)) (last-append (front_half w) w.come)
       ∙ by (front_relaid w) refl
-      ∙ sym (ap (λ o. is_pair o (Some c.block)) (last-append w.front w.come))
+      ∙ sym (ap (λ o. are_dual o (Some c.block)) (last-append w.front w.come))
       ∙ sym (joins-pair (w.front ++ w.come) (c ∷ [])) ∙ ap (λ (l : List PlacedBlock). joins (w.front ++ w.come) l) (sym rest)
     where
-      by : (f : Bool) → front_relaid w ≡ f → is_pair (nearer (block_by (last_block w.come)) (block_by (last_block (cond f (only_last w.front) [])))) (Some c.block)
-          ≡ is_pair (nearer (block_by (last_block w.come)) (block_by (last_block w.front))) (Some c.block)
-      by true relays = ap (λ o. is_pair (nearer (block_by (last_block w.come)) (block_by o)) (Some c.block)) (last-only w.front)
+      by : (f : Bool) → front_relaid w ≡ f → are_dual (nearer (block_by (last_block w.come)) (block_by (last_block (cond f (only_last w.front) [])))) (Some c.block)
+          ≡ are_dual (nearer (block_by (last_block w.come)) (block_by (last_block w.front))) (Some c.block)
+      by true relays = ap (λ o. are_dual (nearer (block_by (last_block w.come)) (block_by o)) (Some c.block)) (last-only w.front)
       by false apart = each w.come refl
         where
           free : joins w.front (w.come ++ w.rest) ≡ false
@@ -320,10 +320,10 @@ module _ (edit : EditBlocks) (w : WindowBlocks) (it : Around edit w) (olds news 
               let other = joins w.front (w.come ++ w.rest) in
               (or_parts one other (sym (cond-false (is_nil w.gone && is_nil w.come) false (one || other) is) ∙ apart)).1
 
-          each : (xs : List PlacedBlock) → w.come ≡ xs → is_pair (nearer (block_by (last_block xs)) None) (Some c.block) ≡ is_pair (nearer (block_by (last_block xs)) (block_by (last_block w.front))) (Some c.block)
+          each : (xs : List PlacedBlock) → w.come ≡ xs → are_dual (nearer (block_by (last_block xs)) None) (Some c.block) ≡ are_dual (nearer (block_by (last_block xs)) (block_by (last_block w.front))) (Some c.block)
           each [] none =
               sym (sym (joins-pair w.front (c ∷ r)) ∙ ap (λ (l : List PlacedBlock). joins w.front l) (sym (ap₂ (λ (p q : List PlacedBlock). p ++ q) none rest)) ∙ free)
-          each (m ∷ ms) some = ap (λ o. is_pair o (Some c.block)) (last-there m ms None ∙ sym (last-there m ms (block_by (last_block w.front))))
+          each (m ∷ ms) some = ap (λ o. are_dual o (Some c.block)) (last-there m ms None ∙ sym (last-there m ms (block_by (last_block w.front))))
 
   abbrev old_joined : Bool
   old_joined = joins (w.front ++ w.gone) w.rest

@@ -4,9 +4,9 @@ use Rattle.spec_script.specs.BlockValues.{BlockOf, StanzaOf}
 use Rattle.spec_script.specs.Elements.{is_speech_kind}
 
 -- Two blocks, where both are there, are dual dialogue as neighbours.
-abbrev pub is_pair : Option BlockOf → Option BlockOf → Bool
-is_pair (Some left) (Some right) = is_speech_kind left.kind && not left.caret && is_speech_kind right.kind && right.caret
-is_pair _ _ = false
+abbrev pub are_dual : Option BlockOf → Option BlockOf → Bool
+are_dual (Some left) (Some right) = is_speech_kind left.kind && not left.caret && is_speech_kind right.kind && right.caret
+are_dual _ _ = false
 
 abbrev pub is_there : Option BlockOf → Bool
 is_there None = false
@@ -35,11 +35,11 @@ last_in (stanza ∷ stanzas) = nearer (last_in stanzas) (last_one stanza)
 
 -- The last block before a window is relaid, by the first block of the old window, that of the new one, and the first behind it.
 abbrev pub relays_front : Option BlockOf → Option BlockOf → Option BlockOf → Option BlockOf → Bool
-relays_front front gone come rest = (is_there gone || is_there come) && (is_pair front (nearer gone rest) || is_pair front (nearer come rest))
+relays_front front gone come rest = (is_there gone || is_there come) && (are_dual front (nearer gone rest) || are_dual front (nearer come rest))
 
 -- The first block behind a window is a pair with the last block before it in the old text, and not with that in the new text.
 abbrev pub parts_rest : Option BlockOf → Option BlockOf → Option BlockOf → Bool
-parts_rest old new rest = is_pair old rest && not (is_pair new rest)
+parts_rest old new rest = are_dual old rest && not (are_dual new rest)
 
 -- The stanzas of a new text of which the first `at` stand before a window and the next so many in it, with those that stood in
 -- it: whether the last block before the window is relaid,

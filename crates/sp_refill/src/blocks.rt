@@ -1,13 +1,13 @@
 //! The blocks next to the window of an edit.
 ghost use Rattle.std.specs.Prelude.{◌≡◌, ◌+◌, ◌-◌, ◌≤◌, ◌&&◌, length, take, drop, option_copied, Some};
-ghost use Rattle.sp_refill.specs.Neighbours.{first_in, first_one, is_pair, is_there, last_in, last_one, nearer, parts_behind, parts_rest, relays_before, relays_front};
+ghost use Rattle.sp_refill.specs.Neighbours.{first_in, first_one, are_dual, is_there, last_in, last_one, nearer, parts_behind, parts_rest, relays_before, relays_front};
 
 use sp_blocks::{Block, Stanza, is_speech_kind};
 use sp_reread::{Stanzas, Swapped};
 
 /// Whether two neighbours are dual dialogue, where both are there.
-fn is_pair(left: Option<&Block>, right: Option<&Block>) -> bool
-    ensures { result ≡ is_pair (option_copied left.entry) (option_copied right.entry) }
+fn are_dual(left: Option<&Block>, right: Option<&Block>) -> bool
+    ensures { result ≡ are_dual (option_copied left.entry) (option_copied right.entry) }
 {
     let Some(left) = left else {
         return false;
@@ -123,7 +123,7 @@ fn relays_front(
         (option_copied rest.entry) }
 {
     (is_there(gone) || is_there(come))
-        && (is_pair(front, nearer(gone, rest)) || is_pair(front, nearer(come, rest)))
+        && (are_dual(front, nearer(gone, rest)) || are_dual(front, nearer(come, rest)))
 }
 
 /// Whether the last block before the window of an edit is relaid (docs/RULES.md, "Windows"), by the stanzas of the new text
@@ -147,7 +147,7 @@ pub fn relays_before(stanzas: &Stanzas, swapped: &Swapped) -> bool
 fn parts_rest(old: Option<&Block>, new: Option<&Block>, rest: Option<&Block>) -> bool
     ensures { result ≡ parts_rest (option_copied old.entry) (option_copied new.entry) (option_copied rest.entry) }
 {
-    is_pair(old, rest) && !is_pair(new, rest)
+    are_dual(old, rest) && !are_dual(new, rest)
 }
 
 /// Whether the first block behind the window of an edit was the right one of a pair and stands by itself now (docs/RULES.md,

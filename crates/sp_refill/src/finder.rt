@@ -12,6 +12,7 @@ ghost use Rattle.sp_refill.specs.Edits.{AreAhead, IsBehindSomeEdit, IsOfEdit, Is
 use crate::blocks::{parts_behind, relays_before};
 use crate::elements::{rows_before, rows_up_to};
 use sp_layout::Body;
+use sp_reflow::ExchangedRows;
 use sp_reread::{Stanzas, Swapped};
 use sp_text::Lines;
 use std::marker::Model;
@@ -29,22 +30,6 @@ impl Model for RowsAhead {
     ghost Value = { RowsAheadOf };
 
     ghost view = { λ r. record { first = r.first; all = r.all } };
-}
-
-/// Rows from the first one on were exchanged: so many old ones for so many new ones.
-#[derive(Drop)]
-pub struct ExchangedRows {
-    pub first: usize,
-    pub old: usize,
-    pub new: usize,
-}
-
-impl Model for ExchangedRows {
-    ghost use Rattle.spec_edit.specs.PageWindows.{Exchange};
-
-    ghost Value = { Exchange };
-
-    ghost view = { λ r. record { first = r.first; old = r.old; new = r.new } };
 }
 
 /// The rows from the first one on to before another of the new text, and the row behind them, by how many rows both texts have.

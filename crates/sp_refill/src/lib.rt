@@ -5,4 +5,5 @@ mod blocks;
 mod elements;
 mod finder;
 
-pub use finder::{ExchangedRows, RowsAhead, exchanged_rows, rows_ahead};
+pub use finder::{RowsAhead, exchanged_rows, rows_ahead};
+pub use sp_reflow::ExchangedRows;

@@ -1,8 +1,10 @@
 //! Look-ups in lists of places that never fall.
-ghost use Rattle.std.specs.Prelude.{◌≡◌, true, false, ◌+◌, ◌-◌, ◌<◌, ◌≤◌, length, AllPairs, IfSome, IfNone, nat_lt, get_or};
+ghost use Rattle.std.specs.Prelude.{◌≡◌, true, false, ◌+◌, ◌<◌, ◌≤◌, length, AllPairs, IfSome, IfNone, nat_lt, get_or};
 ghost use Rattle.std.specs.List.{prefix_len};
 ghost use Rattle.spec_pages.specs.Heights.{next_stop};
 ghost use Rattle.spec_edit.specs.PageWindows.{AreStops, is_settled, came_from};
+
+use crate::ExchangedRows;
 
 /// How many of the places are below the bound.
 pub fn count_below(places: &[usize], bound: usize) -> usize
@@ -27,27 +29,18 @@ pub fn stop_above(stops: &[usize], rows: usize, p: usize) -> usize
 }
 
 /// The place of the old page start that the page start `p` is, moved; None where it isn't settled.
-pub fn settled_at(
-    old_starts: &[usize],
-    first: usize,
-    old: usize,
-    new: usize,
-    p: usize,
-) -> Option<usize>
+pub fn settled_at(old_starts: &[usize], rows: &ExchangedRows, p: usize) -> Option<usize>
     requires { AllPairs (λ one other. one < other) old_starts.now }
-    ensures some { IfSome result (λ at.
-        is_settled (record { first = first; old = old; new = new }) old_starts.now p ≡ true) }
-    ensures place { IfSome result (λ at. at ≡ prefix_len (λ start.
-        nat_lt start (came_from (record { first = first; old = old; new = new }) p)) old_starts.now) }
+    ensures some { IfSome result (λ at. is_settled rows.now old_starts.now p ≡ true) }
+    ensures place { IfSome result (λ at. at ≡ prefix_len (λ start. nat_lt start (came_from rows.now p)) old_starts.now) }
     ensures inside { IfSome result (λ at. at < length old_starts.now) }
-    ensures behind { IfSome result (λ at. first + old ≤ get_or old_starts.now at 0) }
-    ensures none { IfNone result
-        (is_settled (record { first = first; old = old; new = new }) old_starts.now p ≡ false) }
+    ensures behind { IfSome result (λ at. rows.now.first + rows.now.old ≤ get_or old_starts.now at 0) }
+    ensures none { IfNone result (is_settled rows.now old_starts.now p ≡ false) }
 {
-    if p < new || p - new < first {
+    if p < rows.new || p - rows.new < rows.first {
         return None;
     }
-    match (p - new).checked_add(old) {
+    match (p - rows.new).checked_add(rows.old) {
         None => None,
         Some(came_from) => {
             let at = count_below(old_starts, came_from);

@@ -1,4 +1,3 @@
-mod EditedScripts
 pub mod EntryLaws
 pub mod FillLaws
 mod RefilledLaws

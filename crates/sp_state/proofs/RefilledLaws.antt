@@ -17,29 +17,52 @@ use Rattle.spec_edit.specs.PageWindows.{AreExchanged, AreStops, Exchange, page_w
 use Rattle.spec_edit.proofs.WindowExists.{window-exists}
 use Rattle.spec_locked_pages.specs.Segments.{pages_of}
 use Rattle.spec_refill.proofs.EditExchange.{edit-exchanged, speakers-starts}
+use Rattle.sp_reflow.specs.Galleys.{GalleyOf, starts_in}
 use Rattle.sp_reflow.specs.Updates.{AreStale}
 use Rattle.sp_sheets.specs.Pages.{AreStopsOf}
 use Rattle.sp_sheets.proofs.StopsMade.{starts-of, stops-in_order}
 use Rattle.sp_text_entry.specs.Relaid.{IsExchangeOf}
+use Rattle.sp_state.specs.Fills.{AreStartsBefore, galley_of}
 
-pub stale-same : (edit : Exchange) (olds : List ℕ) (limit body : ℕ) (those shapes : List Shape) (items stops : List ℕ) → body ≡ limit → shapes ≡ those → stops ≡ items
-    → AreStale limit edit olds those items → AreStale body edit olds shapes stops
-stale-same edit olds limit body those shapes items stops a b c are =
-    subst (λ n. AreStale n edit olds shapes stops) (sym a) (subst (λ l. AreStale limit edit olds l stops) (sym b) (subst (λ l. AreStale limit edit olds those l) (sym c) are))
+-- The rows of a state as pages are filled of them, with stops of it in order.
+pub record IsGalleyOf (state : State) (galley : GalleyOf) : Type 0 where
+  pub stops : List ℕ
+  pub are : AreStopsOf state stops
+  pub same : galley ≡ galley_of state stops
 
-pub window-same : (edit : Exchange) (olds starts others : List ℕ) (body limit : ℕ) → body ≡ limit → starts ≡ others → page_window body edit olds starts ≡ page_window limit edit olds others
-window-same edit olds starts others body limit a b = ap (λ n. page_window n edit olds starts) a ∙ ap (page_window limit edit olds) b
+pub galley-is : (state : State) (galley : GalleyOf) (shapes : List Shape) (items stops : List ℕ) (body : ℕ) → AreStopsOf state items
+    → galley ≡ (let it : GalleyOf = record { shapes = shapes; stops = stops; limit = body } in it) → shapes ≡ map shape_of (rows_in state) → stops ≡ items → body ≡ rows_on state.paper
+    → IsGalleyOf state galley
+galley-is state galley shapes items stops body are made a b c = record {
+  stops = items;
+  are = are;
+  same = made ∙ ap (λ (l : List Shape). let it : GalleyOf = record { shapes = l; stops = stops; limit = body } in it) a
+      ∙ ap (λ (l : List ℕ). let it : GalleyOf = record { shapes = map shape_of (rows_in state); stops = l; limit = body } in it) b
+      ∙ ap (λ (n : ℕ). let it : GalleyOf = record { shapes = map shape_of (rows_in state); stops = items; limit = n } in it) c;
+}
+
+pub galley-stale : (state : State) (galley : GalleyOf) (rows : Exchange) (starts : List ℕ) → IsGalleyOf state galley → AreStartsBefore state rows starts → AreStale galley rows starts
+galley-stale state galley rows starts is stale = subst (λ (it : GalleyOf). AreStale it rows starts) (sym is.same) (stale is.stops is.are)
+
+-- Its page starts are those of the state, and so is the page window.
+pub galley-starts : (state : State) (galley : GalleyOf) → IsGalleyOf state galley → starts_in galley ≡ pages_of state
+galley-starts state galley is = ap starts_in is.same ∙ starts-of state (rows_on state.paper) (map shape_of (rows_in state)) is.stops is.stops is.are refl refl refl
+
+pub galley-window : (state : State) (galley : GalleyOf) (rows : Exchange) (starts : List ℕ) → IsGalleyOf state galley
+    → page_window galley.limit rows starts (starts_in galley) ≡ page_window (rows_on state.paper) rows starts (pages_of state)
+galley-window state galley rows starts is =
+    ap (λ (it : GalleyOf). page_window it.limit rows starts (starts_in galley)) is.same ∙ ap (page_window (rows_on state.paper) rows starts) (galley-starts state galley is)
 
 -- After an edit the page starts are stale in the rows that it exchanges alone.
 pub stale-edited : (old new : State) (it : Replacement) (edit : Exchange) (starts stops : List ℕ) → IsWhole old → CanEdit old it → new ≡ edited_state old it → starts ≡ pages_of old → IsExchangeOf old it edit
-    → AreStopsOf new stops → AreStale (rows_on new.paper) edit starts (map shape_of (rows_in new)) stops
+    → AreStopsOf new stops → AreStale (galley_of new stops) edit starts
 stale-edited old new it edit starts stops whole can led starts_are found are =
     let after = edited_state old it in
     let window = window-exists (line_texts old.lines) (line_texts after.lines) it.first it.old (length it.texts) in
     let olds = stops-in_order old whole in
     let those = map shape_of (rows_in old) in
     let others = map shape_of (rows_in after) in
-    let stale : AreStopsOf after stops → AreStale (rows_on after.paper) edit starts others stops = λ news. record {
+    let stale : AreStopsOf after stops → AreStale (galley_of after stops) edit starts = λ news. record {
       old_shapes = those;
       old_stops = olds.0;
       starts_are = starts_are ∙ sym (starts-of old (rows_on after.paper) those olds.0 olds.0 olds.1 refl refl refl);
@@ -48,7 +71,7 @@ stale-edited old new it edit starts stops whole can led starts_are found are =
           (subst (λ n. AreStops n olds.0) (sym (length-map (rows_in old) shape_of)) olds.1.are) (subst (λ n. AreStops n stops) (sym (length-map (rows_in after) shape_of)) news.are)
           olds.1.same news.same);
     } in
-    subst (λ (s : State). AreStopsOf s stops → AreStale (rows_on s.paper) edit starts (map shape_of (rows_in s)) stops) (sym led) stale are
+    subst (λ (s : State). AreStopsOf s stops → AreStale (galley_of s stops) edit starts) (sym led) stale are
 
 -- An accepted edit can be made.
 pub can-edit : (text : TextState) (records : RecordsOf) (edit : EditOf) (new : State) → refusal_of text edit ≡ None → IsWhole new → new ≡ edited_state (state_of text records) (replacement_of text.lines edit)

@@ -13,6 +13,7 @@ use Rattle.spec_locked_pages.specs.LockedPages.{IsWindowOf}
 use Rattle.spec_refill.specs.Exchanges.{filled_pages}
 use Rattle.sp_text.specs.declared.edit.Edit.{Edit}
 use Rattle.sp_text.specs.Changing.{edit_of}
+use Rattle.sp_reflow.specs.Galleys.{GalleyOf}
 use Rattle.sp_reflow.specs.Filling.{FilledAtMost}
 use Rattle.sp_reflow.specs.Starts.{many_more}
 use Rattle.sp_reflow.specs.Updates.{AreStale}
@@ -47,13 +48,13 @@ FillsEdit state edit = EditFills state (replacement_of state.lines (edit_of edit
 abbrev pub FillsEditAtMost : State → Edit → ℕ → ℕ → Type 0
 FillsEditAtMost state edit = EditFillsAtMost state (replacement_of state.lines (edit_of edit))
 
--- So many rows from a place on were exchanged for so many others.
-abbrev pub exchange_of : ℕ → ℕ → ℕ → Exchange
-exchange_of first old new = record { first = first; old = old; new = new }
+-- The rows of a state as pages are filled of them, with these stops.
+abbrev pub galley_of : State → List ℕ → GalleyOf
+galley_of state stops = record { shapes = map shape_of (rows_in state); stops = stops; limit = rows_on state.paper }
 
 -- These are the page starts from before rows of a state were exchanged.
 abbrev pub AreStartsBefore : State → Exchange → List ℕ → Type 0
-AreStartsBefore state rows starts = (stops : List ℕ) → AreStopsOf state stops → AreStale (rows_on state.paper) rows starts (map shape_of (rows_in state)) stops
+AreStartsBefore state rows starts = (stops : List ℕ) → AreStopsOf state stops → AreStale (galley_of state stops) rows starts
 
 -- Each page of the page window of an exchange was filled once, and no other; and at most those.
 abbrev pub RefillsWindow : State → Exchange → List ℕ → ℕ → ℕ → Type 0

@@ -19,14 +19,14 @@ ghost use Rattle.sp_sheets.specs.States.{state_in, state_with};
 ghost use Rattle.sp_sheets.specs.Pages.{FillsAll, FillsAtMostAll};
 
 use crate::entry::{Entry, Unturned};
-use crate::turning::{Turned, UnturnedPages, refilled, turn_layout};
+use crate::turning::{LayoutEntry, PageStarts, UnturnedLayout, refilled, turn_layout};
 use sp_exchange::Text;
 use sp_kit::Steps;
 use sp_layout::{KeptLayout, LayoutChange};
 use sp_records::Records;
 use sp_reflow::Pages;
 use sp_sheets::{
-    LaidState, Made, Numbered, keeps_headings, laid_firsts, lay, leaves_titles, make, number,
+    Keeps, LaidState, Made, Numbered, keeps_headings, laid_firsts, lay, leaves_titles, make, number,
 };
 use sp_text::{Edit, EditFault, Lines};
 use sp_text_entry::{EditedText, TextEntry, UnturnedText, change_in_room, edit_entry, turn_entry};
@@ -202,18 +202,16 @@ pub(crate) fn edit_made<S: Steps>(
     alloc: Global,
     text: &mut Text,
     records: &mut Records,
-    layout: &mut KeptLayout,
-    pages: &mut Pages,
-    numbered: &mut Numbered,
-    firsts: &mut Option<Vec<usize>>,
+    made: &mut Made,
+    starts: &mut PageStarts,
     edit: Edit,
     steps: &mut S,
 ) -> Result<Entry, EditFault>
     requires whole { IsWhole (state_with text.old records.old) }
-    requires laid { IsLaidOf (state_with text.old records.old) (laid_of layout.old) }
-    requires pages { pages.old.starts ≡ pages_of (state_with text.old records.old) }
-    requires numbered { IsNumberedOf (state_with text.old records.old) numbered.old }
-    requires firsts { IfSome firsts.old (λ those. those.items ≡ first_rows (state_with text.old records.old)) }
+    requires made { IsMadeOf (state_with text.old records.old) made.old }
+    requires pages { starts.old.pages.starts ≡ pages_of (state_with text.old records.old) }
+    requires firsts { IfSome starts.old.firsts (λ those.
+        those.items ≡ first_rows (state_with text.old records.old)) }
     ensures refuses { Refuses (refusal_in text.old.lines edit) result }
     ensures state { OnOk result (state_with text.new records.new ≡ edited_by (state_with text.old records.old) edit) }
     ensures whole { OnOk result (IsWhole (state_with text.new records.new)) }
@@ -222,10 +220,10 @@ pub(crate) fn edit_made<S: Steps>(
     ensures window { IfOk result (HoldsWindow (text_of text.old.lines) (text_of text.new.lines)
         (range_in text.old.lines edit)) }
     ensures few { IfOk result (HoldsFew (text_of text.new.lines)) }
-    ensures laid { IsLaidOf (state_with text.new records.new) (laid_of layout.new) }
-    ensures numbered { IsNumberedOf (state_with text.new records.new) numbered.new }
-    ensures firsts { IfSome firsts.new (λ those. those.items ≡ first_rows (state_with text.new records.new)) }
-    ensures pages { pages.new.starts ≡ pages_of (state_with text.new records.new) }
+    ensures made { IsMadeOf (state_with text.new records.new) made.new }
+    ensures firsts { IfSome starts.new.firsts (λ those.
+        those.items ≡ first_rows (state_with text.new records.new)) }
+    ensures pages { starts.new.pages.starts ≡ pages_of (state_with text.new records.new) }
     ensures same { OnErr result (state_with text.new records.new ≡ state_with text.old records.old) }
     ensures reads { OnOk result (ReadsEdit (state_with text.old records.old) edit
         (S.reads steps.old) (S.reads steps.new)) }
@@ -237,34 +235,39 @@ pub(crate) fn edit_made<S: Steps>(
         (S.fills steps.old) (S.fills steps.new) }
     ensures unfilled { IsRefused (refusal_in text.old.lines edit) → S.fills steps.new ≡ S.fills steps.old }
 {
-    let before = firsts_before(alloc, text.lines(), records, layout, firsts)?;
+    let before = firsts_before(
+        alloc,
+        text.lines(),
+        records,
+        &made.layout,
+        &mut starts.firsts,
+    )?;
     let EditedText {
         text: entry,
         layout: change,
         rows,
         firsts: after,
-    } = edit_entry(alloc, text, records, layout, &before, edit, steps)?;
-    let keeps_labels = keeps_headings(layout, &change);
+    } = edit_entry(alloc, text, records, &mut made.layout, &before, edit, steps)?;
+    let keeps_labels = keeps_headings(&made.layout, &change);
     let keeps_titles = leaves_titles(&change);
     let keeps_firsts = before.as_slice() == after.as_slice();
+    let keeps = Keeps {
+        labels: keeps_labels,
+        titles: keeps_titles,
+        pages: keeps_firsts,
+    };
+    let laid = LaidState::new(text, records, &made.layout, &after);
     match refilled(
         alloc,
-        text,
-        records,
-        layout,
-        &after,
-        pages,
-        numbered,
-        keeps_labels,
-        keeps_titles,
-        keeps_firsts,
-        rows.first,
-        rows.old,
-        rows.new,
+        &laid,
+        &rows,
+        keeps,
+        &mut starts.pages,
+        &mut made.numbered,
         steps,
     ) {
         Ok(swapped) => {
-            *firsts = Some(after);
+            starts.firsts = Some(after);
             Ok(Entry {
                 text: entry,
                 layout: change,
@@ -272,7 +275,7 @@ pub(crate) fn edit_made<S: Steps>(
             })
         }
         Err(_) => {
-            take_back(text, records, layout, entry, change);
+            take_back(text, records, &mut made.layout, entry, change);
             Err(EditFault::NoMemory)
         }
     }
@@ -286,17 +289,15 @@ pub(crate) fn turn_made(
     alloc: Global,
     text: &mut Text,
     records: &mut Records,
-    layout: &mut KeptLayout,
-    pages: &mut Pages,
-    numbered: &mut Numbered,
-    firsts: &mut Option<Vec<usize>>,
+    made: &mut Made,
+    starts: &mut PageStarts,
     entry: Entry,
 ) -> Result<Entry, Unturned>
     requires can { CanTurn (state_with text.old records.old) entry }
-    requires laid { IsLaidOf (state_with text.old records.old) (laid_of layout.old) }
-    requires pages { pages.old.starts ≡ pages_of (state_with text.old records.old) }
-    requires numbered { IsNumberedOf (state_with text.old records.old) numbered.old }
-    requires firsts { IfSome firsts.old (λ those. those.items ≡ first_rows (state_with text.old records.old)) }
+    requires made { IsMadeOf (state_with text.old records.old) made.old }
+    requires pages { starts.old.pages.starts ≡ pages_of (state_with text.old records.old) }
+    requires firsts { IfSome starts.old.firsts (λ those.
+        those.items ≡ first_rows (state_with text.old records.old)) }
     requires was_whole { IsWhole (state_with text.old records.old) }
     requires whole { IsWhole (turned_state (state_with text.old records.old) entry) }
     ensures state { OnOk result
@@ -304,10 +305,10 @@ pub(crate) fn turn_made(
     ensures back { IfOk result (Leads (state_with text.new records.new) (state_with text.old records.old)) }
     ensures range { IfOk result (λ it. done_range it ≡ turned_range entry) }
     ensures few { HoldsFew (text_of text.old.lines) entry → IfOk result (HoldsFew (text_of text.new.lines)) }
-    ensures laid { IsLaidOf (state_with text.new records.new) (laid_of layout.new) }
-    ensures numbered { IsNumberedOf (state_with text.new records.new) numbered.new }
-    ensures firsts { IfSome firsts.new (λ those. those.items ≡ first_rows (state_with text.new records.new)) }
-    ensures pages { pages.new.starts ≡ pages_of (state_with text.new records.new) }
+    ensures made { IsMadeOf (state_with text.new records.new) made.new }
+    ensures firsts { IfSome starts.new.firsts (λ those.
+        those.items ≡ first_rows (state_with text.new records.new)) }
+    ensures pages { starts.new.pages.starts ≡ pages_of (state_with text.new records.new) }
     ensures same { OnErr result (state_with text.new records.new ≡ state_with text.old records.old) }
     ensures handed_back { IfErr result (λ error. IsSameEntry error.back entry) }
     ensures again { IfErr result (λ error. CanTurn (state_with text.old records.old) error.back) }
@@ -316,50 +317,53 @@ pub(crate) fn turn_made(
     let Entry {
         text: of_text,
         layout: change,
-        pages: back,
+        pages,
     } = entry;
+    let back = LayoutEntry {
+        layout: change,
+        pages,
+    };
     match turn_entry(text, records, of_text) {
         Ok(other) => match turn_layout(
-            alloc, text, records, layout, firsts, pages, change, back, numbered,
+            alloc,
+            text,
+            records,
+            &mut made.layout,
+            starts,
+            back,
+            &mut made.numbered,
         ) {
-            Ok(
-                Turned {
-                    layout: change,
-                    pages: swapped,
-                    firsts: after,
-                },
-            ) => {
-                *firsts = Some(after);
-                Ok(Entry {
+            Ok(LayoutEntry { layout, pages }) => {
+                return Ok(Entry {
                     text: other,
-                    layout: change,
-                    pages: swapped,
-                })
+                    layout,
+                    pages,
+                });
             }
             Err(
-                UnturnedPages {
-                    layout: change,
-                    pages: back,
+                UnturnedLayout {
+                    back: LayoutEntry { layout, pages },
                 },
             ) => {
-                *firsts = None;
+                starts.firsts = None;
                 let of_text = turn_in_room(text, records, other);
                 Err(Unturned {
                     back: Entry {
                         text: of_text,
-                        layout: change,
-                        pages: back,
+                        layout,
+                        pages,
                     },
                 })
             }
         },
         Err(UnturnedText { back: of_text }) => {
-            *firsts = None;
+            starts.firsts = None;
+            let LayoutEntry { layout, pages } = back;
             Err(Unturned {
                 back: Entry {
                     text: of_text,
-                    layout: change,
-                    pages: back,
+                    layout,
+                    pages,
                 },
             })
         }

@@ -4,7 +4,8 @@ use sp_reflow::SwappedPages;
 use sp_text_entry::TextEntry;
 use std::marker::Model;
 
-/// What an edit displaced: of the text and of the page records, of the layout, and first rows of pages.
+/// What an edit displaced, or what was displaced when that was put back: of the text and of the page records, of the layout, and
+/// first rows of pages. `Script::turn` puts it back, and answers the one that leads back.
 #[derive(Drop)]
 pub struct Entry {
     pub(crate) text: TextEntry,

@@ -24,6 +24,7 @@ ghost use Rattle.sp_text_entry.specs.TextEntries.{edited_by, refusal_at};
 
 use crate::editing::{edit_made, made_on, made_with_speakers, put_made, turn_made};
 use crate::entry::{Entry, Unturned};
+use crate::turning::PageStarts;
 use sp_exchange::Text;
 use sp_kit::Steps;
 use sp_locks::Sheet;
@@ -44,10 +45,8 @@ use std::marker::Model;
 pub struct Script {
     text: Text,
     records: Records,
-    pages: Pages,
     made: Made,
-    /// The first rows of its page records, where they are known.
-    firsts: Option<Vec<usize>>,
+    starts: PageStarts,
 }
 
 /// One call wherever it is dropped, so that no proof there follows each of its fields.
@@ -56,9 +55,8 @@ impl Drop for Script {
         let Script {
             text: _text,
             records: _records,
-            pages: _pages,
             made: _made,
-            firsts: _firsts,
+            starts: _starts,
         } = self;
     }
 }
@@ -77,8 +75,8 @@ impl Model for Script {
     ghost view = { λ s. state_with s.text s.records };
 
     ghost invariant = { λ s. IsWhole (state_with s.text s.records) × IsMadeOf (state_with s.text s.records) s.made
-        × (s.pages.starts ≡ pages_of (state_with s.text s.records))
-        × IfSome s.firsts (λ those. those.items ≡ first_rows (state_with s.text s.records)) };
+        × (s.starts.pages.starts ≡ pages_of (state_with s.text s.records))
+        × IfSome s.starts.firsts (λ those. those.items ≡ first_rows (state_with s.text s.records)) };
 }
 
 /// Lines with their stanzas, and what is made of them with these records. Each stanza is read once, and each page filled once.
@@ -149,9 +147,11 @@ impl Script {
         Ok(Script {
             text,
             records,
-            pages,
             made,
-            firsts: None,
+            starts: PageStarts {
+                pages,
+                firsts: None,
+            },
         })
     }
 
@@ -245,10 +245,8 @@ impl Script {
             alloc,
             &mut self.text,
             &mut self.records,
-            &mut self.made.layout,
-            &mut self.pages,
-            &mut self.made.numbered,
-            &mut self.firsts,
+            &mut self.made,
+            &mut self.starts,
             edit,
             steps,
         )?;
@@ -275,10 +273,8 @@ impl Script {
             alloc,
             &mut self.text,
             &mut self.records,
-            &mut self.made.layout,
-            &mut self.pages,
-            &mut self.made.numbered,
-            &mut self.firsts,
+            &mut self.made,
+            &mut self.starts,
             entry,
         )?;
         Ok(other)
@@ -294,11 +290,11 @@ impl Script {
             alloc,
             &self.text,
             &mut self.records,
-            &self.pages,
+            &self.starts.pages,
             &self.made.numbered.title_starts,
             on,
         )?;
-        put_made(&mut self.made, &mut self.firsts, made);
+        put_made(&mut self.made, &mut self.starts.firsts, made);
         Ok(())
     }
 
@@ -319,8 +315,8 @@ impl Script {
             (S.fills steps.old) (S.fills steps.new) }
     {
         let (made, pages) = made_on(alloc, &self.text, &mut self.records, paper, steps)?;
-        put_made(&mut self.made, &mut self.firsts, made);
-        self.pages = pages;
+        put_made(&mut self.made, &mut self.starts.firsts, made);
+        self.starts.pages = pages;
         Ok(())
     }
 
@@ -330,7 +326,7 @@ impl Script {
     pub fn lock_scenes(&mut self, alloc: Global) -> Result<(), OpeningFault>
         ensures { IsOpening (scenes_refusal self.old) (scenes_locked self.old) self.old self.new result }
     {
-        self.firsts = None;
+        self.starts.firsts = None;
         lock_scenes_made(alloc, &self.text, &mut self.records, &mut self.made)
     }
 
@@ -340,7 +336,7 @@ impl Script {
     pub fn lock_pages(&mut self, alloc: Global) -> Result<(), OpeningFault>
         ensures { IsOpening (pages_refusal self.old) (pages_locked self.old) self.old self.new result }
     {
-        self.firsts = None;
+        self.starts.firsts = None;
         lock_pages_made(alloc, &mut self.text, &mut self.records, &self.made)
     }
 
@@ -351,7 +347,7 @@ impl Script {
     pub fn next_round(&mut self, alloc: Global) -> Result<(), OpeningFault>
         ensures { IsOpening (round_refusal self.old) (round_begun self.old) self.old self.new result }
     {
-        self.firsts = None;
+        self.starts.firsts = None;
         next_round_made(alloc, &self.text, &mut self.records, &self.made)
     }
 }

@@ -1,5 +1,5 @@
 use Rattle.std.proofs.Common.{rules}
 use Rattle.sp_refill.proofs.blocks.relays_front.Goals as goal
 
-pub returns-else-is_pair : goal.returns-else-is_pair
-returns-else-is_pair c = search rules
+pub returns-else-are_dual : goal.returns-else-are_dual
+returns-else-are_dual c = search rules

@@ -11,7 +11,6 @@ use Rattle.sp_exchange.specs.Reads.{IsRefused}
 use Rattle.sp_state.specs.Entries.{EntryState, HoldsWindow, Leads}
 use Rattle.sp_state.specs.Fills.{EditFills, EditFillsAtMost}
 use Rattle.sp_text_entry.specs.Reads.{EditReads, EditReadsAtMost}
-use Rattle.sp_state.proofs.EditedScripts.{before-is}
 use Rattle.sp_state.proofs.script.Script.edit.Goals as goal
 
 whole-by : {T E : Type 0} (result : Result T E) (old new : State) → IsWhole old → OnOk result (IsWhole new) → OnErr result (new ≡ old) → IsWhole new
@@ -21,9 +20,9 @@ whole-by (Err error) old new whole done same = subst IsWhole (sym same) whole
 pub invariant_of-self : goal.invariant_of-self
 invariant_of-self g c =
     let made = c.edit_made.ensures in
-    let before = before-is c.self-inside.view_is c.self.view_is in
+    let before = c.self.view_is in
     let whole = subst IsWhole (sym before) (subst IsWhole c.self.view_is c.self.invariant.0) in
-    (whole-by c.edit_made.result _ _ whole made.whole made.same, record { layout = made.laid; numbered = made.numbered }, made.pages, made.firsts)
+    (whole-by c.edit_made.result _ _ whole made.whole made.same, made.made, made.pages, made.firsts)
 
 pub returns-in_err-entry : goal.returns-in_err-entry
 returns-in_err-entry g c =
@@ -32,7 +31,7 @@ returns-in_err-entry g c =
     let fills = g.S.Steps.fills c.args.steps.now in
     let left = c.in_err-entry.ensures in
     let made = c.edit_made.ensures in
-    let before = before-is c.self-inside.view_is c.self.view_is in
+    let before = c.self.view_is in
     let p = err_from_is_err_and c.from_residual.result c.from_residual.ensures.1 in
     rw (p.1, p.2) (record {
       whole = subst IsWhole c.self.view_is c.self.invariant.0;
@@ -59,7 +58,7 @@ returns g c =
     let fills = g.S.Steps.fills c.args.steps.now in
     let done = c.in_ok-entry.ensures in
     let made = c.edit_made.ensures in
-    let before = before-is c.self-inside.view_is c.self.view_is in
+    let before = c.self.view_is in
     record {
       whole = subst IsWhole c.self.view_is c.self.invariant.0;
       refuses = subst (λ (state : State). refusal_of (state_text state) edit ≡ None) before done.refuses;

@@ -26,6 +26,6 @@ invariant_of-self c =
     let records = c.lock_pages_made.new.records in
     let old : State = state_of (text_of c.self.inside.text.lines) c.self.inside.records in
     let new : State = state_of (text_of c.self.inside.text.lines) records in
-    let P : TextOf → Type 0 = λ text. IsWhole (state_of (text_of text.lines) records) × IsMadeOf (state_of (text_of text.lines) records) c.self.inside.made × (c.self.inside.pages.starts ≡ pages_of (state_of (text_of text.lines) records)) in
+    let P : TextOf → Type 0 = λ text. IsWhole (state_of (text_of text.lines) records) × IsMadeOf (state_of (text_of text.lines) records) c.self.inside.made × (c.self.inside.starts.pages.starts ≡ pages_of (state_of (text_of text.lines) records)) in
     let (whole, made, pages) = subst P (sym done.text) (done.whole, done.made, kept.2 ∙ sym (pages-stay old new c.lock_pages_made.result kept.0 done.opening)) in
     (whole, made, pages, tt)
