@@ -19,15 +19,14 @@ ghost use Rattle.sp_sheets.specs.States.{state_in, state_with};
 ghost use Rattle.sp_sheets.specs.Pages.{FillsAll, FillsAtMostAll};
 
 use crate::entry::{Entry, Unturned};
-use crate::laid::LaidState;
-use crate::turning::{Keeps, LayoutEntry, PageStarts, UnturnedLayout, refilled, turn_layout};
+use crate::turning::{LayoutEntry, PageStarts, UnturnedLayout, refilled, turn_layout};
 use sp_exchange::Text;
 use sp_kit::Steps;
 use sp_layout::{KeptLayout, LayoutChange};
 use sp_records::Records;
 use sp_reflow::Pages;
 use sp_sheets::{
-    LaidState, Made, Numbered, keeps_headings, laid_firsts, lay, leaves_titles, make, number,
+    Keeps, LaidState, Made, Numbered, keeps_headings, laid_firsts, lay, leaves_titles, make, number,
 };
 use sp_text::{Edit, EditFault, Lines};
 use sp_text_entry::{EditedText, TextEntry, UnturnedText, change_in_room, edit_entry, turn_entry};

@@ -4,7 +4,6 @@
 
 mod editing;
 mod entry;
-mod laid;
 mod script;
 mod turning;
 

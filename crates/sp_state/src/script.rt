@@ -65,7 +65,7 @@ impl Model for Script {
     ghost use Rattle.std.specs.Prelude.{◌≡◌, IfSome};
     ghost use Rattle.spec_state.specs.State.{State};
     ghost use Rattle.spec_state.specs.Keeping.{IsWhole};
-    ghost use Rattle.sp_text_entry.specs.TextEntries.{state_with};
+    ghost use Rattle.sp_sheets.specs.States.{state_with};
     ghost use Rattle.spec_locked_pages.specs.Segments.{pages_of};
     ghost use Rattle.sp_sheets.specs.Firsts.{first_rows};
     ghost use Rattle.sp_sheets.specs.Made.{IsMadeOf};
@@ -96,7 +96,7 @@ fn read_and_make<S: Steps>(
     ensures fills_at_most { FillsAtMostAll (state_in lines records.now) (S.fills steps.old) (S.fills steps.new) }
 {
     let text = Text::new(alloc, lines, steps)?;
-    let (made, pages) = make(alloc, text.lines(), text.stanzas(), records, steps)?;
+    let (made, pages) = make(alloc, &text, records, steps)?;
     Ok((text, made, pages))
 }
 
@@ -159,9 +159,7 @@ impl Script {
     pub fn view(&self) -> StateView<'_>
         ensures { result ≡ self.now }
     {
-        let lines = self.text.lines();
-        let stanzas = self.text.stanzas();
-        StateView::new(lines, stanzas, &self.records, &self.made)
+        StateView::new(&self.text, &self.records, &self.made)
     }
 
     /// Lends its lines.
@@ -329,9 +327,7 @@ impl Script {
         ensures { IsOpening (scenes_refusal self.old) (scenes_locked self.old) self.old self.new result }
     {
         self.starts.firsts = None;
-        let lines = self.text.lines();
-        let stanzas = self.text.stanzas();
-        lock_scenes_made(alloc, lines, stanzas, &mut self.records, &mut self.made)
+        lock_scenes_made(alloc, &self.text, &mut self.records, &mut self.made)
     }
 
     /// Locks pages: each page gets a record, and each heading that has none (docs/RULES.md, "Page records"). No stanza is
@@ -341,10 +337,7 @@ impl Script {
         ensures { IsOpening (pages_refusal self.old) (pages_locked self.old) self.old self.new result }
     {
         self.starts.firsts = None;
-        self.text.make_index()?;
-        let lines = self.text.lines();
-        let stanzas = self.text.stanzas();
-        lock_pages_made(alloc, lines, stanzas, &mut self.records, &self.made)
+        lock_pages_made(alloc, &mut self.text, &mut self.records, &self.made)
     }
 
     /// Begins the next round: where scenes are locked each heading that has no record gets one, and where pages are locked each
@@ -355,8 +348,6 @@ impl Script {
         ensures { IsOpening (round_refusal self.old) (round_begun self.old) self.old self.new result }
     {
         self.starts.firsts = None;
-        let lines = self.text.lines();
-        let stanzas = self.text.stanzas();
-        next_round_made(alloc, lines, stanzas, &mut self.records, &self.made)
+        next_round_made(alloc, &self.text, &mut self.records, &self.made)
     }
 }

@@ -14,19 +14,18 @@ ghost use Rattle.sp_sheets.specs.Firsts.{IsLaidOf, first_rows};
 ghost use Rattle.sp_sheets.specs.Made.{IsNumberedOf};
 ghost use Rattle.sp_sheets.specs.Pages.{WerePageSheets, WereUnmarkedSheets};
 ghost use Rattle.sp_sheets.specs.Titles.{laid_titles};
-ghost use Rattle.sp_text_entry.specs.TextEntries.{state_with};
+ghost use Rattle.sp_sheets.specs.States.{state_with};
 ghost use Rattle.sp_state.specs.Fills.{AreStartsBefore, RefillsWindow, RefillsAtMost};
 ghost use Rattle.sp_state.specs.Entries.{LeadToSame};
 
-use crate::laid::LaidState;
 use sp_exchange::Text;
 use sp_kit::Steps;
 use sp_layout::{KeptLayout, LayoutChange, UnchangedLayout};
 use sp_records::Records;
 use sp_reflow::{ExchangedRows, Galley, Pages, SwappedPages, UnswappedPages};
 use sp_sheets::{
-    Numbered, firsts_stay, keeps_headings, laid_firsts, laid_stops, leaves_titles, renumber,
-    rows_on,
+    Keeps, LaidState, Numbered, firsts_stay, keeps_headings, laid_firsts, laid_stops,
+    leaves_titles, renumber, rows_on,
 };
 use sp_text_entry::change_in_room;
 use std::alloc::{AllocError, Global};
@@ -36,15 +35,6 @@ use std::alloc::{AllocError, Global};
 pub(crate) struct PageStarts {
     pub pages: Pages,
     pub firsts: Option<Vec<usize>>,
-}
-
-/// What may be kept of the labels and the sheets of a state before an edit: the labels, the title sheets, and the sheets of locked
-/// pages but for their rounds.
-#[derive(Clone, Copy)]
-pub(crate) struct Keeps {
-    pub labels: bool,
-    pub titles: bool,
-    pub pages: bool,
 }
 
 /// What an edit displaced of a layout and of the first rows of pages.
@@ -140,24 +130,12 @@ pub(crate) fn refilled<S: Steps>(
     ensures same { OnErr result (pages.new.starts ≡ pages.old.starts) }
 {
     let swapped = update_pages(alloc, laid, rows, pages, steps)?;
-    let keeps_pages = pages_stay(keeps.pages, pages, &swapped);
-    let text = laid.text;
-    let lines = text.lines();
-    let stanzas = text.stanzas();
-    match renumber(
-        alloc,
-        lines,
-        stanzas,
-        laid.records,
-        laid.layout,
-        laid.firsts,
-        pages,
-        &swapped,
-        keeps.labels,
-        keeps.titles,
-        keeps_pages,
-        numbered,
-    ) {
+    let keeps = Keeps {
+        labels: keeps.labels,
+        titles: keeps.titles,
+        pages: pages_stay(keeps.pages, pages, &swapped),
+    };
+    match renumber(alloc, laid, pages, &swapped, keeps, numbered) {
         Ok(()) => Ok(swapped),
         Err(error) => {
             let _other = put_back_in_room(pages, swapped);
@@ -193,24 +171,12 @@ fn turned_pages(
     ensures handed_back { IfErr result (λ error. taken_of error.back ≡ taken_of back) }
 {
     let other = pages.put_back(back)?;
-    let keeps_pages = pages_stay(keeps.pages, pages, &other);
-    let text = laid.text;
-    let lines = text.lines();
-    let stanzas = text.stanzas();
-    match renumber(
-        alloc,
-        lines,
-        stanzas,
-        laid.records,
-        laid.layout,
-        laid.firsts,
-        pages,
-        &other,
-        keeps.labels,
-        keeps.titles,
-        keeps_pages,
-        numbered,
-    ) {
+    let keeps = Keeps {
+        labels: keeps.labels,
+        titles: keeps.titles,
+        pages: pages_stay(keeps.pages, pages, &other),
+    };
+    match renumber(alloc, laid, pages, &other, keeps, numbered) {
         Ok(()) => Ok(other),
         Err(_) => {
             let back = put_back_in_room(pages, other);

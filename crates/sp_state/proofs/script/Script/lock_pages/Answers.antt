@@ -1,4 +1,4 @@
-use Rattle.std.proofs.Common.{◌≡◌, ap, subst, sym, ◌∙◌}
+use Rattle.std.proofs.Common.{◌≡◌, subst, sym, ◌∙◌}
 use Rattle.spec_state.specs.State.{State}
 use Rattle.spec_state.specs.Keeping.{IsWhole, state_of}
 use Rattle.spec_state.specs.Openings.{pages_locked}
@@ -13,25 +13,19 @@ use Rattle.sp_state.proofs.script.Script.lock_pages.Goals as goal
 
 pub returns : goal.returns
 returns c =
-    let new : State = state_of (text_of c.make_index.new.self.lines) c.lock_pages_made.new.records in
-    let same = ap (λ (text : TextOf). state_of (text_of text.lines) c.self.inside.records) c.make_index.ensures ∙ c.self.view_is in
-    subst (λ (s : State). IsOpening (pages_refusal s) (pages_locked s) s new c.lock_pages_made.result) same (rw c.lines-lines.ensures.lines at c.lock_pages_made.ensures.opening)
+    let done = c.lock_pages_made.ensures in
+    let old : State = state_of (text_of c.self.inside.text.lines) c.self.inside.records in
+    let P : TextOf → Type 0 = λ text. IsOpening (pages_refusal old) (pages_locked old) old (state_of (text_of text.lines) c.lock_pages_made.new.records) c.lock_pages_made.result in
+    let new : State = state_of (text_of c.lock_pages_made.new.text.lines) c.lock_pages_made.new.records in
+    subst (λ (s : State). IsOpening (pages_refusal s) (pages_locked s) s new c.lock_pages_made.result) c.self.view_is (subst P (sym done.text) done.opening)
 
 pub invariant_of-self : goal.invariant_of-self
 invariant_of-self c =
-    let inside = c.self.inside in
     let kept = c.self.invariant in
-    let P : TextOf → Type 0 = λ text. IsWhole (state_of (text_of text.lines) inside.records) × IsMadeOf (state_of (text_of text.lines) inside.records) inside.made × (inside.starts.pages.starts ≡ pages_of (state_of (text_of text.lines) inside.records)) in
-    let (whole, made, pages) = subst P (sym c.make_index.ensures) (kept.0, kept.1, kept.2) in
+    let done = c.lock_pages_made.ensures in
+    let records = c.lock_pages_made.new.records in
+    let old : State = state_of (text_of c.self.inside.text.lines) c.self.inside.records in
+    let new : State = state_of (text_of c.self.inside.text.lines) records in
+    let P : TextOf → Type 0 = λ text. IsWhole (state_of (text_of text.lines) records) × IsMadeOf (state_of (text_of text.lines) records) c.self.inside.made × (c.self.inside.starts.pages.starts ≡ pages_of (state_of (text_of text.lines) records)) in
+    let (whole, made, pages) = subst P (sym done.text) (done.whole, done.made, kept.2 ∙ sym (pages-stay old new c.lock_pages_made.result kept.0 done.opening)) in
     (whole, made, pages, tt)
-
-pub invariant_of-self-2 : goal.invariant_of-self-2
-invariant_of-self-2 c =
-    let inside = c.self.inside in
-    let kept = c.self.invariant in
-    let text = c.make_index.new.self in
-    let old : State = state_of (text_of text.lines) inside.records in
-    let new : State = state_of (text_of text.lines) c.lock_pages_made.new.records in
-    let P : TextOf → Type 0 = λ text. IsWhole (state_of (text_of text.lines) inside.records) × (inside.starts.pages.starts ≡ pages_of (state_of (text_of text.lines) inside.records)) in
-    let (whole, pages) = subst P (sym c.make_index.ensures) (kept.0, kept.2) in
-    ((rw c.lines-lines.ensures.lines at c.lock_pages_made.ensures.whole), (rw c.lines-lines.ensures.lines at c.lock_pages_made.ensures.made), pages ∙ sym (pages-stay old new c.lock_pages_made.result whole (rw c.lines-lines.ensures.lines at c.lock_pages_made.ensures.opening)), tt)
