@@ -14,7 +14,7 @@ ends_before label sheet = is_below sheet.label.last label
 abbrev pub count_before : LabelOf → List PrintedOf → ℕ
 count_before label sheets = prefix_len (ends_before label) sheets
 
--- The first of the sheets, which doesn't end before a span, begins no later than it ends.
+-- The first of the sheets, which doesn't end before the labels of another, begins no later than it ends.
 abbrev pub first_meets : SheetLabelOf → List PrintedOf → Bool
 first_meets label [] = false
 first_meets label (sheet ∷ sheets) = not (is_below label.last sheet.label.first)

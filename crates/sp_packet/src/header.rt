@@ -11,12 +11,12 @@ use std::marker::Model;
 
 /// The labels that a sheet stands for, from the first to the last (docs/RULES.md, "Collation").
 #[derive(Drop)]
-pub struct Span {
+pub struct SheetLabel {
     pub first: Label,
     pub last: Label,
 }
 
-impl Model for Span {
+impl Model for SheetLabel {
     ghost use Rattle.spec_sheets.specs.Sheets.{SheetLabelOf};
 
     ghost Value = { SheetLabelOf };
@@ -51,8 +51,8 @@ pub fn ends_in_stop(header: &[u8]) -> bool
 
 /// The labels that a header spells that ends in a full stop: its last word, without that stop, is one label or two, the
 /// first below the second, joined by `-`. `AllocError` comes for want of memory alone.
-pub fn header_labels(alloc: Global, header: &[u8]) -> Result<Option<Span>, AllocError>
-    ensures { IfOk result (λ span. span ≡ header_labels header.now) }
+pub fn header_labels(alloc: Global, header: &[u8]) -> Result<Option<SheetLabel>, AllocError>
+    ensures { IfOk result (λ labels. labels ≡ header_labels header.now) }
 {
     let Some(word) = last_word(header) else {
         return Ok(None);
@@ -86,8 +86,8 @@ fn last_word(header: &[u8]) -> Option<&[u8]>
 }
 
 /// The labels that a word spells.
-fn labels_in(alloc: Global, word: &[u8]) -> Result<Option<Span>, AllocError>
-    ensures { IfOk result (λ span. span ≡ labels_in word.now) }
+fn labels_in(alloc: Global, word: &[u8]) -> Result<Option<SheetLabel>, AllocError>
+    ensures { IfOk result (λ labels. labels ≡ labels_in word.now) }
 {
     match cut_at(word, b'-') {
         Some((first, last)) => both_labels(alloc, first, last),
@@ -96,8 +96,8 @@ fn labels_in(alloc: Global, word: &[u8]) -> Result<Option<Span>, AllocError>
 }
 
 /// The labels that two words spell.
-fn both_labels(alloc: Global, first: &[u8], last: &[u8]) -> Result<Option<Span>, AllocError>
-    ensures { IfOk result (λ span. span ≡ two_labels (label_read first.now) (label_read last.now)) }
+fn both_labels(alloc: Global, first: &[u8], last: &[u8]) -> Result<Option<SheetLabel>, AllocError>
+    ensures { IfOk result (λ labels. labels ≡ two_labels (label_read first.now) (label_read last.now)) }
 {
     let first = label_in(alloc, first)?;
     let last = label_in(alloc, last)?;
@@ -105,34 +105,34 @@ fn both_labels(alloc: Global, first: &[u8], last: &[u8]) -> Result<Option<Span>,
 }
 
 /// The label that one word spells.
-fn one_word(alloc: Global, word: &[u8]) -> Result<Option<Span>, AllocError>
-    ensures { IfOk result (λ span. span ≡ option_map one_label (label_read word.now)) }
+fn one_word(alloc: Global, word: &[u8]) -> Result<Option<SheetLabel>, AllocError>
+    ensures { IfOk result (λ labels. labels ≡ option_map one_label (label_read word.now)) }
 {
     let label = label_in(alloc, word)?;
     one_label(alloc, label)
 }
 
 /// One label alone is both first and last.
-fn one_label(alloc: Global, label: Option<Label>) -> Result<Option<Span>, AllocError>
-    ensures { IfOk result (λ span. span ≡ option_map one_label label) }
+fn one_label(alloc: Global, label: Option<Label>) -> Result<Option<SheetLabel>, AllocError>
+    ensures { IfOk result (λ labels. labels ≡ option_map one_label label) }
 {
     match label {
         Some(first) => {
             let last = first.copy(alloc)?;
-            Ok(Some(Span { first, last }))
+            Ok(Some(SheetLabel { first, last }))
         }
         None => Ok(None),
     }
 }
 
 /// Two labels, where the first is below the second.
-fn two_labels(first: Option<Label>, last: Option<Label>) -> Option<Span>
+fn two_labels(first: Option<Label>, last: Option<Label>) -> Option<SheetLabel>
     ensures { result ≡ two_labels first last }
 {
     match (first, last) {
         (Some(first), Some(last)) => {
             if compare(&first, &last) == Ordering::Less {
-                Some(Span { first, last })
+                Some(SheetLabel { first, last })
             } else {
                 None
             }

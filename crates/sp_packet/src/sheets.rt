@@ -5,7 +5,7 @@ ghost use Rattle.sp_packet.specs.Reading.{Adds, last_label};
 ghost use Rattle.sp_packet.specs.Collating.{IsNotAdded, IsNotRead, fault_of};
 
 use crate::fault::CollateFault;
-use crate::header::{Span, cut_at, ends_in_stop, header_labels};
+use crate::header::{SheetLabel, cut_at, ends_in_stop, header_labels};
 use sp_labels::compare;
 use std::alloc::{AllocError, Global};
 use std::cmp::Ordering;
@@ -13,24 +13,24 @@ use std::marker::Model;
 
 /// A printed sheet with its labels.
 #[derive(Drop)]
-pub struct Sheet<'a> {
-    pub span: Span,
+pub struct PrintedSheet<'a> {
+    pub label: SheetLabel,
     pub bytes: &'a [u8],
 }
 
-impl<'a> Model for Sheet<'a> {
+impl<'a> Model for PrintedSheet<'a> {
     ghost use Rattle.spec_packet.specs.SheetLists.{PrintedOf};
 
     ghost Value = { PrintedOf };
 
-    ghost view = { λ s. record { label = s.span; bytes = s.bytes.now } };
+    ghost view = { λ s. record { label = s.label; bytes = s.bytes.now } };
 }
 
 /// A list of printed sheets: title sheets, which have no label, and behind them the others (docs/RULES.md, "Collation").
 #[derive(Drop)]
 pub struct SheetList<'a> {
     pub titles: Vec<&'a [u8]>,
-    pub sheets: Vec<Sheet<'a>>,
+    pub sheets: Vec<PrintedSheet<'a>>,
 }
 
 impl<'a> Model for SheetList<'a> {
@@ -83,13 +83,13 @@ impl<'a> SheetList<'a> {
     }
 
     /// Puts a sheet with labels behind the others.
-    fn add_sheet(&mut self, span: Span, bytes: &'a [u8]) -> Result<(), AllocError>
+    fn add_sheet(&mut self, label: SheetLabel, bytes: &'a [u8]) -> Result<(), AllocError>
         ensures { OnOk result (self.new ≡ record {
           titles = self.old.titles;
-          labelled = self.old.labelled ++ record { label = span; bytes = bytes.now } ∷ [];
+          labelled = self.old.labelled ++ record { label = label; bytes = bytes.now } ∷ [];
         }) }
     {
-        self.sheets.push(Sheet { span, bytes })?;
+        self.sheets.push(PrintedSheet { label, bytes })?;
         Ok(())
     }
 
@@ -101,11 +101,11 @@ impl<'a> SheetList<'a> {
     }
 
     /// A sheet with these labels may stand behind the others.
-    fn goes_on_with(&self, span: &Span) -> bool
-        ensures { result ≡ follows (last_label self.now) span.now.first }
+    fn goes_on_with(&self, label: &SheetLabel) -> bool
+        ensures { result ≡ follows (last_label self.now) label.now.first }
     {
         match self.sheets.last() {
-            Some(sheet) => compare(&sheet.span.last, &span.first) == Ordering::Less,
+            Some(sheet) => compare(&sheet.label.last, &label.first) == Ordering::Less,
             None => true,
         }
     }
@@ -126,13 +126,13 @@ impl<'a> SheetList<'a> {
             self.add_title(whole)?;
             return Ok(());
         }
-        let Some(span) = header_labels(alloc, header)? else {
+        let Some(label) = header_labels(alloc, header)? else {
             return Err(SheetFault::NoSheet);
         };
-        if !self.goes_on_with(&span) {
+        if !self.goes_on_with(&label) {
             return Err(SheetFault::NoSheet);
         }
-        self.add_sheet(span, whole)?;
+        self.add_sheet(label, whole)?;
         Ok(())
     }
 }

@@ -11,7 +11,7 @@ use Rattle.std.proofs.lemmas.List.{append-nil, get_or_default, get_or-take, get_
 use Rattle.std.proofs.lemmas.List.Quantifiers.{position-Some}
 use Rattle.std.proofs.lemmas.List.Sums.{fails_before_first}
 use Rattle.std.proofs.lemmas.List.Elements.{All-nil, All-cons}
-use Rattle.spec_session.specs.CommandLines.{command_count_limit, is_feed, HasNoFeed, command_lines, ended, all_but_last}
+use Rattle.spec_session.specs.CommandLines.{command_count_limit, is_feed, HasNoFeed, command_lines, ended, without_last}
 use Rattle.spec_session.proofs.CutLaws.{command_lines-behind}
 use Rattle.spec_session.proofs.LimitLaws.{last-behind}
 use Rattle.sp_session.specs.CutState.{CutState, HasBudget, HandsOut, HasNoLine}
@@ -99,15 +99,15 @@ none-found bytes from scanned order plain is =
 
 -- A line that is handed out is one less that may follow.
 pub few-cut : (line rest : List ℕ) (count : ℕ) → HasNoFeed line → count < command_count_limit
-    → count + length (command_lines (all_but_last (line ++ 10 ∷ rest))) ≤ command_count_limit → count + 1 + length (command_lines (all_but_last rest)) ≤ command_count_limit
+    → count + length (command_lines (without_last (line ++ 10 ∷ rest))) ≤ command_count_limit → count + 1 + length (command_lines (without_last rest)) ≤ command_count_limit
 few-cut line [] count plain room few = omega (arith, room)
 few-cut line (byte ∷ bytes) count plain room few =
     let rest = byte ∷ bytes in
-    let own : all_but_last (line ++ 10 ∷ rest) ≡ ended line ++ all_but_last rest =
-    ap all_but_last (sym (append_assoc line (10 ∷ []) rest)) ∙ last-behind (ended line) byte bytes in
-    let lines : command_lines (all_but_last (line ++ 10 ∷ rest)) ≡ line ∷ command_lines (all_but_last rest) =
-    ap command_lines (own ∙ ap (λ l. l ++ all_but_last rest) (sym (append-nil (ended line))))
-    ∙ command_lines-behind (line ∷ []) (all_but_last rest) (All-cons HasNoFeed line [] plain (All-nil HasNoFeed)) in
+    let own : without_last (line ++ 10 ∷ rest) ≡ ended line ++ without_last rest =
+    ap without_last (sym (append_assoc line (10 ∷ []) rest)) ∙ last-behind (ended line) byte bytes in
+    let lines : command_lines (without_last (line ++ 10 ∷ rest)) ≡ line ∷ command_lines (without_last rest) =
+    ap command_lines (own ∙ ap (λ l. l ++ without_last rest) (sym (append-nil (ended line))))
+    ∙ command_lines-behind (line ∷ []) (without_last rest) (All-cons HasNoFeed line [] plain (All-nil HasNoFeed)) in
     let size = ap length lines in
     omega (arith, size, few)
 
@@ -146,7 +146,7 @@ cut-buffered bytes piece line_from line_to from scanned count place it room is =
       low = it.low;
       few = few-cut (slice_range bytes.items from (scanned + place)) (drop (scanned + place + 1) bytes.items) count line.plain
           (room-in bytes from count (scanned + place) room line)
-          (subst (λ l. count + length (command_lines (all_but_last l)) ≤ command_count_limit) line.split it.few);
+          (subst (λ l. count + length (command_lines (without_last l)) ≤ command_count_limit) line.split it.few);
     }
 
 abbrev pub state_of : Vec ℕ Global → ℕ → ℕ → ℕ → ℕ → CutState

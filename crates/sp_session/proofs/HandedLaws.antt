@@ -9,7 +9,7 @@ use Rattle.std.proofs.lemmas.Grind.{flat_map-append}
 use Rattle.std.proofs.lemmas.Bool.{cases_lt}
 use Rattle.std.proofs.lemmas.List.Elements.{All-nil, All-push}
 use Rattle.sp_kit.specs.Outside.{SourceState}
-use Rattle.spec_session.specs.CommandLines.{command_limit, command_count_limit, piece_limit, HasNoFeed, whole_lines, open_line, last_line, command_lines, ended, ended_lines, IsShort, KeepsLimits, all_but_last, KeepsBudget}
+use Rattle.spec_session.specs.CommandLines.{command_limit, command_count_limit, piece_limit, HasNoFeed, whole_lines, open_line, last_line, command_lines, ended, ended_lines, IsShort, KeepsLimits, without_last, KeepsBudget}
 use Rattle.spec_session.specs.Sessions.{AreFirst}
 use Rattle.spec_session.proofs.CutLaws.{split-lines, whole_lines-behind, command_lines-behind, command_lines-plain}
 use Rattle.spec_session.proofs.LimitLaws.{lines-bounded, lines-limits, budget-behind}
@@ -40,7 +40,7 @@ none-handed source state none zero = record {
   count = zero;
   budget = record {
     short = let a = ap length none in omega (arith, a);
-    few = subst (λ l. state.count + length (command_lines (all_but_last l)) ≤ command_count_limit) (sym none) (omega (arith, zero));
+    few = subst (λ l. state.count + length (command_lines (without_last l)) ≤ command_count_limit) (sym none) (omega (arith, zero));
   };
 }
 

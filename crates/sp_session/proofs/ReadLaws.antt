@@ -7,26 +7,26 @@ use Rattle.std.specs.declared.alloc.Global.{Global}
 use Rattle.std.proofs.lemmas.List.{take_at, length-take}
 use Rattle.std.proofs.lemmas.List.Elements.{All-take}
 use Rattle.sp_kit.specs.Outside.{SourceState}
-use Rattle.spec_session.specs.CommandLines.{command_limit, command_count_limit, HasNoFeed, command_lines, all_but_last}
+use Rattle.spec_session.specs.CommandLines.{command_limit, command_count_limit, HasNoFeed, command_lines, without_last}
 use Rattle.spec_session.proofs.LimitLaws.{few-behind, last-behind}
 use Rattle.sp_session.specs.Reading.{Grows, ReadsBehind}
 use Rattle.sp_session.specs.Buffered.{IsBuffered}
 
 -- As many bytes as lines may follow, and one more, make no more lines, but for the last byte.
 few-read : (before bytes : List ℕ) (count : ℕ) → HasNoFeed before → length bytes ≤ command_count_limit - count + 1 → count ≤ command_count_limit
-    → (0 < length before → count < command_count_limit) → count + length (command_lines (all_but_last (before ++ bytes))) ≤ command_count_limit
+    → (0 < length before → count < command_count_limit) → count + length (command_lines (without_last (before ++ bytes))) ≤ command_count_limit
 few-read [] [] count plain low within room = omega (arith, within)
 few-read (byte ∷ before) [] count plain low within room =
-    let front = all_but_last (byte ∷ before) in
-    let own : all_but_last ((byte ∷ before) ++ []) ≡ front = ap all_but_last (append-nil (byte ∷ before)) in
+    let front = without_last (byte ∷ before) in
+    let own : without_last ((byte ∷ before) ++ []) ≡ front = ap without_last (append-nil (byte ∷ before)) in
     let few = few-behind front [] 1 (front-plain (byte ∷ before) plain) (omega arith) (λ some. omega arith) in
     let size = ap (λ l. length (command_lines l)) (own ∙ sym (append-nil front)) in
     omega (arith, size, few, room (omega arith))
   where
-    front-plain : (bytes : List ℕ) → HasNoFeed bytes → HasNoFeed (all_but_last bytes)
+    front-plain : (bytes : List ℕ) → HasNoFeed bytes → HasNoFeed (without_last bytes)
     front-plain bytes plain = All-take (λ b. b ≢ 10) (length bytes - 1) bytes plain
 few-read before (byte ∷ bytes) count plain low within room =
-    let front = all_but_last (byte ∷ bytes) in
+    let front = without_last (byte ∷ bytes) in
     let size = length-take (length (byte ∷ bytes) - 1) (byte ∷ bytes) in
     let few = few-behind before front (command_count_limit - count) plain (omega (arith, size, low)) (λ some. let a = room some in omega (arith, a)) in
     let own = ap (λ l. length (command_lines l)) (last-behind before byte bytes) in
@@ -34,11 +34,11 @@ few-read before (byte ∷ bytes) count plain low within room =
 
 read-few : {E : Type 0} (old new : SourceState) (most count : ℕ) (before after : List ℕ) (result : Result Bool E) → ReadsBehind old new most before after result
     → HasNoFeed before → most ≤ command_count_limit - count + 1 → count ≤ command_count_limit → (0 < length before → count < command_count_limit)
-    → count + length (command_lines (all_but_last after)) ≤ command_count_limit
+    → count + length (command_lines (without_last after)) ≤ command_count_limit
 read-few old new most count before after (Ok more) (bytes, gave, grows) plain low within room =
-    subst (λ l. count + length (command_lines (all_but_last l)) ≤ command_count_limit) (sym grows.more) (few-read before bytes count plain (omega (arith, grows.low, low)) within room)
+    subst (λ l. count + length (command_lines (without_last l)) ≤ command_count_limit) (sym grows.more) (few-read before bytes count plain (omega (arith, grows.low, low)) within room)
 read-few old new most count before after (Err failed) (none, same) plain low within room =
-    subst (λ l. count + length (command_lines (all_but_last l)) ≤ command_count_limit) (append-nil before ∙ sym same) (few-read before [] count plain (omega arith) within room)
+    subst (λ l. count + length (command_lines (without_last l)) ≤ command_count_limit) (append-nil before ∙ sym same) (few-read before [] count plain (omega arith) within room)
 
 -- The bytes from before stand in front, and so many at most behind them.
 pub record Follows (most : ℕ) (before after : List ℕ) : Type 0 where

@@ -7,7 +7,7 @@ use Rattle.std.proofs.lemmas.Bool.{cases_lt}
 use Rattle.std.proofs.lemmas.List.{length-take}
 use Rattle.std.proofs.lemmas.List.Elements.{All-head, All-tail}
 use Rattle.sp_kit.specs.Outside.{SourceState}
-use Rattle.spec_session.specs.CommandLines.{command_count_limit, piece_limit, HasNoFeed, all_but_last}
+use Rattle.spec_session.specs.CommandLines.{command_count_limit, piece_limit, HasNoFeed, without_last}
 use Rattle.spec_session.proofs.EndLaws.{some-lines}
 use Rattle.sp_session.specs.declared.lines.NextLine.TheVariants as nexts
 use Rattle.sp_session.specs.declared.lines.LineStop.TheVariants as stops
@@ -72,7 +72,7 @@ goes-whole old mid new before between got after bytes more waited gave pends low
 -- Behind the last line that a session may have no more than one byte was read.
 pub one-more : (state : CutState) → HasBudget state → state.count ≡ command_count_limit → 0 < length state.pending → length state.pending ≡ 1
 one-more state budget full some =
-    let front = all_but_last state.pending in
+    let front = without_last state.pending in
     let size = length-take (length state.pending - 1) state.pending in
     elim (cases_lt 0 (length front)) [
       | inl more ↦ let lines = some-lines front more in absurd (omega (arith, lines, budget.few, full))

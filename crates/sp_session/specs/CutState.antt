@@ -1,6 +1,6 @@
 -- Command lines that are being cut (docs/RULES.md, "Sessions").
 use Rattle.std.specs.Prelude.{◌≡◌, ℕ, ◌+◌, ◌≤◌, List, ◌∷◌, ◌++◌, length}
-use Rattle.spec_session.specs.CommandLines.{command_limit, command_count_limit, HasNoFeed, command_lines, all_but_last}
+use Rattle.spec_session.specs.CommandLines.{command_limit, command_count_limit, HasNoFeed, command_lines, without_last}
 
 -- The line that was cut last, the bytes that were read and not handed out, and how many lines were.
 pub record CutState : Type 0 where
@@ -11,7 +11,7 @@ pub record CutState : Type 0 where
 -- At most one byte past a limit was read.
 pub record HasBudget (state : CutState) : Type 0 where
   pub short : length state.pending ≤ command_limit + 1
-  pub few : state.count + length (command_lines (all_but_last state.pending)) ≤ command_count_limit
+  pub few : state.count + length (command_lines (without_last state.pending)) ≤ command_count_limit
 
 -- A line is handed out: it is no longer pending.
 pub record HandsOut (before after : CutState) : Type 0 where

@@ -12,7 +12,7 @@ use Rattle.sp_kit.specs.Outside.{AppendsPrefix}
 use Rattle.sp_kit.proofs.Writing.{AppendsPrefix-all}
 use Rattle.spec_session.specs.declared.SessionEnd.{SessionEnd}
 use Rattle.spec_session.specs.declared.SessionEnd.TheVariants as endings
-use Rattle.spec_session.specs.CommandLines.{command_limit, command_count_limit, HasNoFeed, whole_lines, open_line, last_line, command_lines, ended_lines, IsShort, KeepsLimits, all_but_last, KeepsBudget, IsFirstLong, IsFull}
+use Rattle.spec_session.specs.CommandLines.{command_limit, command_count_limit, HasNoFeed, whole_lines, open_line, last_line, command_lines, ended_lines, IsShort, KeepsLimits, without_last, KeepsBudget, IsFirstLong, IsFull}
 use Rattle.spec_session.specs.Runs.{Answered, Runs, output_of, left_by}
 use Rattle.spec_session.specs.Sessions.{Streams, AreFirst, SessionEnds, Tells, Settles, AnswersAll, FailedNothing}
 use Rattle.spec_session.proofs.CutLaws.{lines-split, command_lines-behind}
@@ -125,7 +125,7 @@ budget-lines : (lines : List (List ℕ)) (rest : List ℕ) → All HasNoFeed lin
     → All IsShort lines × (length lines < command_count_limit)
 budget-lines lines [] plain some keeps = absurd (omega (arith, some))
 budget-lines lines (byte ∷ bytes) plain some keeps =
-    let front = all_but_last (byte ∷ bytes) in
+    let front = without_last (byte ∷ bytes) in
     let held : KeepsLimits (ended_lines lines ++ front) = subst KeepsLimits (last-behind (ended_lines lines) byte bytes) keeps in
     let own = command_lines-behind lines front plain in
     let size : 0 < length front = let a = length-take (length (byte ∷ bytes) - 1) (byte ∷ bytes) in omega (arith, a, some) in

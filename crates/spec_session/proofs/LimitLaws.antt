@@ -4,7 +4,7 @@ use Rattle.std.specs.Prelude.{All}
 use Rattle.std.proofs.lemmas.List.{take_at, length-take, take-append-drop}
 use Rattle.std.proofs.Math.Seq.{take-append-add}
 use Rattle.std.proofs.lemmas.List.Elements.{All-nil, All-cons, All-head, All-tail, All-append, All-take}
-use Rattle.spec_session.specs.CommandLines.{command_limit, command_count_limit, HasNoFeed, whole_lines, open_line, last_line, command_lines, ended, ended_lines, Splits, IsShort, KeepsLimits, all_but_last, KeepsBudget}
+use Rattle.spec_session.specs.CommandLines.{command_limit, command_count_limit, HasNoFeed, whole_lines, open_line, last_line, command_lines, ended, ended_lines, Splits, IsShort, KeepsLimits, without_last, KeepsBudget}
 use Rattle.spec_session.proofs.CutLaws.{IsByte, lines-split, command_lines-behind, command_lines-plain}
 
 abbrev pub AtMost : ℕ → List ℕ → Type 0
@@ -148,12 +148,12 @@ limits-front bytes more keeps =
 
 pub limits-budget : (bytes : List ℕ) → KeepsLimits bytes → KeepsBudget bytes
 limits-budget bytes keeps =
-    limits-front (all_but_last bytes) (drop (length bytes - 1) bytes) (subst KeepsLimits (sym (take-append-drop (length bytes - 1) bytes)) keeps)
+    limits-front (without_last bytes) (drop (length bytes - 1) bytes) (subst KeepsLimits (sym (take-append-drop (length bytes - 1) bytes)) keeps)
 
 -- ---- lines that were handed out, and what was read behind them
 
 -- All but the last byte, where something stands behind the lines.
-pub last-behind : (front : List ℕ) (byte : ℕ) (bytes : List ℕ) → all_but_last (front ++ (byte ∷ bytes)) ≡ front ++ all_but_last (byte ∷ bytes)
+pub last-behind : (front : List ℕ) (byte : ℕ) (bytes : List ℕ) → without_last (front ++ (byte ∷ bytes)) ≡ front ++ without_last (byte ∷ bytes)
 last-behind front byte bytes =
     let size : length (front ++ (byte ∷ bytes)) - 1 ≡ length front + (length (byte ∷ bytes) - 1) = let a = length-append front (byte ∷ bytes) in omega (arith, a) in
     ap (λ n. take n (front ++ (byte ∷ bytes))) size ∙ take-append-add front (byte ∷ bytes) (length (byte ∷ bytes) - 1)
@@ -169,9 +169,9 @@ lines-limits lines rest plain short few rest_short =
     }
 
 pub budget-behind : (lines : List (List ℕ)) (pending : List ℕ) → All HasNoFeed lines → All IsShort lines
-    → length lines + length (command_lines (all_but_last pending)) ≤ command_count_limit → length pending ≤ command_limit + 1 → KeepsBudget (ended_lines lines ++ pending)
+    → length lines + length (command_lines (without_last pending)) ≤ command_count_limit → length pending ≤ command_limit + 1 → KeepsBudget (ended_lines lines ++ pending)
 budget-behind lines [] plain short few low = limits-budget (ended_lines lines ++ []) (lines-limits lines [] plain short few (All-nil IsShort))
 budget-behind lines (byte ∷ bytes) plain short few low =
-    let front = all_but_last (byte ∷ bytes) in
+    let front = without_last (byte ∷ bytes) in
     let size : length front ≤ command_limit = let a = length-take (length (byte ∷ bytes) - 1) (byte ∷ bytes) in omega (arith, a, low) in
     subst KeepsLimits (sym (last-behind (ended_lines lines) byte bytes)) (lines-limits lines front plain short few (lines-bounded front command_limit size))

@@ -68,12 +68,12 @@ pub record KeepsLimits (bytes : List ℕ) : Type 0 where
   pub short : All IsShort (command_lines bytes)
 
 -- Bytes without the last one.
-abbrev pub all_but_last : List ℕ → List ℕ
-all_but_last bytes = take (length bytes - 1) bytes
+abbrev pub without_last : List ℕ → List ℕ
+without_last bytes = take (length bytes - 1) bytes
 
 -- Both limits are kept, but for the last byte at most.
 abbrev pub KeepsBudget : List ℕ → Type 0
-KeepsBudget bytes = KeepsLimits (all_but_last bytes)
+KeepsBudget bytes = KeepsLimits (without_last bytes)
 
 -- The line with this number is the first that is too long, among those that a session may have.
 pub record IsFirstLong (bytes : List ℕ) (number : ℕ) : Type 0 where
