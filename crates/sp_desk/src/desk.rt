@@ -65,7 +65,8 @@ impl Model for Desk {
 }
 
 impl Desk {
-    /// The desk of lines that were just read, without records. `AllocError` comes for want of memory alone.
+    /// The desk of lines that were just read, without records: nothing is locked, and nothing can be undone or redone (docs/RULES.md, "The
+    /// desk"). It reads each stanza and fills each page once. `AllocError` comes for want of memory alone.
     pub fn new<S: Steps>(alloc: Global, lines: Lines, steps: &mut S) -> Result<Desk, AllocError>
         requires read { lines.lines ≡ read_lines (line_texts lines.lines) }
         requires next { lines.next ≡ length lines.lines }
@@ -83,8 +84,8 @@ impl Desk {
         })
     }
 
-    /// The desk of these lines with these records. Nothing can be undone or redone.
-    /// `AllocError` comes for want of memory alone.
+    /// The desk of these lines with these records, which together keep the rules of a state (docs/RULES.md, "Record file" and "The desk").
+    /// Nothing can be undone or redone. It reads each stanza and fills each page once. `AllocError` comes for want of memory alone.
     pub fn open<S: Steps>(
         alloc: Global,
         lines: Lines,
@@ -316,8 +317,8 @@ impl Desk {
         Ok(outline_reply(alloc, &self.script.view())?)
     }
 
-    /// How many sheets the present state has, those of its title page counted. The state and all that can be undone or
-    /// redone keep the rules of a state, and each entry leads to the next by an edit. Takes no memory.
+    /// How many sheets the present state has, those of its title page counted (docs/RULES.md, "Sheets"). The state and all that can be
+    /// undone or redone keep the rules of a state, and each entry leads to the next by an edit. Takes no memory.
     pub fn sheets(&self) -> usize
         ensures count { result ≡ length (sheets_of_state (self.now).state) }
         ensures whole { IsWholeMemory self.now }
@@ -326,7 +327,7 @@ impl Desk {
         self.script.sheets()
     }
 
-    /// Lends the sheet at a place; None where there are no more than that many. Takes no memory.
+    /// Lends the sheet at a place from 0; None where there are no more than that many (docs/RULES.md, "Sheets"). Takes no memory.
     pub fn sheet(&self, i: usize) -> Option<PageView<'_>>
         ensures some { IfSome result (λ page. slice_get (sheets_of_state (self.now).state) i ≡ Some page) }
         ensures none { IfNone result (length (sheets_of_state (self.now).state) ≤ i) }
@@ -334,21 +335,21 @@ impl Desk {
         self.script.sheet(i)
     }
 
-    /// Lends the lines of the present state.
+    /// Lends the lines of the present state (docs/RULES.md, "Text and lines"). Takes no memory.
     pub fn lines(&self) -> &Lines
         ensures { lines_text result.now ≡ text_of (self.now).state }
     {
         self.script.lines()
     }
 
-    /// Lends its script.
+    /// Lends its script, which is of the present state. Takes no memory.
     pub fn script(&self) -> &Script
         ensures { result.now ≡ (self.now).state }
     {
         &self.script
     }
 
-    /// Lends the round, the settings and the records of the present state.
+    /// Lends the round, the settings and the records of the present state (docs/RULES.md, "Record file"). Takes no memory.
     pub fn records(&self) -> &Records
         ensures { result.now ≡ records_of (self.now).state }
     {

@@ -19,7 +19,7 @@ pub struct Change {
     pub put: u64,
 }
 
-/// The change that takes a change back.
+/// The change that takes a change back (docs/RULES.md, "The room").
 pub fn turned(change: Change) -> Change
     ensures { range_of result ≡ turned (range_of change) }
 {
@@ -30,7 +30,8 @@ pub fn turned(change: Change) -> Change
     }
 }
 
-/// The lines that an edit names: its place, how many it takes away and how many it puts there.
+/// The lines that an edit names, as a change: its first line, how many it takes away and how many it puts there. A splice takes one and
+/// puts one (docs/RULES.md, "The room").
 pub fn edit_change(edit: &Edit) -> Change
     ensures { range_of result ≡ edit_range (edit_of edit.now) }
 {
@@ -52,7 +53,7 @@ pub fn edit_change(edit: &Edit) -> Change
     }
 }
 
-/// The change at another place.
+/// The change at another first line.
 pub fn change_at(change: Change, place: u64) -> Change
     ensures { result ≡ record { first = place; taken = change.taken; put = change.put } }
 {
@@ -63,7 +64,7 @@ pub fn change_at(change: Change, place: u64) -> Change
     }
 }
 
-/// The edit at another place.
+/// The edit made at another line (docs/RULES.md, "The room").
 pub fn moved_to(edit: Edit, place: u64) -> Edit
     ensures { edit_of result ≡ edit_moved (edit_of edit) place }
 {
@@ -82,7 +83,8 @@ pub fn moved_to(edit: Edit, place: u64) -> Edit
     }
 }
 
-/// Whether the command empties what can be undone and redone: it locks, begins a round, or sets the speakers or the paper.
+/// Whether the command empties what can be undone and redone: it locks, begins a round, or sets the speakers or the paper
+/// (docs/RULES.md, "The desk").
 pub fn is_forgetting(command: &Command) -> bool
     ensures { result ≡ is_forgetting (kind_of (command_of command.now)) }
 {

@@ -102,8 +102,8 @@ fn is_past(range: Change, lines: u64) -> bool
     }
 }
 
-/// Puts a change behind the others, and leaves out the first where there would be more than 1,000. It needs room
-/// for one more, and takes no memory.
+/// Puts a change behind the others, and leaves out the first where there would be more than 1,000 (docs/RULES.md, "The room"). It needs
+/// room for one more, and takes no memory.
 pub fn remember(changes: &mut VecDeque<Change>, change: Change)
     requires few { length changes.old.items ≤ kept_changes }
     requires room { deque_len changes.old < deque_capacity changes.old }

@@ -60,7 +60,8 @@ impl Model for Room {
 }
 
 impl Room {
-    /// A room round a desk that has nothing to undo or redo: version 0, no change and no seat. It takes no memory.
+    /// A room round a desk that has nothing to undo or redo: version 0, no change and no seat (docs/RULES.md, "The
+    /// room"). It takes no memory.
     pub fn open(alloc: Global, desk: Desk) -> Room
         requires done { desk.done ≡ [] }
         requires undone { desk.undone ≡ [] }
@@ -77,25 +78,26 @@ impl Room {
         }
     }
 
-    /// The number of accepted edits, undos and redos. It takes no memory.
+    /// The version of the text, which is the number of accepted edits, undos and redos (docs/RULES.md, "The room"). It takes no memory.
     pub fn version(&self) -> u64
         ensures { result ≡ self.now.version }
     {
         self.version
     }
 
-    /// Lends the desk. It takes no memory.
+    /// Lends the desk, which says what the text is at the present version. It takes no memory.
     pub fn desk(&self) -> &Desk
         ensures { result.now ≡ self.now.desk }
     {
         &self.desk
     }
 
-    /// Does what a seat asks. An edit names the version `seen` of the text that its seat saw, and is taken at the place where the lines that
-    /// it names stand now; other commands leave `seen` unread. A refusal is the first in order, the room's own or the desk's for the command
-    /// at its place, and never `Reply::Refused`. `Save` and `Packet` are refused UnknownCommand, as by a desk. NoMemory may come in place of
-    /// any answer. Each fault leaves the room as it was. It reads stanzas and fills pages as its desk does for the command at its place, and
-    /// none where it refuses the command itself. The version has to be one below the greatest 64-bit number or less.
+    /// Does what a seat asks (docs/RULES.md, "The room"). An edit names the version `seen` of the text that its seat saw, and is taken at the
+    /// place where the lines that it names stand now; other commands leave `seen` unread. A refusal is the first in order, the room's own or
+    /// the desk's for the command at its place, and never `Reply::Refused`. `Save` and `Packet` are refused UnknownCommand, as by a desk.
+    /// NoMemory may come in place of any answer. Each fault leaves the room as it was. It reads stanzas and fills pages as its desk does for
+    /// the command at its place, and none where it refuses the command itself. The version has to be one below the greatest 64-bit number or
+    /// less.
     pub fn apply<S: Steps>(
         &mut self,
         seat: &str,
