@@ -7,7 +7,6 @@ use Rattle.spec_session.specs.Sessions.{FailedNothing, Settles, streams}
 use Rattle.spec_session.specs.declared.SessionEnd.{SessionEnd}
 use Rattle.spec_session.specs.declared.SessionEnd.TheVariants as endings
 use Rattle.spec_session.proofs.EndLaws.{ends-settle}
-use Rattle.spec_machine.specs.Machine.{opened_memory}
 use Rattle.spec_state.specs.State.{State}
 use Rattle.spec_state.specs.Printing.{too_long, printing_of}
 use Rattle.sp_kit.specs.Files.{Files}
@@ -15,7 +14,6 @@ use Rattle.sp_text.specs.declared.fault.TextFault.TheVariants as faults
 use Rattle.sp_run.specs.declared.status.Status.{Status}
 use Rattle.sp_run.specs.declared.status.Status.TheVariants as statuses
 use Rattle.sp_run.specs.Asking.{telling}
-use Rattle.sp_run.specs.DeskLines.{AnswersLine, StopsAtLine, desk_at}
 use Rattle.sp_run.specs.Records.{records_name, RefusesRecords}
 use Rattle.sp_run.specs.Opening.{HasState}
 use Rattle.sp_run.specs.Unopened.{Outside}

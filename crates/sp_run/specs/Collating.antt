@@ -1,5 +1,5 @@
 -- The collation of two files that a shelf has (docs/RULES.md, "The program" and "Collation").
-use Rattle.std.specs.Prelude.{◌≡◌, ℕ, ◌<◌, ◌≤◌, nat_lt, if◌then◌else◌, List, length, string_bytes, Some, None, IsSomeAnd}
+use Rattle.std.specs.Prelude.{◌≡◌, ℕ, nat_lt, if◌then◌else◌, List, length, string_bytes, Some, None}
 use Rattle.std.specs.declared.option.Option.{Option}
 use Rattle.std.specs.Io.KnownBytes.{Keeps}
 use Rattle.spec_packet.specs.BytesCollated.{Collating, collated_bytes, bad_sheets, collating}

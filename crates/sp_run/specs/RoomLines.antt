@@ -1,5 +1,5 @@
 -- What a room makes of the command lines of its seats (docs/RULES.md, "The room" and "Sessions").
-use Rattle.std.specs.Prelude.{◌≡◌, ℕ, ◌⊎◌, Bool, true, if◌then◌else◌, List, [], ◌∷◌}
+use Rattle.std.specs.Prelude.{◌≡◌, ℕ, ◌⊎◌, Bool, true, if◌then◌else◌, List}
 use Rattle.std.specs.declared.result.Result.{Result}
 use Rattle.std.specs.declared.result.Result.TheVariants.{Ok, Err}
 use Rattle.spec_records.specs.RecordFile.{digest_of}

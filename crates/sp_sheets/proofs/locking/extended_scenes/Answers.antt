@@ -1,4 +1,4 @@
-use Rattle.std.proofs.Common.{sym, subst, ◌∙◌}
+use Rattle.std.proofs.Common.{sym, subst}
 use Rattle.spec_labels.specs.Scenes.{AreHeadings}
 use Rattle.sp_sheets.proofs.locking.extended_scenes.Goals as goal
 

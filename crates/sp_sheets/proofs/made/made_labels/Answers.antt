@@ -1,6 +1,6 @@
 use Rattle.std.proofs.Common.{◌≡◌, Some, length, refl, ap, sym, ◌∙◌, subst, arith}
 use Rattle.std.specs.Prelude.{All, option_map}
-use Rattle.spec_text.specs.Lines.{IsText, line_texts}
+use Rattle.spec_text.specs.Lines.{line_texts}
 use Rattle.spec_script.specs.Stanzas.{blocks_from, blocks_of}
 use Rattle.spec_script.specs.Elements.{PlacedLies}
 use Rattle.spec_labels.specs.Scenes.{locked_labels}
